@@ -1,0 +1,17 @@
+-- Case analysis on a test, keeping what it came to.
+use mathlib.Core.Path.{_≡_, refl, sym, _∙_}
+use mathlib.Core.Bool.{Bool, true, false, true≢false, _&&_}
+
+-- by a test, with what it came to
+pub case : {P : Type 0} (b : Bool) → (b ≡ true → P) → (b ≡ false → P) → P
+case true f g = f refl
+case false f g = g refl
+
+-- both parts of a conjunction that passes pass
+pub and-both : (a b : Bool) → (a && b) ≡ true → (a ≡ true) × (b ≡ true)
+and-both true b e = (refl, e)
+and-both false b e = (cc, cc)
+
+-- no test comes to both
+pub contra : {P : Type 0} {b : Bool} → b ≡ true → b ≡ false → P
+contra e q = absurd (true≢false (sym e ∙ q))

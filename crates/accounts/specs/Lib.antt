@@ -1,0 +1,5 @@
+pub mod Cases
+pub mod Groups
+pub mod Access
+pub mod Dominance
+pub mod Service

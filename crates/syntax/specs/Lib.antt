@@ -1,0 +1,7 @@
+pub mod Text
+pub mod Number
+pub mod Form
+pub mod Path
+pub mod Field
+pub mod Command
+pub mod Setup

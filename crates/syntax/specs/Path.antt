@@ -1,0 +1,138 @@
+-- Names, paths and entry paths, and their texts.
+--
+-- A path has its last name outermost, so that a path's parent and last name are its parts. An entry path is kept without its
+-- leading `rep`, and so has at least one name.
+use mathlib.Core.List.{List, [], _∷_, _++_}
+use mathlib.Core.Option.{Option, none, some}
+use mathlib.Core.Bool.{Bool, true, false, _&&_, _||_, cond}
+use Prim.Native.Nat.{ℕ, suc, _+_}
+use lib.Dec.{eqb, leb}
+use lib.ListN.{length}
+use Rattle.syntax.specs.Text.{Text, bytes, same-text, every, pieces}
+use Rattle.syntax.specs.Form.{_>>=_, _>>_, check}
+
+abbrev pub Name : Type 0
+Name = Text
+
+-- `/`, or a path with one name more
+infixl 60 _▹_
+pub data Path : Type 0 where
+  root : Path
+  _▹_ : Path → Name → Path
+
+pub record Entry-path : Type 0 where
+  pub folder : Path
+  pub name : Name
+
+unfoldable pub parent : Path → Path
+parent root = root
+parent (p ▹ n) = p
+
+unfoldable pub last : Path → Name
+last root = []
+last (p ▹ n) = n
+
+unfoldable pub depth : Path → ℕ
+depth root = 0
+depth (p ▹ n) = suc (depth p)
+
+unfoldable pub is-top : Path → Bool
+is-top root = true
+is-top (p ▹ n) = false
+
+unfoldable pub same-path : Path → Path → Bool
+same-path root root = true
+same-path root (q ▹ m) = false
+same-path (p ▹ n) root = false
+same-path (p ▹ n) (q ▹ m) = same-text n m && same-path p q
+
+-- whether b is a or lies below a
+unfoldable pub within : Path → Path → Bool
+within a root = same-path a root
+within a (b ▹ n) = same-path a (b ▹ n) || within a b
+
+-- the directory of the repository
+unfoldable pub rep : Name
+rep = bytes "rep"
+
+-- a path below `/rep`, from `/`
+unfoldable pub in-rep : Path → Path
+in-rep root = root ▹ rep
+in-rep (p ▹ n) = in-rep p ▹ n
+
+unfoldable pub entry-location : Entry-path → Path
+entry-location e = in-rep (e .folder) ▹ e .name
+
+unfoldable pub reserved : Path → Bool
+reserved root = true
+reserved (root ▹ n) = same-text n rep
+reserved (p ▹ m ▹ n) = false
+
+-- a name is 1 to 8 bytes of a-z, 0-9, `_`
+unfoldable pub name-byte : ℕ → Bool
+name-byte b = (leb 97 b && leb b 122) || ((leb 48 b && leb b 57) || eqb b 95)
+
+unfoldable pub is-name : Text → Bool
+is-name t = every name-byte t && (leb 1 (length t) && leb (length t) 8)
+
+unfoldable pub most-names : ℕ
+most-names = 6
+
+unfoldable pub has-names : Path → Bool
+has-names root = true
+has-names (p ▹ n) = has-names p && is-name n
+
+-- a path is `/`, or 1 to 6 names; an entry path has one to five after its `rep`
+unfoldable pub is-path : Path → Bool
+is-path p = has-names p && leb (depth p) most-names
+
+unfoldable pub is-entry-path : Entry-path → Bool
+is-entry-path e = is-path (entry-location e)
+
+unfoldable pub extended : Path → List Name → Path
+extended p [] = p
+extended p (n ∷ ns) = extended (p ▹ n) ns
+
+-- 1 to 6 names each after a `/`: the pieces at `/` are nothing and then the names
+unfoldable pub names-from-top : List Text → Option Path
+names-from-top [] = none
+names-from-top ((b ∷ t) ∷ ns) = none
+names-from-top ([] ∷ ns) = do
+  check (every is-name ns && (leb 1 (length ns) && leb (length ns) most-names))
+  some (extended root ns)
+
+unfoldable pub path : Text → Option Path
+path t = cond (same-text t (bytes "/")) (some root) (names-from-top (pieces 47 t))
+
+-- an entry path has at least two names, the first `rep`
+unfoldable pub without-rep : Path → Option Path
+without-rep root = none
+without-rep (root ▹ n) = do
+  check (same-text n rep)
+  some root
+without-rep (p ▹ m ▹ n) = do
+  q ← without-rep (p ▹ m)
+  some (q ▹ n)
+
+unfoldable pub entry-at : Path → Option Entry-path
+entry-at root = none
+entry-at (p ▹ n) = do
+  folder ← without-rep p
+  some (record { folder = folder; name = n })
+
+unfoldable pub entry-path : Text → Option Entry-path
+entry-path t = do
+  p ← path t
+  entry-at p
+
+-- the text of a path
+unfoldable pub names-text : Path → Text
+names-text root = []
+names-text (p ▹ n) = names-text p ++ (47 ∷ n)
+
+unfoldable pub path-text : Path → Text
+path-text root = bytes "/"
+path-text (p ▹ n) = names-text (p ▹ n)
+
+unfoldable pub entry-text : Entry-path → Text
+entry-text e = path-text (entry-location e)

@@ -1,0 +1,1 @@
+// The syntax of command lines and of the setup text.

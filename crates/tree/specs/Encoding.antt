@@ -1,0 +1,106 @@
+-- The bytes of a tree: the number of rows, then 256 rows of 232 bytes, those not used all zero.
+--
+-- A row: depth 1, kind 1 (`d` or `f`), owner 1, group 1, mode 2, revision 2, name 8, tag path 54, tag revision 2,
+-- content 80, and 80 that are zero. Numbers of two bytes have the low one first; texts are filled up with zeros.
+--
+-- `decode-tree` answers the tree whose encoding the bytes are, if it is well-formed.
+use mathlib.Core.List.{List, [], _∷_, _++_}
+use mathlib.Core.Option.{Option, none, some}
+use mathlib.Core.Bool.{Bool, true, false, _&&_, cond}
+use Prim.Native.Nat.{ℕ, zero, suc, _+_, _-_, _*_, _/_, _%_}
+use lib.Dec.{eqb}
+use lib.ListN.{length, getD, take, drop, replicate}
+use Rattle.syntax.specs.Text.{Text, same-text}
+use Rattle.syntax.specs.Path.{Entry-path, entry-path, entry-text}
+use Rattle.syntax.specs.Form.{_>>=_, _>>_, check}
+use Rattle.tree.specs.declared.Kind.{Kind}
+use Rattle.tree.specs.declared.Kind.the-variants.{File, Directory}
+use Rattle.tree.specs.Forest.{Place}
+use Rattle.tree.specs.Node.{Tag, Node}
+use Rattle.tree.specs.Rows.{Row, rows, tree-of}
+use Rattle.tree.specs.WellFormed.{most-nodes, is-tree}
+
+unfoldable pub row-width : ℕ
+row-width = 232
+
+unfoldable pub tree-width : ℕ
+tree-width = 59394
+
+-- a number of two bytes
+unfoldable pub two-bytes : ℕ → List ℕ
+two-bytes n = n % 256 ∷ n / 256 ∷ []
+
+unfoldable pub number-at : ℕ → List ℕ → ℕ
+number-at i b = getD b i 0 + 256 * getD b (suc i) 0
+
+-- a text filled up with zeros
+unfoldable pub padded : ℕ → Text → List ℕ
+padded width t = t ++ replicate (width - length t) 0
+
+unfoldable pub unpadded : List ℕ → Text
+unpadded [] = []
+unpadded (b ∷ t) = cond (eqb b 0) [] (b ∷ unpadded t)
+
+unfoldable pub text-at : ℕ → ℕ → List ℕ → Text
+text-at i width b = unpadded (take width (drop i b))
+
+unfoldable pub kind-byte : Kind → ℕ
+kind-byte File = 102
+kind-byte Directory = 100
+
+unfoldable pub kind-of : ℕ → Kind
+kind-of b = cond (eqb b 100) Directory File
+
+unfoldable pub tag-bytes : Option Tag → List ℕ
+tag-bytes none = replicate 56 0
+tag-bytes (some t) = padded 54 (entry-text (t .path)) ++ two-bytes (t .revision)
+
+unfoldable pub tag-of : Text → ℕ → Option Tag
+tag-of t v = do
+  e ← entry-path t
+  some (record { path = e; revision = v })
+
+unfoldable pub row-bytes : Row Node → List ℕ
+row-bytes r =
+    let n = r .here in
+    (r .depth ∷ kind-byte (n .kind) ∷ n .owner .0 ∷ n .group .0 ∷ [])
+    ++ (two-bytes (n .mode)
+    ++ (two-bytes (n .revision)
+    ++ (padded 8 (r .name)
+    ++ (tag-bytes (n .tag)
+    ++ (padded 80 (n .content)
+    ++ replicate 80 0)))))
+
+unfoldable pub row-of : List ℕ → Row Node
+row-of b = record {
+  depth = getD b 0 0;
+  name = text-at 8 8 b;
+  here = record {
+    kind = kind-of (getD b 1 0);
+    owner = record { 0 = getD b 2 0 };
+    group = record { 0 = getD b 3 0 };
+    mode = number-at 4 b;
+    revision = number-at 6 b;
+    tag = tag-of (text-at 16 54 b) (number-at 70 b);
+    content = text-at 72 80 b;
+  };
+}
+
+unfoldable pub all-rows-bytes : List (Row Node) → List ℕ
+all-rows-bytes [] = []
+all-rows-bytes (r ∷ rs) = row-bytes r ++ all-rows-bytes rs
+
+unfoldable pub rows-from : ℕ → List ℕ → List (Row Node)
+rows-from zero b = []
+rows-from (suc k) b = row-of (take row-width b) ∷ rows-from k (drop row-width b)
+
+unfoldable pub encode-tree : Place Node → List ℕ
+encode-tree t =
+    let rs = rows t in
+    two-bytes (length rs) ++ (all-rows-bytes rs ++ replicate ((most-nodes - length rs) * row-width) 0)
+
+unfoldable pub decode-tree : List ℕ → Option (Place Node)
+decode-tree b = do
+  t ← tree-of (rows-from (number-at 0 b) (drop 2 b))
+  check (is-tree t && same-text (encode-tree t) b)
+  some t

@@ -1,0 +1,57 @@
+-- Walks: the steps from `/` along a path, over any payload, by a judge of what an account may do there.
+--
+-- `walk` goes by the path's last name: the walk to its parent, then one step. `walk-is-literal` (in WalkLaws) says that this
+-- is document 01's walk: for each name x on the directory (5), then the name there (3), and if not the last a directory (4).
+use mathlib.Core.Option.{Option}
+use mathlib.Core.Bool.{Bool, true, false, _&&_, _||_, not}
+use Prim.Native.Nat.{ℕ}
+use Rattle.accounts.specs.declared.Right.the-variants.{R, W, X}
+use Rattle.accounts.specs.Access.{Account}
+use Rattle.syntax.specs.Path.{Name, Path, root, _▹_, parent}
+use Rattle.tree.specs.declared.Kind.{Kind}
+use Rattle.tree.specs.Result.{Result, done, _>>=_, _>>_, require, present, absent}
+use Rattle.tree.specs.Forest.{Forest, Place, get}
+use Rattle.tree.specs.Node.{Node, is-directory, allows}
+
+-- what an account may do at a payload: pass through a directory, read, make and remove children
+pub record Judge (A : Type 0) : Type 0 where
+  pub kind : A → Kind
+  pub passes : A → Bool
+  pub readable : A → Bool
+  pub writable : A → Bool
+
+-- by the access test; a file is readable with r, a directory with r and x
+unfoldable pub by-modes : Account → Judge Node
+by-modes a = record {
+  kind = λ n. n .kind;
+  passes = allows a X;
+  readable = λ n. allows a R n && (not (is-directory (n .kind)) || allows a X n);
+  writable = allows a W;
+}
+
+-- the two searches for a name in a directory: the child (3 if missing), and the test that there is none (6)
+unfoldable pub look : {A : Type 0} → Name → Forest A → Result (Place A)
+look n f = present (get n f) 3
+
+unfoldable pub unused : {A : Type 0} → Name → Forest A → Result (Unit {0})
+unused n f = absent (get n f) 6
+
+-- into a directory: a file in mid-path 4, x 5
+unfoldable pub enter : {A : Type 0} → Judge A → A → Result (Unit {0})
+enter j a = do
+  require (is-directory (j .kind a)) 4
+  require (j .passes a) 5
+
+unfoldable pub walk : {A : Type 0} → Judge A → Place A → Path → Result (Place A)
+walk j t root = done t
+walk j t (p ▹ n) = do
+  d ← walk j t p
+  enter j (d .here)
+  look n (d .below)
+
+-- the walk without looking up the last name, with its x test
+unfoldable pub parent-walk : {A : Type 0} → Judge A → Place A → Path → Result (Place A)
+parent-walk j t p = do
+  d ← walk j t (parent p)
+  enter j (d .here)
+  done d

@@ -1,0 +1,7 @@
+// The file tree.
+
+// What a node is.
+pub enum Kind {
+    File,
+    Directory,
+}
