@@ -3,3 +3,4 @@ pub mod Groups
 pub mod Access
 pub mod Dominance
 pub mod Service
+pub mod Compute

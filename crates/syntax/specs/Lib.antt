@@ -5,3 +5,4 @@ pub mod Path
 pub mod Field
 pub mod Command
 pub mod Setup
+pub mod Compute

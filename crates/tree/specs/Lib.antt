@@ -5,3 +5,4 @@ pub mod Walk
 pub mod Rows
 pub mod WellFormed
 pub mod Encoding
+pub mod Compute

@@ -1,0 +1,115 @@
+-- The bytes of the whole store: a header with setup and sessions, then the tree.
+--
+-- | from | bytes | what |
+-- |---:|---:|---|
+-- | 0 | 48 | the accounts 0 to 15, 3 each: primary group, or 0 where the account is no person's, and further groups in 2 |
+-- | 48 | 16 | the accounts' sessions: role + 1, or 0 for none |
+-- | 64 | 57 | how many role pairs, then 28 of 2: senior, junior |
+-- | 121 | 321 | how many grants, then 32 of 10: uid, role, password in 8 |
+-- | 442 | 5700 | zero |
+-- | 6142 | 59394 | the tree |
+--
+-- `decode` answers the state whose encoding the bytes are, if it is well-formed; it is the only one (`encode-decode`).
+use mathlib.Core.Path.{_≡_, refl}
+use mathlib.Core.List.{List, [], _∷_, _++_}
+use mathlib.Core.Option.{Option, none, some}
+use mathlib.Core.Bool.{Bool, true, false, _&&_, cond}
+use Prim.Native.Nat.{ℕ, zero, suc, _-_, _*_}
+use lib.Dec.{eqb}
+use lib.ListN.{length, getD, take, drop, replicate}
+use Rattle.accounts.specs.declared.Pair.{Pair}
+use Rattle.accounts.specs.Dominance.{Bounded-role}
+use Rattle.syntax.specs.Text.{Text, same-text}
+use Rattle.syntax.specs.Form.{_>>=_, _>>_, check}
+use Rattle.syntax.specs.Field.{bounded}
+use Rattle.syntax.specs.Setup.{Person, Grant, Setup, accounts, most-pairs, most-grants, is-setup}
+use Rattle.tree.specs.Encoding.{two-bytes, number-at, padded, text-at, encode-tree, decode-tree}
+use Rattle.tree.specs.WellFormed.{is-tree}
+use Rattle.repository.specs.Machine.{Sessions}
+use Rattle.repository.specs.Store.{Store}
+
+-- a setup with the store that stands on it
+pub record State : Type 0 where
+  pub setup : Setup
+  pub store : Store
+
+unfoldable pub header-width : ℕ
+header-width = 6142
+
+unfoldable pub store-width : ℕ
+store-width = 65536
+
+unfoldable pub slot-bytes : Option Person → List ℕ
+slot-bytes none = 0 ∷ 0 ∷ 0 ∷ []
+slot-bytes (some p) = p .primary .0 ∷ two-bytes (p .further .0)
+
+unfoldable pub slot-of : List ℕ → Option Person
+slot-of b = cond (eqb (getD b 0 0) 0) none (some (record { primary = record { 0 = getD b 0 0 }; further = record { 0 = number-at 1 b } }))
+
+unfoldable pub session-byte : Option Bounded-role → ℕ
+session-byte none = 0
+session-byte (some z) = suc (z .role .0)
+
+unfoldable pub session-of : ℕ → Option Bounded-role
+session-of zero = none
+session-of (suc n) = bounded n
+
+unfoldable pub pair-bytes : Pair → List ℕ
+pair-bytes p = p .senior .0 ∷ p .junior .0 ∷ []
+
+unfoldable pub pair-of : List ℕ → Pair
+pair-of b = record { senior = record { 0 = getD b 0 0 }; junior = record { 0 = getD b 1 0 } }
+
+unfoldable pub grant-bytes : Grant → List ℕ
+grant-bytes g = g .uid .0 ∷ g .role .0 ∷ padded 8 (g .password)
+
+unfoldable pub grant-of : List ℕ → Grant
+grant-of b = record { uid = record { 0 = getD b 0 0 }; role = record { 0 = getD b 1 0 }; password = text-at 2 8 b }
+
+-- the bytes of some values one after another, and k values read back, each from so many bytes
+unfoldable pub all-bytes : {A : Type 0} → (A → List ℕ) → List A → List ℕ
+all-bytes f [] = []
+all-bytes f (a ∷ l) = f a ++ all-bytes f l
+
+unfoldable pub all-from : {A : Type 0} → ℕ → (List ℕ → A) → ℕ → List ℕ → List A
+all-from width f zero b = []
+all-from width f (suc k) b = f (take width b) ∷ all-from width f k (drop width b)
+
+-- how many there are, the values, and zeros in place of those that are not there
+unfoldable pub table-bytes : {A : Type 0} → ℕ → ℕ → (A → List ℕ) → List A → List ℕ
+table-bytes width most f l = length l ∷ (all-bytes f l ++ replicate ((most - length l) * width) 0)
+
+unfoldable pub table-from : {A : Type 0} → ℕ → (List ℕ → A) → List ℕ → List A
+table-from width f b = all-from width f (getD b 0 0) (drop 1 b)
+
+unfoldable pub header-bytes : Setup → Sessions → List ℕ
+header-bytes u sessions =
+    all-bytes slot-bytes (u .persons)
+    ++ (all-bytes (λ z. session-byte z ∷ []) sessions
+    ++ (table-bytes 2 most-pairs pair-bytes (u .pairs)
+    ++ (table-bytes 10 most-grants grant-bytes (u .grants)
+    ++ replicate 5700 0)))
+
+unfoldable pub setup-of : List ℕ → Setup
+setup-of b = record {
+  persons = all-from 3 slot-of accounts b;
+  pairs = table-from 2 pair-of (drop 64 b);
+  grants = table-from 10 grant-of (drop 121 b);
+}
+
+unfoldable pub sessions-of : List ℕ → Sessions
+sessions-of b = all-from 1 (λ s. session-of (getD s 0 0)) accounts (drop 48 b)
+
+unfoldable pub encode : State → List ℕ
+encode s = header-bytes (s .setup) (s .store .sessions) ++ encode-tree (s .store .tree)
+
+-- well-formed (document 01's sound): every value of the setup in range, 16 sessions, a well-formed tree
+unfoldable pub well-formed : State → Bool
+well-formed s = is-setup (s .setup) && (eqb (length (s .store .sessions)) accounts && is-tree (s .store .tree))
+
+unfoldable pub decode : List ℕ → Option State
+decode b = do
+  tree ← decode-tree (drop header-width b)
+  let s : State = record { setup = setup-of b; store = record { tree = tree; sessions = sessions-of b } }
+  check (well-formed s && same-text (encode s) b)
+  some s

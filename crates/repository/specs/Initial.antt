@@ -1,0 +1,49 @@
+-- The initial state (document 01's fresh store): `/`, `/rep`, a home for each person, and no sessions.
+use mathlib.Core.List.{List, [], _++_}
+use mathlib.Core.Option.{Option, none, some}
+use Prim.Native.Nat.{ℕ, zero, suc}
+use lib.ListN.{replicate}
+use Rattle.accounts.specs.declared.Uid.{Uid}
+use Rattle.accounts.specs.declared.Gid.{Gid}
+use Rattle.syntax.specs.Text.{Text, bytes}
+use Rattle.syntax.specs.Number.{decimal-text}
+use Rattle.syntax.specs.Path.{Name, rep}
+use Rattle.syntax.specs.Setup.{Person, Setup, accounts, person}
+use Rattle.tree.specs.declared.Kind.the-variants.{Directory}
+use Rattle.tree.specs.Forest.{Forest, nil, node, Place, insert, leaf}
+use Rattle.tree.specs.Node.{Node}
+use Rattle.repository.specs.Machine.{Sessions}
+
+unfoldable pub directory-of : Uid → Gid → ℕ → Node
+directory-of owner group mode = record { kind = Directory; owner = owner; group = group; mode = mode; revision = 0; tag = none; content = [] }
+
+-- owner 0, group 0, 0755
+unfoldable pub top-node : Node
+top-node = directory-of (record { 0 = 0 }) (record { 0 = 0 }) 493
+
+-- owner 16, group 24, 0750
+unfoldable pub rep-node : Node
+rep-node = directory-of (record { 0 = 16 }) (record { 0 = 24 }) 488
+
+-- the person's, in the primary group, 0755
+unfoldable pub home-node : Uid → Person → Node
+home-node u p = directory-of u (p .primary) 493
+
+-- `u` followed by the uid
+unfoldable pub home-name : Uid → Name
+home-name u = bytes "u" ++ decimal-text (u .0)
+
+unfoldable pub with-home : Uid → Option Person → Forest Node → Forest Node
+with-home u none f = f
+with-home u (some p) f = insert (home-name u) (leaf (home-node u p)) f
+
+-- `/rep` and the homes of the accounts below k
+unfoldable pub homes : Setup → ℕ → Forest Node
+homes s zero = node rep rep-node nil nil
+homes s (suc k) = with-home (record { 0 = k }) (person s (record { 0 = k })) (homes s k)
+
+unfoldable pub initial-tree : Setup → Place Node
+initial-tree s = record { here = top-node; below = homes s accounts }
+
+unfoldable pub no-sessions : Sessions
+no-sessions = replicate accounts none

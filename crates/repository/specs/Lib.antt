@@ -1,0 +1,10 @@
+pub mod Machine
+pub mod Initial
+pub mod Store
+pub mod Abstract
+pub mod Calls
+pub mod Listing
+pub mod Transcript
+pub mod Encoding
+pub mod Bytes
+pub mod Example

@@ -1,0 +1,3 @@
+pub mod Caller
+pub mod Steps
+pub mod Compute

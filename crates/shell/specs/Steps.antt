@@ -1,0 +1,133 @@
+-- Document 01's shell commands, each a list of checks in its order and with its numbers, then the tree after it.
+--
+-- The tree is that in which persons walk. Nodes that exist elsewhere count towards the 256 too: none in the store, which is one
+-- tree, and the entries in the abstract machine.
+use mathlib.Core.List.{List, [], _∷_}
+use mathlib.Core.Option.{Option, none, some}
+use mathlib.Core.Bool.{Bool, true, false, _&&_, _||_, not, cond}
+use Prim.Native.Nat.{ℕ, _+_}
+use lib.Dec.{leb}
+use Rattle.accounts.specs.declared.Uid.{Uid}
+use Rattle.accounts.specs.declared.Gid.{Gid}
+use Rattle.accounts.specs.declared.Right.{Right}
+use Rattle.accounts.specs.declared.Right.the-variants.{R, W, X}
+use Rattle.accounts.specs.Groups.{member}
+use Rattle.accounts.specs.Access.{is-root, same-uid}
+use Rattle.syntax.specs.Text.{Text, comma, joined}
+use Rattle.syntax.specs.Number.{set-gid}
+use Rattle.syntax.specs.Path.{Path, parent, last, depth, is-top, within, reserved, most-names}
+use Rattle.syntax.specs.Command.{Shell-command, create, mkdir, read, write, rm, rmdir, mv, chmod, chgrp, chown}
+use Rattle.tree.specs.declared.Kind.{Kind}
+use Rattle.tree.specs.declared.Kind.the-variants.{File, Directory}
+use Rattle.tree.specs.Result.{Result, done, _>>=_, _>>_, require}
+use Rattle.tree.specs.Forest.{Place, is-empty, update, alter, put, drop, leaf, height, names}
+use Rattle.tree.specs.Node.{is-directory, same-kind, Node, allows, set-owner, set-group, set-mode, set-content}
+use Rattle.tree.specs.Walk.{by-modes, unused, walk, parent-walk}
+use Rattle.tree.specs.WellFormed.{most-nodes, nodes}
+use Rattle.shell.specs.Caller.{Caller, owns, new-node, Outcome}
+
+-- a file's content, or a directory's names in byte order parted by commas
+unfoldable pub text-of : Place Node → Text
+text-of d = cond (is-directory (d .here .kind)) (joined comma (names (d .below))) (d .here .content)
+
+-- One command of the caller c on the tree t.
+module _ (c : Caller) (elsewhere : ℕ) (t : Place Node) where
+  abbrev walks : Path → Result (Place Node)
+  walks p = walk (by-modes (c .account)) t p
+
+  abbrev parent-walks : Path → Result (Place Node)
+  parent-walks p = parent-walk (by-modes (c .account)) t p
+
+  abbrev can : Right → Place Node → Bool
+  can right d = allows (c .account) right (d .here)
+
+  -- done without text, the tree changed at a path
+  abbrev changed : Path → (Place Node → Place Node) → Result (Outcome (Place Node))
+  changed p f = done (record { text = none; state = update p f t })
+
+  -- a directory for a new node: for `/` 6; parent walk; 6 if present; w on parent 5
+  unfoldable pub room : Path → Result (Place Node)
+  room p = do
+    require (not (is-top p)) 6
+    d ← parent-walks p
+    unused (last p) (d .below)
+    require (can W d) 5
+    done d
+
+  -- whether so many more nodes are at most 256
+  unfoldable pub fit : ℕ → Bool
+  fit more = leb (nodes t + elsewhere + more) most-nodes
+
+  unfoldable pub make : Kind → Path → ℕ → Result (Outcome (Place Node))
+  make kind p mode = do
+    d ← room p
+    require (fit 1) 10
+    changed (parent p) (put (last p) (leaf (new-node c (d .here) kind mode)))
+
+  unfoldable pub show : Path → Result (Outcome (Place Node))
+  show p = do
+    d ← walks p
+    require (can R d) 5
+    done (record { text = some (text-of d); state = t })
+
+  unfoldable pub overwrite : Path → Text → Result (Outcome (Place Node))
+  overwrite p content = do
+    d ← walks p
+    require (not (is-directory (d .here .kind))) 7
+    require (can W d) 5
+    changed p (alter (set-content content))
+
+  unfoldable pub unlink : Kind → Path → Result (Outcome (Place Node))
+  unlink kind p = do
+    require (not (reserved p)) 9
+    d ← walks p
+    require (same-kind (d .here .kind) kind) 7
+    e ← walks (parent p)
+    require (can W e) 5
+    require (is-empty (d .below)) 8
+    changed (parent p) (drop (last p))
+
+  unfoldable pub move : Path → Path → Result (Outcome (Place Node))
+  move a b = do
+    require (not (reserved a || reserved b)) 9
+    d ← walks a
+    f ← parent-walks b
+    unused (last b) (f .below)
+    e ← walks (parent a)
+    require (can W e) 5
+    require (can W f) 5
+    require (not (within a b)) 11
+    require (leb (depth b + height (d .below)) most-names) 19
+    done (record { text = none; state = update (parent b) (put (last b) d) (update (parent a) (drop (last a)) t) })
+
+  unfoldable pub change-mode : Path → ℕ → Result (Outcome (Place Node))
+  change-mode p mode = do
+    d ← walks p
+    require (is-directory (d .here .kind) || not (set-gid mode)) 7
+    require (owns (c .account) (d .here)) 9
+    changed p (alter (set-mode mode))
+
+  -- root may give any group, an owner any of the own groups
+  unfoldable pub change-group : Path → Gid → Result (Outcome (Place Node))
+  change-group p group = do
+    d ← walks p
+    require (is-root (c .account .uid) || (same-uid (c .account .uid) (d .here .owner) && member group (c .account .groups))) 9
+    changed p (alter (set-group group))
+
+  unfoldable pub change-owner : Path → Uid → Result (Outcome (Place Node))
+  change-owner p owner = do
+    d ← walks p
+    require (is-root (c .account .uid)) 9
+    changed p (alter (set-owner owner))
+
+  unfoldable pub run-shell : Shell-command → Result (Outcome (Place Node))
+  run-shell (create p mode) = make File p mode
+  run-shell (mkdir p mode) = make Directory p mode
+  run-shell (read p) = show p
+  run-shell (write p content) = overwrite p content
+  run-shell (rm p) = unlink File p
+  run-shell (rmdir p) = unlink Directory p
+  run-shell (mv a b) = move a b
+  run-shell (chmod p mode) = change-mode p mode
+  run-shell (chgrp p group) = change-group p group
+  run-shell (chown p owner) = change-owner p owner

@@ -1,0 +1,1 @@
+// The shell commands on a file tree.
