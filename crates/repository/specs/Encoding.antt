@@ -23,7 +23,8 @@ use Rattle.syntax.specs.Text.{Text, same-text}
 use Rattle.syntax.specs.Form.{_>>=_, _>>_, check}
 use Rattle.syntax.specs.Field.{bounded}
 use Rattle.syntax.specs.Setup.{Person, Grant, Setup, accounts, most-pairs, most-grants, is-setup}
-use Rattle.tree.specs.Encoding.{two-bytes, number-at, padded, text-at, encode-tree, decode-tree}
+use Rattle.tree.specs.Fields.{two-bytes, number-at, padded, text-at}
+use Rattle.tree.specs.Encoding.{encode-tree, decode-tree}
 use Rattle.tree.specs.WellFormed.{is-tree}
 use Rattle.repository.specs.Machine.{Sessions}
 use Rattle.repository.specs.Store.{Store}

@@ -1,8 +1,14 @@
 pub mod Text
+pub mod TextLaws
 pub mod Number
 pub mod Form
+pub mod FormLaws
 pub mod Path
+pub mod PathLaws
 pub mod Field
+pub mod FieldLaws
 pub mod Command
+pub mod CommandLaws
 pub mod Setup
+pub mod SetupLaws
 pub mod Compute

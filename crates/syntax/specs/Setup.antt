@@ -78,8 +78,8 @@ person-gid t = do
   n ← between 1 15 t
   some (record { 0 = n })
 
-unfoldable pub any-role : Text → Option Role
-any-role t = do
+unfoldable pub plain-role : Text → Option Role
+plain-role t = do
   n ← between 0 7 t
   some (record { 0 = n })
 
@@ -90,8 +90,8 @@ unfoldable pub setup-forms : List (Form Setup-line)
 setup-forms =
     setup-form (bytes "p") (two-of person-uid person-gid p-line) ∷
     setup-form (bytes "g") (two-of person-uid person-gid g-line) ∷
-    setup-form (bytes "r") (two-of any-role any-role r-line) ∷
-    setup-form (bytes "l") (three-of person-or-root any-role password l-line) ∷ []
+    setup-form (bytes "r") (two-of plain-role plain-role r-line) ∷
+    setup-form (bytes "l") (three-of person-or-root plain-role password l-line) ∷ []
 
 unfoldable pub setup-line-of : List Text → Option Setup-line
 setup-line-of [] = none

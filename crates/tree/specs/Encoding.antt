@@ -1,13 +1,13 @@
 -- The bytes of a tree: the number of rows, then 256 rows of 232 bytes, those not used all zero.
 --
 -- A row: depth 1, kind 1 (`d` or `f`), owner 1, group 1, mode 2, revision 2, name 8, tag path 54, tag revision 2,
--- content 80, and 80 that are zero. Numbers of two bytes have the low one first; texts are filled up with zeros.
+-- content 80, and 80 that are zero.
 --
 -- `decode-tree` answers the tree whose encoding the bytes are, if it is well-formed.
 use mathlib.Core.List.{List, [], _∷_, _++_}
 use mathlib.Core.Option.{Option, none, some}
 use mathlib.Core.Bool.{Bool, true, false, _&&_, cond}
-use Prim.Native.Nat.{ℕ, zero, suc, _+_, _-_, _*_, _/_, _%_}
+use Prim.Native.Nat.{ℕ, zero, suc, _-_, _*_}
 use lib.Dec.{eqb}
 use lib.ListN.{length, getD, take, drop, replicate}
 use Rattle.syntax.specs.Text.{Text, same-text}
@@ -15,6 +15,7 @@ use Rattle.syntax.specs.Path.{Entry-path, entry-path, entry-text}
 use Rattle.syntax.specs.Form.{_>>=_, _>>_, check}
 use Rattle.tree.specs.declared.Kind.{Kind}
 use Rattle.tree.specs.declared.Kind.the-variants.{File, Directory}
+use Rattle.tree.specs.Fields.{two-bytes, number-at, padded, text-at}
 use Rattle.tree.specs.Forest.{Place}
 use Rattle.tree.specs.Node.{Tag, Node}
 use Rattle.tree.specs.Rows.{Row, rows, tree-of}
@@ -25,24 +26,6 @@ row-width = 232
 
 unfoldable pub tree-width : ℕ
 tree-width = 59394
-
--- a number of two bytes
-unfoldable pub two-bytes : ℕ → List ℕ
-two-bytes n = n % 256 ∷ n / 256 ∷ []
-
-unfoldable pub number-at : ℕ → List ℕ → ℕ
-number-at i b = getD b i 0 + 256 * getD b (suc i) 0
-
--- a text filled up with zeros
-unfoldable pub padded : ℕ → Text → List ℕ
-padded width t = t ++ replicate (width - length t) 0
-
-unfoldable pub unpadded : List ℕ → Text
-unpadded [] = []
-unpadded (b ∷ t) = cond (eqb b 0) [] (b ∷ unpadded t)
-
-unfoldable pub text-at : ℕ → ℕ → List ℕ → Text
-text-at i width b = unpadded (take width (drop i b))
 
 unfoldable pub kind-byte : Kind → ℕ
 kind-byte File = 102

@@ -1,8 +1,15 @@
 pub mod Result
 pub mod Forest
+pub mod ForestLaws
 pub mod Node
 pub mod Walk
-pub mod Rows
+pub mod WalkLaws
 pub mod WellFormed
+pub mod Rows
+pub mod RowLaws
+pub mod Fields
+pub mod FieldsLaws
 pub mod Encoding
+pub mod RowBytesLaws
+pub mod EncodingLaws
 pub mod Compute

@@ -1,0 +1,200 @@
+-- Laws of names, paths and entry paths: their texts read back to them, what is read is in range, and texts fit their places.
+use mathlib.Core.Path.{_≡_, refl, sym, ap, _∙_}
+use mathlib.Core.List.{List, [], _∷_, _++_, append-assoc}
+use mathlib.Core.Option.{some}
+use mathlib.Core.Bool.{true, false, _&&_, not}
+use Prim.Native.Nat.{ℕ, _+_, _*_, _≤_, _<_}
+use native.Mathlib.Omega.{arith}
+use borrow.Author.Tests.{eqb-true, ne-eqb, leb-true, le-leb}
+use lib.Dec.{eqb, leb}
+use lib.ListN.{length, length-append}
+use Rattle.accounts.specs.Cases.{case, and-both}
+use Rattle.syntax.specs.Text.{Text, bytes, same-text, every, joined, pieces}
+use Rattle.syntax.specs.Form.{_>>=_, _>>_, check}
+use Rattle.syntax.specs.FormLaws.{no-answer, both-read, checked, answered}
+use Rattle.syntax.specs.Path.{Name, Path, root, _▹_, Entry-path, depth, rep, in-rep, entry-location, name-byte, is-name, most-names, has-names, is-path, is-entry-path, extended, names-from-top, path, without-rep, entry-at, entry-path, names-text, path-text, entry-text}
+use Rattle.syntax.specs.TextLaws.{same-text-refl, same-text-sound, every-implies, every-append, lacks, pieces-joined}
+
+-- the bytes of names are from 48 on
+name-byte-from : (b : ℕ) → name-byte b ≡ true → 48 ≤ b
+unfolding name-byte
+name-byte-from b h = case (leb 97 b)
+    (λ t. omega (arith, leb-true 97 b t))
+    (λ t. case (leb 48 b)
+    (λ s. leb-true 48 b s)
+    (λ s. let e : eqb b 95 ≡ true = rw s at (rw t at h) in omega (arith, eqb-true b 95 e)))
+
+-- a name has no byte below 48: not 0, byte 10, `,` or `/`
+pub name-lacks : (c : ℕ) → c < 48 → (n : Name) → is-name n ≡ true → lacks c n ≡ true
+unfolding is-name lacks
+name-lacks c l n h =
+    every-implies name-byte (λ b. not (eqb b c)) (λ b t. rw (ne-eqb b c (λ e. omega (arith, name-byte-from b t)))) n
+    (and-both (every name-byte n) _ h .0)
+
+-- a name has 1 to 8 bytes
+pub name-length : (n : Name) → is-name n ≡ true → (1 ≤ length n) × (length n ≤ 8)
+unfolding is-name
+name-length n h =
+    let i : _ = and-both (leb 1 (length n)) (leb (length n) 8) (and-both (every name-byte n) _ h .1) in
+    (leb-true 1 (length n) (i .0), leb-true (length n) 8 (i .1))
+
+-- a name fits 8 bytes and has no zero byte
+pub name-fits : (n : Name) → is-name n ≡ true → (length n ≤ 8) × (lacks 0 n ≡ true)
+name-fits n h = (name-length n h .1, name-lacks 0 (omega arith) n h)
+
+-- the names of a path from the top
+names : Path → List Name
+names root = []
+names (p ▹ n) = names p ++ (n ∷ [])
+
+length-names : (p : Path) → length (names p) ≡ depth p
+unfolding names depth
+length-names root = refl
+length-names (p ▹ n) = rw (length-append (names p) (n ∷ []), length-names p) (omega arith)
+
+every-names : (p : Path) → every is-name (names p) ≡ has-names p
+unfolding names has-names every
+every-names root = refl
+every-names (p ▹ n) = rw (every-append is-name (names p) (n ∷ []), every-names p) (case (is-name n) (λ t. rw t) (λ t. rw t))
+
+extended-last : (q : Path) (k : List Name) (n : Name) → extended q (k ++ (n ∷ [])) ≡ extended q k ▹ n
+unfolding extended
+extended-last q [] n = refl
+extended-last q (m ∷ k) n = extended-last (q ▹ m) k n
+
+extended-names : (p : Path) → extended root (names p) ≡ p
+unfolding extended names
+extended-names root = refl
+extended-names (p ▹ n) = rw (extended-last root (names p) n, extended-names p)
+
+-- one piece more is joined behind a separator
+joined-last : (b : ℕ) (p : Text) (ps : List Text) (n : Text) → joined b (p ∷ (ps ++ (n ∷ []))) ≡ joined b (p ∷ ps) ++ (b ∷ n)
+unfolding joined
+joined-last b p [] n = refl
+joined-last b p (q ∷ ps) n = rw (joined-last b q ps n) (sym (append-assoc p (b ∷ joined b (q ∷ ps)) (b ∷ n)))
+
+names-text-joined : (p : Path) → names-text p ≡ joined 47 ([] ∷ names p)
+unfolding names-text names joined
+names-text-joined root = refl
+names-text-joined (p ▹ n) = rw (joined-last 47 [] (names p) n, names-text-joined p)
+
+-- the text of names cut at `/`
+pieces-names : (p : Path) → has-names p ≡ true → pieces 47 (names-text p) ≡ [] ∷ names p
+unfolding lacks every
+pieces-names p h =
+    rw (names-text-joined p)
+    (pieces-joined 47 [] (names p) (every-implies is-name (lacks 47) (name-lacks 47 (omega arith)) (names p) (every-names p ∙ h)))
+
+names-back : (p : Path) → is-path p ≡ true → 1 ≤ depth p → names-from-top (pieces 47 (names-text p)) ≡ some p
+unfolding is-path names-from-top check _>>_
+names-back p h l =
+    let i : _ = and-both (has-names p) (leb (depth p) most-names) h in
+    rw (pieces-names p (i .0), every-names p, i .0, length-names p, le-leb 1 (depth p) l, i .1, extended-names p)
+
+-- the text of one or more names is not `/`
+not-top : (p : Path) (n : Name) → is-name n ≡ true → same-text (names-text (p ▹ n)) (bytes "/") ≡ false
+unfolding names-text bytes
+not-top p n h = case (same-text (names-text (p ▹ n)) (bytes "/"))
+    (λ t.
+    let e : length (names-text p ++ (47 ∷ n)) ≡ 1 = ap length (same-text-sound (names-text (p ▹ n)) (bytes "/") t) in
+    let z : ⊥ = omega (arith, e, length-append (names-text p) (47 ∷ n), name-length n h .0) in
+    absurd z)
+    (λ t. t)
+
+-- the text of a path is read as that path
+pub path-of-text : (p : Path) → is-path p ≡ true → path (path-text p) ≡ some p
+unfolding path path-text is-path has-names same-text bytes depth
+path-of-text root h = refl
+path-of-text (p ▹ n) h =
+    let i : _ = and-both (has-names p) (is-name n) (and-both (has-names (p ▹ n)) (leb (depth (p ▹ n)) most-names) h .0) in
+    rw (not-top p n (i .1)) (names-back (p ▹ n) h (omega arith))
+
+has-names-extended : (q : Path) (ns : List Name) → has-names q ≡ true → every is-name ns ≡ true → has-names (extended q ns) ≡ true
+unfolding extended has-names every
+has-names-extended q [] h k = h
+has-names-extended q (n ∷ ns) h k =
+    let i : _ = and-both (is-name n) (every is-name ns) k in
+    has-names-extended (q ▹ n) ns (rw (h, i .0)) (i .1)
+
+depth-extended : (q : Path) (ns : List Name) → depth (extended q ns) ≡ depth q + length ns
+unfolding extended depth
+depth-extended q [] = omega arith
+depth-extended q (n ∷ ns) = rw (depth-extended (q ▹ n) ns) (omega arith)
+
+names-are-path : (l : List Text) (p : Path) → names-from-top l ≡ some p → is-path p ≡ true
+unfolding names-from-top is-path check _>>_ most-names has-names depth
+names-are-path [] p e = no-answer e
+names-are-path ((b ∷ t) ∷ ns) p e = no-answer e
+names-are-path ([] ∷ ns) p e =
+    let i : _ = checked (every is-name ns && (leb 1 (length ns) && leb (length ns) most-names)) (some (extended root ns)) p e in
+    let j : _ = and-both (every is-name ns) _ (i .0) in
+    let k : _ = and-both (leb 1 (length ns)) (leb (length ns) most-names) (j .1) in
+    let d : leb (depth (extended root ns)) most-names ≡ true =
+    le-leb (depth (extended root ns)) most-names (omega (arith, depth-extended root ns, leb-true (length ns) most-names (k .1))) in
+    rw (answered (i .1), has-names-extended root ns refl (j .0)) d
+
+-- what is read as a path is one
+pub path-is-path : (t : Text) (p : Path) → path t ≡ some p → is-path p ≡ true
+unfolding path is-path has-names depth most-names
+path-is-path t p e = case (same-text t (bytes "/"))
+    (λ i. let q : some root ≡ some p = rw i at e in rw (answered q))
+    (λ i. names-are-path (pieces 47 t) p (rw i at e))
+
+without-rep-back : (f : Path) → without-rep (in-rep f) ≡ some f
+unfolding without-rep in-rep check _>>_ _>>=_
+without-rep-back root = rw (same-text-refl rep)
+without-rep-back (root ▹ n) = rw (same-text-refl rep)
+without-rep-back (p ▹ m ▹ n) = rw (without-rep-back (p ▹ m))
+
+-- the location of an entry is read as that entry
+pub in-rep-back : (e : Entry-path) → entry-at (entry-location e) ≡ some e
+unfolding entry-at entry-location _>>=_
+in-rep-back e = rw (without-rep-back (e .folder))
+
+-- the text of an entry path is read as that entry path
+pub entry-of-text : (e : Entry-path) → is-entry-path e ≡ true → entry-path (entry-text e) ≡ some e
+unfolding entry-path entry-text is-entry-path _>>=_
+entry-of-text e h = rw (path-of-text (entry-location e) h) (in-rep-back e)
+
+without-rep-sound : (p q : Path) → without-rep p ≡ some q → in-rep q ≡ p
+unfolding without-rep in-rep check _>>_ _>>=_
+without-rep-sound root q e = no-answer e
+without-rep-sound (root ▹ n) q e =
+    let i : _ = checked (same-text n rep) (some root) q e in
+    rw (answered (i .1), same-text-sound n rep (i .0))
+without-rep-sound (p ▹ m ▹ n) q e =
+    let i : _ = both-read (without-rep (p ▹ m)) (λ r. some (r ▹ n)) q e in
+    rw (answered (i .2), without-rep-sound (p ▹ m) (i .0) (i .1))
+
+-- only an entry's location is read as that entry
+pub entry-at-sound : (p : Path) (e : Entry-path) → entry-at p ≡ some e → entry-location e ≡ p
+unfolding entry-at entry-location _>>=_
+entry-at-sound root e h = no-answer h
+entry-at-sound (p ▹ n) e h =
+    let i : _ = both-read (without-rep p) (λ f. some (record { folder = f; name = n })) e h in
+    let q : e ≡ record { folder = i .0; name = n } = answered (i .2) in
+    rw (q, without-rep-sound p (i .0) (i .1))
+
+-- what is read as an entry path is one
+pub entry-is-entry : (t : Text) (e : Entry-path) → entry-path t ≡ some e → is-entry-path e ≡ true
+unfolding entry-path is-entry-path _>>=_
+entry-is-entry t e h =
+    let i : _ = both-read (path t) entry-at e h in
+    rw (entry-at-sound (i .0) e (i .2)) (path-is-path t (i .0) (i .1))
+
+names-text-fits : (p : Path) → has-names p ≡ true → (length (names-text p) ≤ 9 * depth p) × (lacks 0 (names-text p) ≡ true)
+unfolding names-text has-names depth lacks every
+names-text-fits root h = (omega arith, refl)
+names-text-fits (p ▹ n) h =
+    let i : _ = and-both (has-names p) (is-name n) h in
+    let r : _ = names-text-fits p (i .0) in
+    let f : _ = name-fits n (i .1) in
+    (rw (length-append (names-text p) (47 ∷ n)) (omega (arith, r .0, f .0)), rw (every-append (λ c. not (eqb c 0)) (names-text p) (47 ∷ n), r .1, f .1))
+
+-- the text of an entry path fits the 54 bytes of a tag and has no zero byte
+pub entry-text-fits : (e : Entry-path) → is-entry-path e ≡ true → (length (entry-text e) ≤ 54) × (lacks 0 (entry-text e) ≡ true)
+unfolding entry-text is-entry-path is-path path-text entry-location most-names
+entry-text-fits e h =
+    let i : _ = and-both (has-names (entry-location e)) (leb (depth (entry-location e)) 6) h in
+    let r : _ = names-text-fits (entry-location e) (i .0) in
+    (omega (arith, r .0, leb-true (depth (entry-location e)) 6 (i .1)), r .1)

@@ -1,0 +1,139 @@
+-- The bytes of a tree: a well-formed tree is read back from its bytes, bytes that are read are those of the tree read, and
+-- there are always as many.
+use mathlib.Core.Path.{_≡_, refl, sym, _∙_, ap, ap₂}
+use mathlib.Core.List.{List, [], _∷_, _++_, append-assoc}
+use mathlib.Core.Option.{some}
+use mathlib.Core.Bool.{Bool, true, _&&_, _||_}
+use Prim.Native.Nat.{ℕ, suc, _-_, _*_, _≤_}
+use native.Mathlib.Omega.{arith}
+use lib.Dec.{leb}
+use lib.ListN.{length, drop, replicate, length-append, length-replicate}
+use lib.Seq.{take-at, drop-at}
+use borrow.Author.Tests.{leb-true, le-leb}
+use Rattle.accounts.specs.Cases.{and-both}
+use Rattle.syntax.specs.Text.{every, same-text}
+use Rattle.syntax.specs.TextLaws.{same-text-refl, same-text-sound, every-append, lacks}
+use Rattle.syntax.specs.Form.{_>>=_, _>>_, check}
+use Rattle.syntax.specs.FormLaws.{both-read, checked, answered}
+use Rattle.syntax.specs.Path.{Name, is-name, most-names}
+use Rattle.syntax.specs.PathLaws.{name-fits}
+use Rattle.tree.specs.Forest.{Forest, nil, node, Place, is-empty, height}
+use Rattle.tree.specs.Node.{is-directory, Node}
+use Rattle.tree.specs.Rows.{Row, flatten, rows, tree-of}
+use Rattle.tree.specs.RowLaws.{tree-of-rows, length-rows}
+use Rattle.tree.specs.WellFormed.{most-nodes, nodes, is-node, leads, is-forest, is-tree}
+use Rattle.tree.specs.Fields.{two-bytes, number-at}
+use Rattle.tree.specs.Encoding.{row-width, tree-width, row-bytes, all-rows-bytes, rows-from, encode-tree, decode-tree}
+use Rattle.tree.specs.FieldsLaws.{number-at-bytes}
+use Rattle.tree.specs.RowBytesLaws.{length-row-bytes, row-of-bytes}
+
+-- whether a row's node is in range and its name fits its bytes
+fits : Row Node → Bool
+fits r = is-node (r .here) && (leb (length (r .name)) 8 && lacks 0 (r .name))
+
+fits-parts : (r : Row Node) → fits r ≡ true → (is-node (r .here) ≡ true) × ((length (r .name) ≤ 8) × (lacks 0 (r .name) ≡ true))
+unfolding fits
+fits-parts r h =
+    let i = and-both (is-node (r .here)) (leb (length (r .name)) 8 && lacks 0 (r .name)) h in
+    let j = and-both (leb (length (r .name)) 8) (lacks 0 (r .name)) (i .1) in
+    (i .0, (leb-true (length (r .name)) 8 (j .0), j .1))
+
+fits-of : (k : ℕ) (n : Name) (x : Node) → is-node x ≡ true → (length n ≤ 8) × (lacks 0 n ≡ true) → fits (record { depth = k; name = n; here = x }) ≡ true
+unfolding fits
+fits-of k n x h w = rw (h, le-leb (length n) 8 (w .0), w .1)
+
+forest-fits : (k : ℕ) (F : Forest Node) → is-forest F ≡ true → every fits (flatten k F) ≡ true
+unfolding is-forest flatten every
+forest-fits k nil h = refl
+forest-fits k (node n x cs rest) h =
+    let own = (is-name n && is-node x) && (is-directory (x .kind) || is-empty cs) in
+    let i = and-both own (is-forest cs && (leads n rest && is-forest rest)) h in
+    let j = and-both (is-name n && is-node x) (is-directory (x .kind) || is-empty cs) (i .0) in
+    let a = and-both (is-name n) (is-node x) (j .0) in
+    let l = and-both (is-forest cs) (leads n rest && is-forest rest) (i .1) in
+    let m = and-both (leads n rest) (is-forest rest) (l .1) in
+    rw (
+      fits-of k n x (a .1) (name-fits n (a .0)),
+      every-append fits (flatten (suc k) cs) (flatten k rest),
+      forest-fits (suc k) cs (l .0),
+      forest-fits k rest (m .1),
+    )
+
+-- what a well-formed tree's rows are
+tree-fits : (t : Place Node) → is-tree t ≡ true → (every fits (rows t) ≡ true) × (length (rows t) ≤ most-nodes)
+unfolding is-tree rows every lacks
+tree-fits t h =
+    let own = is-directory (t .here .kind) && (is-node (t .here) && is-forest (t .below)) in
+    let i = and-both own (leb (height (t .below)) most-names && leb (nodes t) most-nodes) h in
+    let j = and-both (is-directory (t .here .kind)) (is-node (t .here) && is-forest (t .below)) (i .0) in
+    let a = and-both (is-node (t .here)) (is-forest (t .below)) (j .1) in
+    let l = and-both (leb (height (t .below)) most-names) (leb (nodes t) most-nodes) (i .1) in
+    (rw (fits-of 0 [] (t .here) (a .0) (omega arith, refl)) (forest-fits 1 (t .below) (a .1)), rw (length-rows t) (leb-true (nodes t) most-nodes (l .1)))
+
+-- ---- all rows
+
+-- rows that fit take their widths
+length-all-rows : (rs : List (Row Node)) → every fits rs ≡ true → length (all-rows-bytes rs) ≡ length rs * row-width
+unfolding all-rows-bytes every row-width
+length-all-rows [] h = refl
+length-all-rows (r ∷ rs) h =
+    let i = and-both (fits r) (every fits rs) h in
+    let w = fits-parts r (i .0) in
+    let a = length-row-bytes r (w .0) (w .1) in
+    let b = length-all-rows rs (i .1) in
+    length-append (row-bytes r) (all-rows-bytes rs) ∙ omega arith
+
+-- and are read back from them
+rows-from-bytes : (rs : List (Row Node)) (Q : List ℕ) → every fits rs ≡ true → rows-from (length rs) (all-rows-bytes rs ++ Q) ≡ rs
+unfolding all-rows-bytes every rows-from
+rows-from-bytes [] Q h = refl
+rows-from-bytes (r ∷ rs) Q h =
+    let i = and-both (fits r) (every fits rs) h in
+    let w = fits-parts r (i .0) in
+    let l = length-row-bytes r (w .0) (w .1) in
+    let B = all-rows-bytes rs ++ Q in
+    rw (append-assoc (row-bytes r) (all-rows-bytes rs) Q, take-at (row-bytes r) B row-width l, drop-at (row-bytes r) B row-width l)
+    (ap₂ _∷_ (row-of-bytes r (w .0) (w .1)) (rows-from-bytes rs Q (i .1)))
+
+-- ---- trees
+
+-- the encoding of a well-formed tree has the width of all trees
+pub length-encode-tree : (t : Place Node) → is-tree t ≡ true → length (encode-tree t) ≡ tree-width
+unfolding encode-tree two-bytes tree-width row-width most-nodes
+length-encode-tree t h =
+    let w = tree-fits t h in
+    let rs = rows t in
+    let Z : List ℕ = replicate ((most-nodes - length rs) * row-width) 0 in
+    let a = length-append (all-rows-bytes rs) Z in
+    let b = length-all-rows rs (w .0) in
+    let z = length-replicate {A = ℕ} ((most-nodes - length rs) * row-width) 0 in
+    let few = w .1 in
+    omega arith
+
+-- the rows of a well-formed tree are read from its encoding
+rows-of-encoded : (t : Place Node) → is-tree t ≡ true → rows-from (number-at 0 (encode-tree t)) (drop 2 (encode-tree t)) ≡ rows t
+unfolding encode-tree two-bytes
+rows-of-encoded t h =
+    let rs = rows t in
+    let Z : List ℕ = replicate ((most-nodes - length rs) * row-width) 0 in
+    ap (λ n. rows-from n (all-rows-bytes rs ++ Z)) (number-at-bytes [] (all-rows-bytes rs ++ Z) 0 (length rs) refl)
+    ∙ rows-from-bytes rs Z (tree-fits t h .0)
+
+-- a well-formed tree is read back from its encoding
+pub decode-encode : (t : Place Node) → is-tree t ≡ true → decode-tree (encode-tree t) ≡ some t
+unfolding decode-tree _>>=_ _>>_ check
+decode-encode t h = rw (rows-of-encoded t h, tree-of-rows t) (rw (h, same-text-refl (encode-tree t)))
+
+-- bytes that are read as a tree are its encoding, and it is well-formed
+pub encode-decode : (b : List ℕ) (t : Place Node) → decode-tree b ≡ some t → (encode-tree t ≡ b) × (is-tree t ≡ true)
+unfolding decode-tree
+encode-decode b t e =
+    let i = both-read (tree-of (rows-from (number-at 0 b) (drop 2 b))) (λ t. check (is-tree t && same-text (encode-tree t) b) >> some t) t e in
+    let j = checked (is-tree (i .0) && same-text (encode-tree (i .0)) b) (some (i .0)) t (i .2) in
+    let k = and-both (is-tree (i .0)) (same-text (encode-tree (i .0)) b) (j .0) in
+    let q : t ≡ i .0 = answered (j .1) in
+    rw q (same-text-sound (encode-tree (i .0)) b (k .1), k .0)
+
+-- bytes that are read as a tree have the width of all trees
+pub decode-length : (b : List ℕ) (t : Place Node) → decode-tree b ≡ some t → length b ≡ tree-width
+decode-length b t e = let i = encode-decode b t e in ap length (sym (i .0)) ∙ length-encode-tree t (i .1)

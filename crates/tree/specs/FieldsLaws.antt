@@ -1,0 +1,54 @@
+-- What is written into a field is read back from it, wherever it stands among other bytes.
+use mathlib.Core.Path.{_≡_, refl, _∙_}
+use mathlib.Core.List.{List, [], _∷_, _++_, append-assoc}
+use mathlib.Core.Bool.{true, not}
+use Prim.Native.Nat.{ℕ, zero, suc, _-_, _/_, _%_, _≤_}
+use native.Mathlib.Omega.{arith}
+use lib.Dec.{eqb}
+use lib.ListN.{length, getD, replicate, length-append, length-replicate}
+use lib.Seq.{take-at, drop-at, getD-at}
+use borrow.Author.Tests.{not-true}
+use Rattle.accounts.specs.Cases.{and-both}
+use Rattle.syntax.specs.Text.{Text, every}
+use Rattle.syntax.specs.TextLaws.{lacks}
+use Rattle.tree.specs.Fields.{two-bytes, number-at, padded, unpadded, text-at}
+
+unpadded-zeros : (k : ℕ) → unpadded (replicate k 0) ≡ []
+unfolding unpadded
+unpadded-zeros zero = refl
+unpadded-zeros (suc k) = refl
+
+unpadded-append : (t : Text) (k : ℕ) → lacks 0 t ≡ true → unpadded (t ++ replicate k 0) ≡ t
+unfolding unpadded lacks every
+unpadded-append [] k h = unpadded-zeros k
+unpadded-append (b ∷ t) k h =
+    let i : _ = and-both (not (eqb b 0)) (lacks 0 t) h in
+    rw (not-true (eqb b 0) (i .0)) (rw (unpadded-append t k (i .1)))
+
+-- a text without zero bytes is what was filled up
+pub unpadded-padded : (width : ℕ) (t : Text) → lacks 0 t ≡ true → unpadded (padded width t) ≡ t
+unfolding padded
+unpadded-padded width t h = unpadded-append t (width - length t) h
+
+-- a text that fits is filled up to the width
+pub length-padded : (width : ℕ) (t : Text) → length t ≤ width → length (padded width t) ≡ width
+unfolding padded
+length-padded width t h =
+    length-append t (replicate (width - length t) 0) ∙ omega (arith, length-replicate {A = ℕ} (width - length t) 0)
+
+-- and read where it stands among other bytes
+pub text-at-padded : (P Q : List ℕ) (i width : ℕ) (t : Text) → length P ≡ i → length t ≤ width → lacks 0 t ≡ true
+    → text-at i width (P ++ (padded width t ++ Q)) ≡ t
+unfolding text-at
+text-at-padded P Q i width t e l h =
+    rw (drop-at P (padded width t ++ Q) i e, take-at (padded width t) Q width (length-padded width t l)) (unpadded-padded width t h)
+
+-- a number is read where its two bytes stand
+pub number-at-bytes : (P Q : List ℕ) (i n : ℕ) → length P ≡ i → number-at i (P ++ (two-bytes n ++ Q)) ≡ n
+unfolding number-at two-bytes
+number-at-bytes P Q i n e =
+    let a : getD (P ++ (n % 256 ∷ (n / 256 ∷ Q))) i 0 ≡ n % 256 = getD-at P (n % 256) (n / 256 ∷ Q) 0 i e in
+    let b : getD (P ++ (n % 256 ∷ (n / 256 ∷ Q))) (suc i) 0 ≡ n / 256 =
+    rw (← append-assoc P (n % 256 ∷ []) (n / 256 ∷ Q))
+    (getD-at (P ++ (n % 256 ∷ [])) (n / 256) Q 0 (suc i) (length-append P (n % 256 ∷ []) ∙ omega arith)) in
+    omega arith

@@ -1,0 +1,152 @@
+-- The bytes of one row: tags and whole rows are read back from their bytes.
+use mathlib.Core.Path.{_≡_, refl, sym, _∙_, ap}
+use mathlib.Core.List.{List, [], _∷_, _++_, append-assoc}
+use mathlib.Core.Option.{Option, none, some}
+use mathlib.Core.Bool.{true, _&&_, not}
+use Prim.Native.Nat.{ℕ, zero, suc, _+_, _-_, _/_, _%_, _≤_}
+use native.Mathlib.Omega.{arith}
+use lib.Dec.{eqb, leb, ltb}
+use lib.ListN.{length, getD, replicate, length-append, length-replicate}
+use lib.Seq.{take-at, drop-at, getD-at}
+use borrow.Author.Tests.{not-true}
+use Rattle.accounts.specs.Cases.{and-both}
+use Rattle.syntax.specs.Text.{Text, bytes, same-text, every, pieces}
+use Rattle.syntax.specs.TextLaws.{lacks}
+use Rattle.syntax.specs.Form.{_>>=_, _>>_, check}
+use Rattle.syntax.specs.Number.{is-mode}
+use Rattle.syntax.specs.Path.{is-entry-path, names-from-top, path, entry-path, entry-text}
+use Rattle.syntax.specs.PathLaws.{entry-of-text, entry-text-fits}
+use Rattle.syntax.specs.Field.{is-content}
+use Rattle.syntax.specs.FieldLaws.{content-fits}
+use Rattle.tree.specs.declared.Kind.{Kind}
+use Rattle.tree.specs.declared.Kind.the-variants.{File, Directory}
+use Rattle.tree.specs.Node.{Tag, Node}
+use Rattle.tree.specs.Rows.{Row}
+use Rattle.tree.specs.WellFormed.{last-revision, is-tag, fits-kind, is-node}
+use Rattle.tree.specs.Fields.{two-bytes, number-at, padded, text-at}
+use Rattle.tree.specs.FieldsLaws.{length-padded, text-at-padded, number-at-bytes}
+use Rattle.tree.specs.Encoding.{row-width, kind-byte, kind-of, tag-bytes, tag-of, row-bytes, row-of}
+
+-- a tag's text and number, for no tag those of zero bytes
+tag-text : Option Tag → Text
+tag-text none = []
+tag-text (some t) = entry-text (t .path)
+
+tag-number : Option Tag → ℕ
+tag-number none = 0
+tag-number (some t) = t .revision
+
+tag-parts : (o : Option Tag) → tag-bytes o ≡ padded 54 (tag-text o) ++ two-bytes (tag-number o)
+unfolding tag-bytes tag-text tag-number padded two-bytes
+tag-parts none = refl
+tag-parts (some t) = refl
+
+tag-fits : (o : Option Tag) → is-tag o ≡ true → (length (tag-text o) ≤ 54) × (lacks 0 (tag-text o) ≡ true)
+unfolding is-tag tag-text lacks every
+tag-fits none h = (omega arith, refl)
+tag-fits (some t) h = entry-text-fits (t .path) (and-both (is-entry-path (t .path)) (leb (t .revision) last-revision) h .0)
+
+no-entry : entry-path [] ≡ none
+unfolding entry-path path same-text bytes pieces names-from-top every check _>>_ _>>=_
+no-entry = refl
+
+tag-of-parts : (o : Option Tag) → is-tag o ≡ true → tag-of (tag-text o) (tag-number o) ≡ o
+unfolding is-tag tag-of tag-text tag-number _>>=_
+tag-of-parts none h = rw no-entry
+tag-of-parts (some t) h =
+    rw (entry-of-text (t .path) (and-both (is-entry-path (t .path)) (leb (t .revision) last-revision) h .0))
+
+-- a tag takes 56 bytes
+pub length-tag-bytes : (o : Option Tag) → is-tag o ≡ true → length (tag-bytes o) ≡ 56
+unfolding two-bytes
+length-tag-bytes o h =
+    let l = length-padded 54 (tag-text o) (tag-fits o h .0) in
+    ap length (tag-parts o) ∙ length-append (padded 54 (tag-text o)) (two-bytes (tag-number o)) ∙ omega arith
+
+-- and is read where they stand
+pub tag-at-bytes : (P Q : List ℕ) (i : ℕ) (o : Option Tag) → length P ≡ i → is-tag o ≡ true
+    → tag-of (text-at i 54 (P ++ (tag-bytes o ++ Q))) (number-at (i + 54) (P ++ (tag-bytes o ++ Q))) ≡ o
+tag-at-bytes P Q i o e h =
+    let T = padded 54 (tag-text o) in
+    let N = two-bytes (tag-number o) in
+    let w = tag-fits o h in
+    let s : P ++ (tag-bytes o ++ Q) ≡ P ++ (T ++ (N ++ Q)) = ap (λ (l : List ℕ). P ++ (l ++ Q)) (tag-parts o) ∙ ap (λ (l : List ℕ). P ++ l) (append-assoc T N Q) in
+    let a : text-at i 54 (P ++ (T ++ (N ++ Q))) ≡ tag-text o = text-at-padded P (N ++ Q) i 54 (tag-text o) e (w .0) (w .1) in
+    let b : number-at (i + 54) (P ++ (T ++ (N ++ Q))) ≡ tag-number o =
+    rw (← append-assoc P T (N ++ Q))
+    (number-at-bytes (P ++ T) Q (i + 54) (tag-number o) (length-append P T ∙ omega (arith, length-padded 54 (tag-text o) (w .0)))) in
+    rw (s, a, b) (tag-of-parts o h)
+
+-- a kind is read from its byte
+pub kind-of-byte : (k : Kind) → kind-of (kind-byte k) ≡ k
+unfolding kind-of kind-byte
+kind-of-byte File = refl
+kind-of-byte Directory = refl
+
+-- a node's tag and content are in range
+node-parts : (n : Node) → is-node n ≡ true → (is-tag (n .tag) ≡ true) × (is-content (n .content) ≡ true)
+unfolding is-node
+node-parts n h =
+    let numbers = (ltb (n .owner .0) 24 && ltb (n .group .0) 25) && (is-mode (n .mode) && leb (n .revision) last-revision) in
+    let k = fits-kind (n .kind) (n .mode) (n .content) in
+    let i = and-both numbers (is-tag (n .tag) && (is-content (n .content) && k)) h in
+    let j = and-both (is-tag (n .tag)) (is-content (n .content) && k) (i .1) in
+    (j .0, and-both (is-content (n .content)) k (j .1) .0)
+
+module _ (r : Row Node) (h : is-node (r .here) ≡ true) (w : (length (r .name) ≤ 8) × (lacks 0 (r .name) ≡ true)) where
+  -- a row takes 232 bytes
+  pub length-row-bytes : length (row-bytes r) ≡ row-width
+  unfolding row-bytes row-width two-bytes
+  length-row-bytes =
+      let n = r .here in
+      let i = node-parts n h in
+      let N = padded 8 (r .name) in
+      let T = tag-bytes (n .tag) in
+      let C = padded 80 (n .content) in
+      let Z : List ℕ = replicate 80 0 in
+      let a = length-append N (T ++ (C ++ Z)) in
+      let b = length-append T (C ++ Z) in
+      let c = length-append C Z in
+      let x = length-padded 8 (r .name) (w .0) in
+      let y = length-tag-bytes (n .tag) (i .0) in
+      let z = length-padded 80 (n .content) (content-fits (n .content) (i .1) .0) in
+      omega arith
+
+  -- and is read back from them
+  pub row-of-bytes : row-of (row-bytes r) ≡ r
+  unfolding row-of row-bytes two-bytes
+  row-of-bytes =
+      let n = r .here in
+      let i = node-parts n h in
+      let f = content-fits (n .content) (i .1) in
+      let D : List ℕ = r .depth ∷ kind-byte (n .kind) ∷ n .owner .0 ∷ n .group .0 ∷ [] in
+      let M = two-bytes (n .mode) in
+      let L = two-bytes (n .revision) in
+      let N = padded 8 (r .name) in
+      let T = tag-bytes (n .tag) in
+      let C = padded 80 (n .content) in
+      let Z : List ℕ = replicate 80 0 in
+      let H : List ℕ = D ++ (M ++ L) in
+      let mode : number-at 4 (row-bytes r) ≡ n .mode = number-at-bytes D (L ++ (N ++ (T ++ (C ++ Z)))) 4 (n .mode) refl in
+      let revision : number-at 6 (row-bytes r) ≡ n .revision = number-at-bytes (D ++ M) (N ++ (T ++ (C ++ Z))) 6 (n .revision) refl in
+      let name : text-at 8 8 (row-bytes r) ≡ r .name = text-at-padded H (T ++ (C ++ Z)) 8 8 (r .name) refl (w .0) (w .1) in
+      let l = length-padded 8 (r .name) (w .0) in
+      let tag : tag-of (text-at 16 54 (row-bytes r)) (number-at 70 (row-bytes r)) ≡ n .tag =
+      tag-at-bytes (H ++ N) (C ++ Z) 16 (n .tag) (length-append H N ∙ omega arith) (i .0) in
+      let m = length-tag-bytes (n .tag) (i .0) in
+      let content : text-at 72 80 (row-bytes r) ≡ n .content =
+      ap (λ (rest : List ℕ). text-at 72 80 (H ++ rest)) (sym (append-assoc N T (C ++ Z)))
+      ∙ text-at-padded (H ++ (N ++ T)) Z 72 80 (n .content) (length-append H (N ++ T) ∙ omega (arith, length-append N T)) (f .0) (f .1) in
+      λ j. record {
+        depth = r .depth;
+        name = name j;
+        here = record {
+          kind = kind-of-byte (n .kind) j;
+          owner = n .owner;
+          group = n .group;
+          mode = mode j;
+          revision = revision j;
+          tag = tag j;
+          content = content j;
+        };
+      }
