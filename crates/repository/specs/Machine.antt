@@ -177,10 +177,10 @@ module _ {S A : Type 0} (M : Machine S A) (u : Setup) (s : S) (c : Caller) where
   -- the account's walk to the tag's entry: directory 7; r 5
   unfoldable pub original : Bounded-role → Entry-path → Result (Place A)
   original z e = do
-    a ← account-walks z (below-rep e)
-    require (not (is-directory (M .judge u z .kind (a .here)))) 7
-    require (M .judge u z .readable (a .here)) 5
-    done a
+    filed ← account-walks z (below-rep e)
+    require (not (is-directory (M .judge u z .kind (filed .here)))) 7
+    require (M .judge u z .readable (filed .here)) 5
+    done filed
 
   unfoldable pub commit-file : Path → Result (Outcome S)
   commit-file w = do
@@ -188,8 +188,8 @@ module _ {S A : Type 0} (M : Machine S A) (u : Setup) (s : S) (c : Caller) where
     k ← working R w
     let e = k .tag .path
     a ← original z e
-    f ← account-walks z (e .folder)
-    require (M .judge u z .writable (f .here)) 5
+    folder ← account-walks z (e .folder)
+    require (M .judge u z .writable (folder .here)) 5
     let v = M .revision (a .here)
     require (eqb (k .tag .revision) v) 14
     require (not (eqb v last-revision)) 16
