@@ -4,6 +4,7 @@ pub mod ForestLaws
 pub mod Node
 pub mod Walk
 pub mod WalkLaws
+pub mod JudgeLaws
 pub mod WellFormed
 pub mod Rows
 pub mod RowLaws

@@ -1,0 +1,59 @@
+-- What the access test's judge says of a node, and what a node's setters leave, each as an equation, for the crates above.
+use mathlib.Core.Path.{_≡_, refl}
+use mathlib.Core.Option.{some}
+use mathlib.Core.Bool.{true, false, _&&_, _||_, not}
+use Prim.Native.Nat.{ℕ}
+use Rattle.accounts.specs.declared.Right.{Right}
+use Rattle.accounts.specs.declared.Right.the-variants.{R, W, X}
+use Rattle.accounts.specs.Access.{Account, may}
+use Rattle.syntax.specs.Text.{Text}
+use Rattle.tree.specs.declared.Kind.the-variants.{File, Directory}
+use Rattle.tree.specs.Node.{is-directory, Tag, Node, allows, set-revision, set-tag, set-content}
+use Rattle.tree.specs.Walk.{by-modes}
+
+pub file-is-none : is-directory File ≡ false
+unfolding is-directory
+file-is-none = refl
+
+pub directory-is-one : is-directory Directory ≡ true
+unfolding is-directory
+directory-is-one = refl
+
+module _ (a : Account) (n : Node) where
+  -- the test of a node's owner, group and mode
+  pub allows-is : (t : Right) → allows a t n ≡ may a t (n .owner) (n .group) (n .mode)
+  unfolding allows
+  allows-is t = refl
+
+  pub kind-by-modes : by-modes a .kind n ≡ n .kind
+  unfolding by-modes
+  kind-by-modes = refl
+
+  pub passes-by-modes : by-modes a .passes n ≡ allows a X n
+  unfolding by-modes
+  passes-by-modes = refl
+
+  pub readable-by-modes : by-modes a .readable n ≡ (allows a R n && (not (is-directory (n .kind)) || allows a X n))
+  unfolding by-modes
+  readable-by-modes = refl
+
+  pub writable-by-modes : by-modes a .writable n ≡ allows a W n
+  unfolding by-modes
+  writable-by-modes = refl
+
+module _ (n : Node) where
+  -- a node with another revision, tag or content
+  pub set-revision-is : (v : ℕ) →
+      set-revision v n ≡ record { kind = n .kind; owner = n .owner; group = n .group; mode = n .mode; revision = v; tag = n .tag; content = n .content }
+  unfolding set-revision
+  set-revision-is v = refl
+
+  pub set-tag-is : (t : Tag) →
+      set-tag t n ≡ record { kind = n .kind; owner = n .owner; group = n .group; mode = n .mode; revision = n .revision; tag = some t; content = n .content }
+  unfolding set-tag
+  set-tag-is t = refl
+
+  pub set-content-is : (c : Text) →
+      set-content c n ≡ record { kind = n .kind; owner = n .owner; group = n .group; mode = n .mode; revision = n .revision; tag = n .tag; content = c }
+  unfolding set-content
+  set-content-is c = refl
