@@ -6,13 +6,13 @@ use mathlib.Core.Bool.{Bool, true, false, _&&_}
 use Prim.Native.Nat.{ℕ, suc}
 use Rattle.accounts.specs.Dominance.{same-role, Bounded-role, dominates}
 use Rattle.syntax.specs.Text.{Text}
-use Rattle.syntax.specs.Path.{rep}
 use Rattle.syntax.specs.Setup.{Setup}
 use Rattle.tree.specs.declared.Kind.{Kind}
 use Rattle.tree.specs.declared.Kind.the-variants.{Directory}
-use Rattle.tree.specs.Forest.{Place, leaf, size, under, at, map-place}
+use Rattle.tree.specs.Forest.{Place, leaf, size, map-place}
 use Rattle.tree.specs.Node.{is-directory, Node}
 use Rattle.tree.specs.Walk.{Judge}
+use Rattle.tree.specs.Graft.{graft}
 use Rattle.repository.specs.Machine.{Sessions, Machine}
 use Rattle.repository.specs.Initial.{rep-node, directory-of, initial-tree, no-sessions}
 use Rattle.repository.specs.Store.{Store, entry-node}
@@ -91,7 +91,7 @@ in-store e = stored (e .kind) (e .role) (e .revision) (e .content)
 
 -- the store's tree: the people's, with the entries below `/rep`
 unfoldable pub whole : Place Entry → Place Node → Place Node
-whole e t = under (at rep (λ d. map-place in-store e)) t
+whole e t = graft (map-place in-store e) t
 
 unfoldable pub embed : Abstract → Store
 embed h = record { tree = whole (h .entries) (h .workspace); sessions = h .sessions }

@@ -6,5 +6,9 @@ pub mod Calls
 pub mod Listing
 pub mod Transcript
 pub mod Encoding
+pub mod TableLaws
+pub mod HeaderLaws
+pub mod EncodingLaws
 pub mod Bytes
+pub mod BytesLaws
 pub mod Example

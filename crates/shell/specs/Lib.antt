@@ -1,3 +1,4 @@
 pub mod Caller
 pub mod Steps
+pub mod Hiding
 pub mod Compute

@@ -69,16 +69,17 @@ unfolding setup-line
 line-gives t l e = line-of-gives (pieces comma t) l (checked (leb (length t) longest-line) (setup-line-of (pieces comma t)) l e .1)
 
 -- the parts of a setup in range
-record Ranges (s : Setup) : Type 0 where
-  count : length (s .persons) ≡ 16
-  zeroth : is-some (getD (s .persons) 0 none) ≡ false
-  slots : every is-slot (s .persons) ≡ true
-  few-pairs : length (s .pairs) ≤ 28
-  all-pairs : every is-pair (s .pairs) ≡ true
-  few-grants : length (s .grants) ≤ 32
-  all-grants : every (is-grant s) (s .grants) ≡ true
+pub record Ranges (s : Setup) : Type 0 where
+  pub count : length (s .persons) ≡ 16
+  pub zeroth : is-some (getD (s .persons) 0 none) ≡ false
+  pub slots : every is-slot (s .persons) ≡ true
+  pub few-pairs : length (s .pairs) ≤ 28
+  pub all-pairs : every is-pair (s .pairs) ≡ true
+  pub few-grants : length (s .grants) ≤ 32
+  pub all-grants : every (is-grant s) (s .grants) ≡ true
 
-apart : (s : Setup) → is-setup s ≡ true → Ranges s
+-- a setup in range has them
+pub apart : (s : Setup) → is-setup s ≡ true → Ranges s
 unfolding is-setup accounts most-pairs most-grants
 apart s h =
     let a : _ = and-both (eqb (length (s .persons)) 16 && (not (is-some (getD (s .persons) 0 none)) && every is-slot (s .persons))) _ h in

@@ -3,8 +3,9 @@ use Rattle.tree.specs.Result.{_>>=_, _>>_, require, present, absent}
 use Rattle.tree.specs.Forest.{get, is-empty, insert, remove, at, under, update, alter, put, drop, leaf, size, larger, height, names, map-forest, map-place}
 use Rattle.tree.specs.Node.{is-directory, same-kind, allows, set-owner, set-group, set-mode, set-revision, set-tag, set-content}
 use Rattle.tree.specs.Walk.{by-modes, look, unused, enter, walk, parent-walk}
+use Rattle.tree.specs.Graft.{graft}
 use Rattle.tree.specs.WellFormed.{most-nodes, last-revision, nodes}
 
 unfoldable pub compute : Unit {0}
-unfolding _>>=_ _>>_ require present absent get is-empty insert remove at under update alter put drop leaf size larger height names map-forest map-place is-directory same-kind allows set-owner set-group set-mode set-revision set-tag set-content by-modes look unused enter walk parent-walk most-nodes last-revision nodes
+unfolding _>>=_ _>>_ require present absent get is-empty insert remove at under update alter put drop leaf size larger height names map-forest map-place is-directory same-kind allows set-owner set-group set-mode set-revision set-tag set-content by-modes look unused enter walk parent-walk graft most-nodes last-revision nodes
 compute = tt

@@ -97,6 +97,11 @@ rows-from-bytes (r ∷ rs) Q h =
 
 -- ---- trees
 
+-- how wide all trees are
+pub tree-width-is : tree-width ≡ 59394
+unfolding tree-width
+tree-width-is = refl
+
 -- the encoding of a well-formed tree has the width of all trees
 pub length-encode-tree : (t : Place Node) → is-tree t ≡ true → length (encode-tree t) ≡ tree-width
 unfolding encode-tree two-bytes tree-width row-width most-nodes

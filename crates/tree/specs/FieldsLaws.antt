@@ -43,6 +43,11 @@ unfolding text-at
 text-at-padded P Q i width t e l h =
     rw (drop-at P (padded width t ++ Q) i e, take-at (padded width t) Q width (length-padded width t l)) (unpadded-padded width t h)
 
+-- a number takes two bytes
+pub length-two-bytes : (n : ℕ) → length (two-bytes n) ≡ 2
+unfolding two-bytes
+length-two-bytes n = refl
+
 -- a number is read where its two bytes stand
 pub number-at-bytes : (P Q : List ℕ) (i n : ℕ) → length P ≡ i → number-at i (P ++ (two-bytes n ++ Q)) ≡ n
 unfolding number-at two-bytes

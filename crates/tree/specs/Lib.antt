@@ -1,11 +1,17 @@
 pub mod Result
+pub mod ResultLaws
+pub mod Agree
 pub mod Forest
 pub mod ForestLaws
 pub mod Node
 pub mod Walk
+pub mod StepLaws
 pub mod WalkLaws
 pub mod JudgeLaws
 pub mod WellFormed
+pub mod PlaceLaws
+pub mod MapLaws
+pub mod Graft
 pub mod Rows
 pub mod RowLaws
 pub mod Fields

@@ -1,0 +1,58 @@
+-- Values one after another, and tables of them: if each value takes the same width and is read back from its bytes, then so
+-- are all of them, wherever other bytes follow.
+use mathlib.Core.Path.{_≡_, refl, sym, _∙_, ap₂}
+use mathlib.Core.List.{List, [], _∷_, _++_, append-assoc}
+use mathlib.Core.Bool.{Bool, true}
+use Prim.Native.Nat.{ℕ, suc, _+_, _-_, _*_, _≤_}
+use native.Mathlib.Omega.{arith}
+use native.Mathlib.Nat.{zero-mul, suc-mul, add-mul, add-sub-of-le}
+use lib.ListN.{length, replicate, length-append, length-replicate}
+use lib.Seq.{take-at, drop-at}
+use Rattle.accounts.specs.Cases.{and-both}
+use Rattle.syntax.specs.Text.{every}
+use Rattle.repository.specs.Encoding.{all-bytes, all-from, table-bytes, table-from}
+
+-- so many widths and those left over are all of them
+widths : (n most width : ℕ) → n ≤ most → n * width + (most - n) * width ≡ most * width
+widths n most width h = sym (add-mul n (most - n) width) ∙ rw (add-sub-of-le h)
+
+module _ {A : Type 0} (width : ℕ) (test : A → Bool) (to : A → List ℕ) (long : (a : A) → test a ≡ true → length (to a) ≡ width) where
+  -- values that pass take their widths
+  pub length-all-bytes : (l : List A) → every test l ≡ true → length (all-bytes to l) ≡ length l * width
+  unfolding all-bytes every
+  length-all-bytes [] h = sym (zero-mul width)
+  length-all-bytes (a ∷ l) h =
+      let i = and-both (test a) (every test l) h in
+      let x = long a (i .0) in
+      let y = length-all-bytes l (i .1) in
+      let z = suc-mul (length l) width in
+      length-append (to a) (all-bytes to l) ∙ omega arith
+
+  -- a table takes one byte and the widths of as many values as it may have
+  pub length-table : (most : ℕ) (l : List A) → every test l ≡ true → length l ≤ most → length (table-bytes width most to l) ≡ suc (most * width)
+  unfolding table-bytes
+  length-table most l h few =
+      let Z : List ℕ = replicate ((most - length l) * width) 0 in
+      let a = length-append (all-bytes to l) Z in
+      let b = length-all-bytes l h in
+      let c = length-replicate {A = ℕ} ((most - length l) * width) 0 in
+      let d = widths (length l) most width few in
+      omega arith
+
+  module _ (from : List ℕ → A) (back : (a : A) → test a ≡ true → from (to a) ≡ a) where
+    -- values that pass are read back from their bytes
+    pub all-from-bytes : (l : List A) (Q : List ℕ) → every test l ≡ true → all-from width from (length l) (all-bytes to l ++ Q) ≡ l
+    unfolding all-bytes all-from every
+    all-from-bytes [] Q h = refl
+    all-from-bytes (a ∷ l) Q h =
+        let i = and-both (test a) (every test l) h in
+        let x = long a (i .0) in
+        let B = all-bytes to l ++ Q in
+        rw (append-assoc (to a) (all-bytes to l) Q, take-at (to a) B width x, drop-at (to a) B width x)
+        (ap₂ _∷_ (back a (i .0)) (all-from-bytes l Q (i .1)))
+
+    -- and from their table
+    pub table-from-bytes : (most : ℕ) (l : List A) (Q : List ℕ) → every test l ≡ true → table-from width from (table-bytes width most to l ++ Q) ≡ l
+    unfolding table-bytes table-from
+    table-from-bytes most l Q h =
+        rw (append-assoc (all-bytes to l) (replicate ((most - length l) * width) 0) Q) (all-from-bytes l _ h)

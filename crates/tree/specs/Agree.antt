@@ -1,0 +1,87 @@
+-- Two outcomes agree: the same refusal, or two related things done; one outcome ensures something: refused, or done with a
+-- thing of which it holds. A proof about a command goes through its steps line by line.
+use mathlib.Core.Path.{_≡_, refl}
+use mathlib.Core.Bool.{Bool, true, false}
+use Prim.Native.Nat.{ℕ}
+use Rattle.tree.specs.Result.{Result, refused, done, _>>=_, _>>_, require}
+
+-- ---- two outcomes
+
+-- the same refusal, or two things done that are related by R
+pub data Agree {X Y : Type 0} (R : X → Y → Type 0) : Result X → Result Y → Type 0 where
+  refusal : (n : ℕ) → Agree R (refused n) (refused n)
+  both : {x : X} {y : Y} → R x y → Agree R (done x) (done y)
+
+-- one outcome on both sides
+pub itself : {X : Type 0} {R : X → X → Type 0} (a : Result X) → ((x : X) → a ≡ done x → R x x) → Agree R a a
+itself (refused n) k = refusal n
+itself (done x) k = both (k x refl)
+
+-- steps that agree, each followed by steps that agree on what is related
+pub bind : {X Y C D : Type 0} {R : X → Y → Type 0} {Q : C → D → Type 0} {a : Result X} {b : Result Y} {f : X → Result C} {g : Y → Result D}
+    → Agree R a b → ((x : X) (y : Y) → R x y → Agree Q (f x) (g y)) → Agree Q (a >>= f) (b >>= g)
+unfolding _>>=_
+bind (refusal n) k = refusal n
+bind (both {x = x} {y = y} r) k = k x y r
+
+module _ {C D : Type 0} {Q : C → D → Type 0} where
+  -- one step on both sides, followed by steps that agree
+  pub each : {X : Type 0} {f : X → Result C} {g : X → Result D} (a : Result X)
+      → ((x : X) → a ≡ done x → Agree Q (f x) (g x)) → Agree Q (a >>= f) (a >>= g)
+  unfolding _>>=_
+  each (refused n) k = refusal n
+  each (done x) k = k x refl
+
+  check-one : {v : Result C} {w : Result D} (n : ℕ) (a : Bool) → (a ≡ true → Agree Q v w) → Agree Q (require a n >> v) (require a n >> w)
+  unfolding _>>_ require
+  check-one n true k = k refl
+  check-one n false k = refusal n
+
+  -- a test that comes to the same on both sides
+  pub check : {v : Result C} {w : Result D} {a b : Bool} (n : ℕ) → a ≡ b → (a ≡ true → Agree Q v w) → Agree Q (require a n >> v) (require b n >> w)
+  check {a} n e k = rw (← e) (check-one n a k)
+
+  guard-one : {v : Result C} {w : Result D} (a : Result (Unit {0})) → (a ≡ done tt → Agree Q v w) → Agree Q (a >> v) (a >> w)
+  unfolding _>>_
+  guard-one (refused n) k = refusal n
+  guard-one (done u) k = k refl
+
+  -- a check that comes to the same on both sides
+  pub guard : {v : Result C} {w : Result D} {a b : Result (Unit {0})} → a ≡ b → (a ≡ done tt → Agree Q v w) → Agree Q (a >> v) (b >> w)
+  guard {a} e k = rw (← e) (guard-one a k)
+
+-- ---- one outcome
+
+-- refused, or done with something of which P holds
+pub data Ensures {X : Type 0} (P : X → Type 0) : Result X → Type 0 where
+  no-matter : (n : ℕ) → Ensures P (refused n)
+  ensured : {x : X} → P x → Ensures P (done x)
+
+-- what is done has what is ensured
+pub ensured-done : {X : Type 0} {P : X → Type 0} {x : X} → Ensures P (done x) → P x
+ensured-done (ensured h) = h
+
+module _ {Y : Type 0} {P : Y → Type 0} where
+  -- after a step that is done
+  pub after-do : {X : Type 0} {f : X → Result Y} (a : Result X) → ((x : X) → a ≡ done x → Ensures P (f x)) → Ensures P (a >>= f)
+  unfolding _>>=_
+  after-do (refused n) k = no-matter n
+  after-do (done x) k = k x refl
+
+  -- after a step that ensures something
+  pub after-facts : {X : Type 0} {Q : X → Type 0} {a : Result X} {f : X → Result Y} → Ensures Q a → ((x : X) → Q x → Ensures P (f x)) → Ensures P (a >>= f)
+  unfolding _>>=_
+  after-facts (no-matter n) k = no-matter n
+  after-facts (ensured {x = x} h) k = k x h
+
+  -- after a test that passes
+  pub after-check : {r : Result Y} (n : ℕ) (b : Bool) → (b ≡ true → Ensures P r) → Ensures P (require b n >> r)
+  unfolding _>>_ require
+  after-check n true k = k refl
+  after-check n false k = no-matter n
+
+  -- after a check that is done
+  pub after-guard : {r : Result Y} (a : Result (Unit {0})) → (a ≡ done tt → Ensures P r) → Ensures P (a >> r)
+  unfolding _>>_
+  after-guard (refused n) k = no-matter n
+  after-guard (done u) k = k refl

@@ -1,0 +1,88 @@
+-- A map of the payloads goes through places, changes at paths and walks, where the judges of both sides agree.
+use mathlib.Core.Path.{_≡_, refl}
+use mathlib.Core.Option.{Option, none, some, Option·map}
+use Rattle.syntax.specs.Path.{Name, Path, root, _▹_, parent}
+use Rattle.tree.specs.Result.{present, absent}
+use Rattle.tree.specs.Forest.{Forest, nil, node, Place, get, update, alter, put, drop, map-forest, map-place}
+use Rattle.tree.specs.ForestLaws.{get-map, put-map, drop-map, alter-map, update-map}
+use Rattle.tree.specs.Walk.{Judge, look, unused, enter, walk, parent-walk}
+use Rattle.tree.specs.Agree.{Agree, refusal, both, bind, guard}
+
+module _ {A B : Type 0} (g : A → B) where
+  -- ---- forests and places
+
+  -- nothing maps to nothing
+  pub map-nil : map-forest g nil ≡ nil
+  unfolding map-forest
+  map-nil = refl
+
+  -- a node maps with its children and siblings
+  pub map-node : (n : Name) (x : A) (cs rest : Forest A) → map-forest g (node n x cs rest) ≡ node n (g x) (map-forest g cs) (map-forest g rest)
+  unfolding map-forest
+  map-node n x cs rest = refl
+
+  -- the payload is mapped
+  pub map-here : (d : Place A) → map-place g d .here ≡ g (d .here)
+  unfolding map-place
+  map-here d = refl
+
+  -- and so are the children
+  pub map-below : (d : Place A) → map-place g d .below ≡ map-forest g (d .below)
+  unfolding map-place
+  map-below d = refl
+
+  -- ---- changes at a path
+
+  -- through a change of the payload there
+  pub update-alter-map : (h′ : B → B) (h : A → A) → ((a : A) → h′ (g a) ≡ g (h a))
+      → (p : Path) (d : Place A) → update p (alter h′) (map-place g d) ≡ map-place g (update p (alter h) d)
+  update-alter-map h′ h e = update-map g (alter h′) (alter h) (alter-map g h′ h e)
+
+  -- through putting a child in there
+  pub update-put-map : (n : Name) (e : Place A) (p : Path) (d : Place A) → update p (put n (map-place g e)) (map-place g d) ≡ map-place g (update p (put n e) d)
+  update-put-map n e = update-map g (put n (map-place g e)) (put n e) (put-map g n e)
+
+  -- through taking a child out there
+  pub update-drop-map : (n : Name) (p : Path) (d : Place A) → update p (drop n) (map-place g d) ≡ map-place g (update p (drop n) d)
+  update-drop-map n = update-map g (drop n) (drop n) (drop-map g n)
+
+  -- ---- searches
+
+  absent-map : (c : Option (Place A)) → absent (Option·map (map-place g) c) 6 ≡ absent c 6
+  unfolding absent
+  absent-map none = refl
+  absent-map (some d) = refl
+
+  -- a name stays unused or not
+  pub unused-map : (n : Name) (F : Forest A) → unused n (map-forest g F) ≡ unused n F
+  unfolding unused
+  unused-map n F = rw (get-map g n F) (absent-map (get n F))
+
+  present-map : (c : Option (Place A)) → Agree (λ d e. d ≡ map-place g e) (present (Option·map (map-place g) c) 3) (present c 3)
+  unfolding present
+  present-map none = refusal 3
+  present-map (some d) = both refl
+
+  -- the child found is the mapped one
+  pub look-map : (n : Name) (F : Forest A) → Agree (λ d e. d ≡ map-place g e) (look n (map-forest g F)) (look n F)
+  unfolding look
+  look-map n F = rw (get-map g n F) (present-map (get n F))
+
+  -- ---- walks
+
+  module _ (j : Judge A) (k : Judge B) (kinds : (a : A) → k .kind (g a) ≡ j .kind a) (passes : (a : A) → k .passes (g a) ≡ j .passes a) where
+    -- the same directories are entered
+    pub enter-map : (a : A) → enter k (g a) ≡ enter j a
+    unfolding enter
+    enter-map a = rw (kinds a, passes a)
+
+    -- a walk leads to the mapped place
+    pub walk-map : (t : Place A) (p : Path) → Agree (λ d e. d ≡ map-place g e) (walk k (map-place g t) p) (walk j t p)
+    unfolding walk map-place
+    walk-map t root = both refl
+    walk-map t (p ▹ n) = bind (walk-map t p) λ d e s. rw s (guard (enter-map (e .here)) λ _. look-map n (e .below))
+
+    -- and so does a walk to the parent
+    pub parent-walk-map : (t : Place A) (p : Path) → Agree (λ d e. d ≡ map-place g e) (parent-walk k (map-place g t) p) (parent-walk j t p)
+    unfolding parent-walk map-place
+    parent-walk-map t p = bind (walk-map t (parent p)) λ d e s. rw s (guard (enter-map (e .here)) λ _. both refl)
