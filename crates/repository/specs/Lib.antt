@@ -11,4 +11,7 @@ pub mod HeaderLaws
 pub mod EncodingLaws
 pub mod Bytes
 pub mod BytesLaws
+pub mod Observed
+pub mod Judges
+pub mod Callers
 pub mod Example
