@@ -8,6 +8,7 @@ use mathlib.Core.Bool.{Bool, true, false, cond}
 use Prim.Native.Nat.{ℕ, suc, _+_}
 use lib.Dec.{leb}
 use Rattle.syntax.specs.Text.{same-text, precedes}
+use Rattle.syntax.specs.Form.{_>>=_}
 use Rattle.syntax.specs.Path.{Name, Path, root, _▹_}
 
 pub data Forest (A : Type 0) : Type 0 where
@@ -53,6 +54,11 @@ under g d = record { here = d .here; below = g (d .below) }
 unfoldable pub update : {A : Type 0} → Path → (Place A → Place A) → Place A → Place A
 update root f d = f d
 update (p ▹ n) f d = update p (under (at n f)) d
+
+-- the place at a path
+unfoldable pub place-at : {A : Type 0} → Path → Place A → Option (Place A)
+place-at root t = some t
+place-at (p ▹ n) t = place-at p t >>= λ d. get n (d .below)
 
 -- the changes: a payload altered, a child put in, a child taken out
 unfoldable pub alter : {A : Type 0} → (A → A) → Place A → Place A
