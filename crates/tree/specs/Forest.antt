@@ -55,10 +55,10 @@ unfoldable pub update : {A : Type 0} → Path → (Place A → Place A) → Plac
 update root f d = f d
 update (p ▹ n) f d = update p (under (at n f)) d
 
--- the place at a path
-unfoldable pub place-at : {A : Type 0} → Path → Place A → Option (Place A)
-place-at root t = some t
-place-at (p ▹ n) t = place-at p t >>= λ d. get n (d .below)
+-- the place at a path, if there is one
+unfoldable pub place-at : {A : Type 0} → Place A → Path → Option (Place A)
+place-at t root = some t
+place-at t (p ▹ n) = place-at t p >>= λ d. get n (d .below)
 
 -- the changes: a payload altered, a child put in, a child taken out
 unfoldable pub alter : {A : Type 0} → (A → A) → Place A → Place A

@@ -10,6 +10,10 @@ pub mod WalkLaws
 pub mod JudgeLaws
 pub mod WellFormed
 pub mod PlaceLaws
+pub mod UpdateLaws
+pub mod NodeLaws
+pub mod WellFormedLaws
+pub mod ChangeLaws
 pub mod MapLaws
 pub mod Graft
 pub mod Rows

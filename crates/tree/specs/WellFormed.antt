@@ -48,6 +48,10 @@ is-forest nil = true
 is-forest (node n x cs rest) =
     ((is-name n && is-node x) && (is-directory (x .kind) || is-empty cs)) && (is-forest cs && (leads n rest && is-forest rest))
 
+-- a well-formed place: a node with a well-formed forest below it
+unfoldable pub is-place : Place Node → Bool
+is-place d = (is-node (d .here) && (is-directory (d .here .kind) || is-empty (d .below))) && is-forest (d .below)
+
 unfoldable pub is-tree : Place Node → Bool
 is-tree t =
     (is-directory (t .here .kind) && (is-node (t .here) && is-forest (t .below)))
