@@ -14,4 +14,6 @@ pub mod BytesLaws
 pub mod Observed
 pub mod Judges
 pub mod Callers
+pub mod Simulation
+pub mod Lists
 pub mod Example

@@ -2,7 +2,7 @@
 --
 -- In order:
 --   names, and the larger of two numbers;
---   a child found;
+--   a child found: get-first;
 --   a child changed: get-at, get-at-other, get-at-none, names-at, empty-at, at-at, size-at, height-at, at-twice, at-id, at-none;
 --   a child put in: get-insert, get-insert-other, empty-insert, insert-at, size-insert, height-insert;
 --   a child taken out: get-remove-other, empty-remove, remove-at, size-remove, height-remove; and height-get;
@@ -43,6 +43,11 @@ unfolding larger
 larger-least a b k p q = case (leb a b) (λ t. rw t q) (λ t. rw t p)
 
 -- ---- a child found
+
+-- the first node is found by its name
+pub get-first : {A : Type 0} (n : Name) (x : A) (cs rest : Forest A) → get n (node n x cs rest) ≡ some (record { here = x; below = cs })
+unfolding get
+get-first n x cs rest = rw (same-text-refl n)
 
 module _ {A : Type 0} (n m : Name) (y : A) (ds rest : Forest A) where
   -- the first node is the child found if it has the name
