@@ -58,6 +58,13 @@ pub may-other : (a : Account) (t : Right) (o : Uid) (g : Gid) (m : ℕ) → is-r
 unfolding may judging-digit
 may-other a t o g m z e i = rw (z, e, i)
 
+-- digit 0 gives no right
+pub grants-none : (t : Right) → grants 0 t ≡ false
+unfolding grants
+grants-none R = refl
+grants-none W = refl
+grants-none X = refl
+
 -- mode 0040: the owner is judged by the owner's digit alone, though in the group
 pub owner-alone : may (record { uid = record { 0 = 1 }; groups = with-group (record { 0 = 1 }) no-groups }) R (record { 0 = 1 }) (record { 0 = 1 }) 32 ≡ false
 unfolding may is-root grants judging-digit same-uid

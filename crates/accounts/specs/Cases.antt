@@ -1,6 +1,6 @@
 -- Case analysis on a test, keeping what it came to.
 use mathlib.Core.Path.{_≡_, refl, sym, _∙_}
-use mathlib.Core.Bool.{Bool, true, false, true≢false, _&&_}
+use mathlib.Core.Bool.{Bool, true, false, true≢false, _&&_, _||_, not}
 
 -- by a test, with what it came to
 pub case : {P : Type 0} (b : Bool) → (b ≡ true → P) → (b ≡ false → P) → P
@@ -15,3 +15,9 @@ and-both false b e = (cc, cc)
 -- no test comes to both
 pub contra : {P : Type 0} {b : Bool} → b ≡ true → b ≡ false → P
 contra e q = absurd (true≢false (sym e ∙ q))
+
+-- neither part of a disjunction that fails passes
+pub neither : (a b : Bool) → not (a || b) ≡ true → (a ≡ false) × (b ≡ false)
+neither true b e = contra refl (sym e)
+neither false true e = contra refl (sym e)
+neither false false e = (refl, refl)

@@ -15,7 +15,7 @@ use Rattle.accounts.specs.declared.Uid.{Uid}
 use Rattle.accounts.specs.declared.Right.{Right}
 use Rattle.accounts.specs.declared.Right.the-variants.{W}
 use Rattle.accounts.specs.Groups.{same-gid, member, with-group, member-with}
-use Rattle.accounts.specs.Access.{is-root, same-uid, grants, may-other}
+use Rattle.accounts.specs.Access.{is-root, same-uid, grants, may-other, grants-none}
 use Rattle.accounts.specs.Service.{all-services}
 use Rattle.syntax.specs.Text.{every}
 use Rattle.syntax.specs.TextLaws.{every-getD}
@@ -27,7 +27,7 @@ use Rattle.tree.specs.JudgeLaws.{allows-is}
 use Rattle.shell.specs.Caller.{Caller, root-caller, owns}
 use Rattle.repository.specs.Machine.{person-caller, known-caller, caller}
 use Rattle.repository.specs.Initial.{directory-of, top-node, rep-node}
-use Rattle.repository.specs.Judges.{top-allows, grants-none}
+use Rattle.repository.specs.Judges.{top-allows}
 
 -- root's number is 0
 root-is : (v : Uid) → is-root v ≡ true → v ≡ record { 0 = 0 }
@@ -66,12 +66,12 @@ within l i a h = case (ltb i (length l))
     (λ t. contra {b = true} refl (cc (List·getD-eq-default l none (ltb-false i (length l) t))))
 
 -- an account's number, its primary group and its further groups
-In-range : Uid → Person → Type 0
+abbrev pub In-range : Uid → Person → Type 0
 In-range v p = (v .0 < 16) × (p .primary .0 < 16) × (p .further .0 < 65536)
 
 -- the persons of a setup in range are in range
-person-in-range : (u : Setup) → is-setup u ≡ true → (v : Uid) (p : Person) → person u v ≡ some p → In-range v p
-unfolding In-range is-setup accounts person is-slot is-person
+pub person-in-range : (u : Setup) → is-setup u ≡ true → (v : Uid) (p : Person) → person u v ≡ some p → In-range v p
+unfolding is-setup accounts person is-slot is-person
 person-in-range u s v p h =
     let a : _ = and-both (eqb (length (u .persons)) 16 && (not (is-some (getD (u .persons) 0 none)) && every is-slot (u .persons))) _ s in
     let b : _ = and-both (eqb (length (u .persons)) 16) (not (is-some (getD (u .persons) 0 none)) && every is-slot (u .persons)) (a .0) in
@@ -87,13 +87,13 @@ person-in-range u s v p h =
 
 -- a person is not in the group of all service accounts
 no-service : (v : Uid) (p : Person) → In-range v p → member all-services (with-group (p .primary) (p .further)) ≡ false
-unfolding In-range member same-gid all-services
+unfolding member same-gid all-services
 no-service v p b = rw (member-with all-services (p .primary) (p .further), ne-eqb 24 (p .primary .0) (omega arith), div-eq-of-lt {n = p .further .0} {m = 2 ^ 24} (omega arith))
 
 module _ (u : Setup) (s : is-setup u ≡ true) (v : Uid) (c : Caller) where
   -- a caller's number and primary group are below 16
   pub caller-in-range : caller u v ≡ done c → (ltb (c .account .uid .0) 16 ≡ true) × (ltb (c .primary .0) 16 ≡ true)
-  unfolding In-range root-caller person-caller
+  unfolding root-caller person-caller
   caller-in-range h = case (is-root v)
       (λ r. rw (root-calls u v c h r) (refl, refl))
       (λ r.
@@ -110,7 +110,7 @@ module _ (u : Setup) (s : is-setup u ≡ true) (v : Uid) (c : Caller) where
 
   -- `/rep` is not a person's, and a person has no right there
   pub person-rep : is-root v ≡ false → caller u v ≡ done c → ((t : Right) → allows (c .account) t rep-node ≡ false) × (owns (c .account) rep-node ≡ false)
-  unfolding In-range rep-node directory-of owns same-uid person-caller all-services
+  unfolding rep-node directory-of owns same-uid person-caller all-services
   person-rep r h =
       let k : _ = person-calls u v c h r in
       let b : _ = person-in-range u s v (k .0) (k .1) in

@@ -23,7 +23,7 @@ use Rattle.repository.specs.Encoding.{State, header-width, store-width, 
 use Rattle.repository.specs.HeaderLaws.{length-header, setup-of-header, sessions-of-header}
 
 -- a well-formed state's setup, sessions and tree
-parts : (s : State) → well-formed s ≡ true → (is-setup (s .setup) ≡ true) × ((length (s .store .sessions) ≡ 16) × (is-tree (s .store .tree) ≡ true))
+pub parts : (s : State) → well-formed s ≡ true → (is-setup (s .setup) ≡ true) × ((length (s .store .sessions) ≡ 16) × (is-tree (s .store .tree) ≡ true))
 unfolding well-formed accounts
 parts s h =
     let i = and-both (is-setup (s .setup)) (eqb (length (s .store .sessions)) 16 && is-tree (s .store .tree)) h in

@@ -10,7 +10,7 @@ use Rattle.accounts.specs.declared.Uid.{Uid}
 use Rattle.accounts.specs.declared.Gid.{Gid}
 use Rattle.accounts.specs.declared.Role.{Role}
 use Rattle.accounts.specs.Groups.{member}
-use Rattle.accounts.specs.Access.{Account, is-root, same-uid, grants, may-owner, may-group, may-other}
+use Rattle.accounts.specs.Access.{Account, is-root, same-uid, grants, may-owner, may-group, may-other, grants-none}
 use Rattle.accounts.specs.Dominance.{same-role, same-role-is, Bounded-role, dominates, dominates-self}
 use Rattle.accounts.specs.Service.{service-uid, service-gid, all-services, service, service-not-root, service-own, same-service, member-service, member-all}
 use Rattle.syntax.specs.Text.{Text}
@@ -51,13 +51,6 @@ other-digit : (k : Kind) → entry-mode k % 8 ≡ 0
 unfolding entry-mode
 other-digit File = refl
 other-digit Directory = refl
-
--- digit 0 gives no right
-pub grants-none : (t : Right) → grants 0 t ≡ false
-unfolding grants
-grants-none R = refl
-grants-none W = refl
-grants-none X = refl
 
 module _ (u : Setup) (z : Bounded-role) where
   abbrev account : Account

@@ -16,4 +16,8 @@ pub mod Judges
 pub mod Callers
 pub mod Simulation
 pub mod Lists
+pub mod Copies
+pub mod InitialLaws
+pub mod Keeping
+pub mod Privacy
 pub mod Example

@@ -1,6 +1,6 @@
 -- What a caller who may do nothing at `/rep` meets of it through the shell: nothing. With one place at `/rep` or another that
 -- has the same node, every shell command answers the same and leaves the same tree around it.
-use mathlib.Core.Path.{_≡_, refl, sym, _∙_, ap}
+use mathlib.Core.Path.{_≡_, refl, _∙_, ap}
 use mathlib.Core.Option.{none, some}
 use mathlib.Core.Bool.{Bool, true, false, _&&_, _||_, not}
 use Prim.Native.Nat.{ℕ, _+_}
@@ -11,7 +11,7 @@ use Rattle.accounts.specs.declared.Right.{Right}
 use Rattle.accounts.specs.declared.Right.the-variants.{R, W, X}
 use Rattle.accounts.specs.Groups.{member}
 use Rattle.accounts.specs.Access.{is-root, same-uid}
-use Rattle.accounts.specs.Cases.{contra}
+use Rattle.accounts.specs.Cases.{contra, neither}
 use Rattle.syntax.specs.Text.{Text}
 use Rattle.syntax.specs.Number.{set-gid}
 use Rattle.syntax.specs.Path.{Path, parent, last, rep, reserved}
@@ -66,10 +66,6 @@ changed-alike : {e f : Place Node} {top : Node} {s t : Place Node} → Beside e 
 changed-alike b = both (record { text = refl; state = b })
 
 -- ---- tests
-
-neither : (a b : Bool) → not (a || b) ≡ true → a ≡ false
-neither true b i = sym i
-neither false b i = refl
 
 -- root, or the owner with a further test, is root or the owner
 weaker : (a b d : Bool) → (a || (b && d)) ≡ true → (a || b) ≡ true
@@ -183,7 +179,7 @@ module _ (c : Caller) (e f : Place Node) (top : Node) (out : Kept-out c top (f .
         check 5 (test (allows (c .account) W) v) λ w.
         check 5 (test (allows (c .account) W) (u .seen)) λ x.
         check 11 refl λ _.
-        rw (seen-alike s (neither (reserved a) (reserved b) i)) (
+        rw (seen-alike s (neither (reserved a) (reserved b) i .0)) (
         check 19 refl λ _.
         changed-alike (update-beside (update-beside start (parent a) (writes-outside v w) _) (parent b) (writes-outside (u .seen) x) _))
 

@@ -5,6 +5,7 @@ pub mod Form
 pub mod FormLaws
 pub mod Path
 pub mod PathLaws
+pub mod WithinLaws
 pub mod Field
 pub mod FieldLaws
 pub mod Command

@@ -3,16 +3,16 @@ use mathlib.Core.Path.{_≡_, refl, sym, ap, _∙_}
 use mathlib.Core.List.{List, [], _∷_, _++_, append-assoc}
 use mathlib.Core.Option.{some}
 use mathlib.Core.Bool.{true, false, _&&_, not}
-use Prim.Native.Nat.{ℕ, _+_, _*_, _≤_, _<_}
+use Prim.Native.Nat.{ℕ, suc, _+_, _*_, _≤_, _<_}
 use native.Mathlib.Omega.{arith}
 use borrow.Author.Tests.{eqb-true, ne-eqb, leb-true, le-leb}
 use lib.Dec.{eqb, leb}
 use lib.ListN.{length, length-append}
-use Rattle.accounts.specs.Cases.{case, and-both}
+use Rattle.accounts.specs.Cases.{case, and-both, contra}
 use Rattle.syntax.specs.Text.{Text, bytes, same-text, every, joined, pieces}
 use Rattle.syntax.specs.Form.{_>>=_, _>>_, check}
 use Rattle.syntax.specs.FormLaws.{no-answer, both-read, checked, answered}
-use Rattle.syntax.specs.Path.{Name, Path, root, _▹_, Entry-path, depth, rep, in-rep, entry-location, name-byte, is-name, most-names, has-names, is-path, is-entry-path, extended, names-from-top, path, without-rep, entry-at, entry-path, names-text, path-text, entry-text}
+use Rattle.syntax.specs.Path.{Name, Path, root, _▹_, Entry-path, parent, last, depth, is-top, rep, in-rep, entry-location, reserved, name-byte, is-name, most-names, has-names, is-path, is-entry-path, extended, names-from-top, path, without-rep, entry-at, entry-path, names-text, path-text, entry-text}
 use Rattle.syntax.specs.TextLaws.{same-text-refl, same-text-sound, every-implies, every-append, lacks, pieces-joined}
 
 -- the bytes of names are from 48 on
@@ -198,3 +198,38 @@ entry-text-fits e h =
     let i : _ = and-both (has-names (entry-location e)) (leb (depth (entry-location e)) 6) h in
     let r : _ = names-text-fits (entry-location e) (i .0) in
     (omega (arith, r .0, leb-true (depth (entry-location e)) 6 (i .1)), r .1)
+
+-- ---- the parts of paths in range
+
+-- a path has at most 6 names
+pub path-depth : (p : Path) → is-path p ≡ true → depth p ≤ 6
+unfolding is-path most-names
+path-depth p h = leb-true (depth p) 6 (and-both (has-names p) (leb (depth p) 6) h .1)
+
+-- its last name is one
+pub last-is-name : (p : Path) → is-path p ≡ true → is-top p ≡ false → is-name (last p) ≡ true
+unfolding is-path has-names last is-top
+last-is-name root h t = contra refl t
+last-is-name (p ▹ n) h t = and-both (has-names p) (is-name n) (and-both (has-names (p ▹ n)) (leb (depth (p ▹ n)) most-names) h .0) .1
+
+-- its parent has one name less
+pub parent-depth : (p : Path) → is-top p ≡ false → suc (depth (parent p)) ≡ depth p
+unfolding parent is-top depth
+parent-depth root t = contra refl t
+parent-depth (p ▹ n) t = refl
+
+-- what is not reserved is not `/`
+pub not-reserved : (p : Path) → reserved p ≡ false → is-top p ≡ false
+unfolding reserved is-top
+not-reserved root h = h
+not-reserved (p ▹ n) h = refl
+
+-- a path with one name more is one if it has at most 6
+pub path-more : (p : Path) (n : Name) → is-path p ≡ true → is-name n ≡ true → depth (p ▹ n) ≤ 6 → is-path (p ▹ n) ≡ true
+unfolding is-path has-names most-names
+path-more p n h k l = rw (and-both (has-names p) (leb (depth p) 6) h .0, k) (le-leb (depth (p ▹ n)) 6 l)
+
+-- an entry's name is one, and at most 5 names lead to its folder
+pub entry-parts : (e : Entry-path) → is-entry-path e ≡ true → (is-name (e .name) ≡ true) × (depth (in-rep (e .folder)) ≤ 5)
+unfolding is-entry-path entry-location last is-top depth
+entry-parts e h = (last-is-name (entry-location e) h refl, omega (arith, path-depth (entry-location e) h))

@@ -15,7 +15,7 @@ use Rattle.tree.specs.ForestLaws.{empty-at, size-insert, height-insert, 
 use Rattle.tree.specs.Node.{is-directory, Node}
 use Rattle.tree.specs.Walk.{Judge, walk}
 use Rattle.tree.specs.WellFormed.{nodes, is-node, leads, is-forest, is-place, is-tree}
-use Rattle.tree.specs.UpdateLaws.{by-option, at-child, child-at, walked-at, height-below, update-none, here-update, size-update, height-update}
+use Rattle.tree.specs.UpdateLaws.{by-option, at-top, at-child, child-at, walked-at, height-below, update-none, here-update, size-update, height-update}
 use Rattle.tree.specs.WellFormedLaws.{leads-before, place-parts, place-of-parts, forest-parts, forest-of-parts, tree-parts, tree-of-parts, place-below}
 
 -- ---- a place changed
@@ -141,6 +141,12 @@ pub keep-put : (j : Judge Node) (t : Place Node) (p : Path) (d : Place Node) (n 
     → is-directory (d .here .kind) ≡ true → get n (d .below) ≡ none → is-name n ≡ true → is-place e ≡ true
     → depth p + suc (height (e .below)) ≤ 6 → nodes t + suc (size (e .below)) ≤ 256 → is-tree (update p (put n e) t) ≡ true
 keep-put j t p d n e h i k b a w l m = put-at t p d n e h (walked-at t j p d i) k b a w l m
+
+-- a place put in at the top, under a name not used there
+pub keep-insert : (t : Place Node) (n : Name) (e : Place Node) → is-tree t ≡ true → get n (t .below) ≡ none → is-name n ≡ true → is-place e ≡ true
+    → suc (height (e .below)) ≤ 6 → nodes t + suc (size (e .below)) ≤ 256 → is-tree (record { here = t .here; below = insert n e (t .below) }) ≡ true
+unfolding update put under depth
+keep-insert t n e h b a w l m = put-at t root t n e h (at-top t) (tree-parts t h .directory) b a w (omega arith) m
 
 -- ---- a place taken out
 

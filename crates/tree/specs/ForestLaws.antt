@@ -2,6 +2,7 @@
 --
 -- In order:
 --   names, and the larger of two numbers;
+--   no siblings, and the first of some: get-nil, insert-nil, empty-is-nil, height-node;
 --   a child found: get-first;
 --   a child changed: get-at, get-at-other, get-at-none, names-at, empty-at, at-at, size-at, height-at, at-twice, at-id, at-none;
 --   a child put in: get-insert, get-insert-other, empty-insert, insert-at, size-insert, height-insert;
@@ -41,6 +42,30 @@ larger-bounds a b = case (leb a b) (λ t. rw t (leb-true a b t, omega arith)) (�
 pub larger-least : (a b k : ℕ) → a ≤ k → b ≤ k → larger a b ≤ k
 unfolding larger
 larger-least a b k p q = case (leb a b) (λ t. rw t q) (λ t. rw t p)
+
+-- ---- no siblings, and the first of some
+
+module _ {A : Type 0} where
+  -- no child is found where there is none
+  pub get-nil : (n : Name) → get {A = A} n nil ≡ none
+  unfolding get
+  get-nil n = refl
+
+  -- a first child is the only one
+  pub insert-nil : (n : Name) (e : Place A) → insert n e nil ≡ node n (e .here) (e .below) nil
+  unfolding insert
+  insert-nil n e = refl
+
+  -- what is empty has no sibling
+  pub empty-is-nil : (F : Forest A) → is-empty F ≡ true → F ≡ nil
+  unfolding is-empty
+  empty-is-nil nil h = refl
+  empty-is-nil (node n x cs rest) h = contra refl (sym h)
+
+  -- a forest is higher than its first node's children, and no lower than the others
+  pub height-node : (n : Name) (x : A) (cs rest : Forest A) → (suc (height cs) ≤ height (node n x cs rest)) × (height rest ≤ height (node n x cs rest))
+  unfolding height
+  height-node n x cs rest = larger-bounds (suc (height cs)) (height rest)
 
 -- ---- a child found
 

@@ -14,6 +14,7 @@ pub mod UpdateLaws
 pub mod NodeLaws
 pub mod WellFormedLaws
 pub mod ChangeLaws
+pub mod PathLaws
 pub mod MapLaws
 pub mod Graft
 pub mod Rows

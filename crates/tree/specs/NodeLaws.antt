@@ -11,10 +11,10 @@ use borrow.Author.Tests.{ne-eqb}
 use Rattle.accounts.specs.declared.Uid.{Uid}
 use Rattle.accounts.specs.declared.Gid.{Gid}
 use Rattle.accounts.specs.Cases.{and-both, contra}
-use Rattle.syntax.specs.Text.{Text}
+use Rattle.syntax.specs.Text.{Text, every}
 use Rattle.syntax.specs.Number.{set-gid, is-mode}
 use Rattle.syntax.specs.Path.{is-entry-path}
-use Rattle.syntax.specs.Field.{is-content}
+use Rattle.syntax.specs.Field.{content-limit, is-content}
 use Rattle.syntax.specs.FormLaws.{no-answer, answered, both}
 use Rattle.tree.specs.declared.Kind.{Kind}
 use Rattle.tree.specs.declared.Kind.the-variants.{File, Directory}
@@ -104,6 +104,15 @@ node-of-ranges n r = rw (
   fits-of (n .kind) (n .mode) (n .content) (r .gid) (r .bare),
 )
 
+-- a node without tag and content is in range with its other values
+pub plain-node : (kind : Kind) (owner : Uid) (group : Gid) (mode : ℕ) → ltb (owner .0) 24 ≡ true → ltb (group .0) 25 ≡ true → is-mode mode ≡ true
+    → (is-directory kind || not (set-gid mode)) ≡ true
+    → is-node (record { kind = kind; owner = owner; group = group; mode = mode; revision = 0; tag = none; content = [] }) ≡ true
+unfolding last-revision
+plain-node kind owner group mode a b c d =
+    node-of-ranges (record { kind = kind; owner = owner; group = group; mode = mode; revision = 0; tag = none; content = [] })
+    (record { owner = a; group = b; mode = c; gid = d; revision = refl; tag = λ t e. no-answer e; content = unfold is-content content-limit every in refl; bare = λ _. refl })
+
 -- ---- a node in range with one attribute set to a value in range is in range
 
 -- the owner
@@ -148,14 +157,19 @@ node-of-tag t n h a b =
     node-of-ranges (set-tag t n)
     (record { owner = r .owner; group = r .group; mode = r .mode; gid = r .gid; revision = r .revision; tag = λ s e. rw (answered e) (a, b); content = r .content; bare = r .bare })
 
--- the content of a file
-pub node-of-content : (c : Text) (n : Node) → is-node n ≡ true → is-directory (n .kind) ≡ false → is-content c ≡ true
+-- the content, none in a directory
+pub node-of-any-content : (c : Text) (n : Node) → is-node n ≡ true → (is-directory (n .kind) ≡ true → c ≡ []) → is-content c ≡ true
     → is-node (set-content c n) ≡ true
 unfolding set-content
-node-of-content c n h f a =
+node-of-any-content c n h b a =
     let r = node-ranges n h in
     node-of-ranges (set-content c n)
-    (record { owner = r .owner; group = r .group; mode = r .mode; gid = r .gid; revision = r .revision; tag = r .tag; content = a; bare = λ d. contra d f })
+    (record { owner = r .owner; group = r .group; mode = r .mode; gid = r .gid; revision = r .revision; tag = r .tag; content = a; bare = b })
+
+-- so the content of a file
+pub node-of-content : (c : Text) (n : Node) → is-node n ≡ true → is-directory (n .kind) ≡ false → is-content c ≡ true
+    → is-node (set-content c n) ≡ true
+node-of-content c n h f a = node-of-any-content c n h (λ d. contra d f) a
 
 -- ---- no attribute set changes the kind
 

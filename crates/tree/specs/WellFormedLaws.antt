@@ -13,7 +13,7 @@ use Rattle.syntax.specs.TextLaws.{precedes-trans}
 use Rattle.syntax.specs.Path.{Name, Path, root, _▹_, parent, depth, is-name, most-names}
 use Rattle.syntax.specs.FormLaws.{no-answer, answered}
 use Rattle.tree.specs.Result.{done}
-use Rattle.tree.specs.Forest.{Forest, nil, node, Place, get, is-empty, leaf, height, place-at}
+use Rattle.tree.specs.Forest.{Forest, nil, node, Place, get, is-empty, leaf, size, height, place-at}
 use Rattle.tree.specs.Node.{is-directory, Node}
 use Rattle.tree.specs.Walk.{Judge, by-modes, enter, walk, parent-walk}
 use Rattle.tree.specs.StepLaws.{entered}
@@ -150,6 +150,11 @@ top-directory t h = tree-parts t h .directory
 pub leaf-place : (n : Node) → is-node n ≡ true → is-place (leaf n) ≡ true
 unfolding leaf is-empty is-forest
 leaf-place n h = place-of-parts (leaf n) (record { own = h; childless = λ f. refl; forest = refl })
+
+-- and a directory in range is a well-formed tree without children
+pub leaf-tree : (n : Node) → is-node n ≡ true → is-directory (n .kind) ≡ true → is-tree (leaf n) ≡ true
+unfolding leaf nodes size height
+leaf-tree n h d = tree-of-parts (leaf n) (record { directory = d; whole = leaf-place n h; low = omega arith; few = omega arith })
 
 -- what an account enters by modes is a directory
 pub entered-directory : (a : Account) (n : Node) → enter (by-modes a) n ≡ done tt → is-directory (n .kind) ≡ true

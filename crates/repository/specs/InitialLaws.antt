@@ -1,0 +1,113 @@
+-- The initial tree is well-formed: its homes have names, each of its own.
+use mathlib.Core.Path.{_≡_, refl, _∙_}
+use mathlib.Core.Option.{Option, none, some}
+use mathlib.Core.Bool.{Bool, true, false, _&&_, not}
+use Prim.Native.Nat.{ℕ, zero, suc, _≤_, _<_}
+use native.Mathlib.Omega.{arith}
+use lib.Dec.{ltb}
+use borrow.Author.Tests.{not-true, lt-ltb}
+use Rattle.accounts.specs.declared.Uid.{Uid}
+use Rattle.accounts.specs.declared.Gid.{Gid}
+use Rattle.accounts.specs.Cases.{and-both}
+use Rattle.syntax.specs.Text.{bytes, same-text, every}
+use Rattle.syntax.specs.Number.{is-mode, digits-before, decimal-text}
+use Rattle.syntax.specs.Path.{Name, rep, name-byte, is-name}
+use Rattle.syntax.specs.Setup.{Person, Setup, accounts, person, is-setup}
+use Rattle.tree.specs.declared.Kind.the-variants.{Directory}
+use Rattle.tree.specs.Forest.{Forest, nil, node, Place, get, insert, leaf, size}
+use Rattle.tree.specs.ForestLaws.{get-nil, insert-nil, get-insert-other, size-insert}
+use Rattle.tree.specs.Node.{Node}
+use Rattle.tree.specs.WellFormed.{is-node, is-tree}
+use Rattle.tree.specs.JudgeLaws.{directory-is-one}
+use Rattle.tree.specs.PlaceLaws.{leaf-here, leaf-below, leaf-size, nodes-below}
+use Rattle.tree.specs.UpdateLaws.{leaf-height}
+use Rattle.tree.specs.NodeLaws.{plain-node}
+use Rattle.tree.specs.WellFormedLaws.{leaf-place, leaf-tree}
+use Rattle.tree.specs.ChangeLaws.{keep-insert}
+use Rattle.repository.specs.Initial.{directory-of, top-node, rep-node, home-node, home-name, with-home, homes, initial-tree}
+use Rattle.repository.specs.Callers.{In-range, person-in-range}
+
+-- whether a name is neither `rep` nor the home of an account below k
+apart-from : Name → ℕ → Bool
+apart-from n zero = not (same-text n rep)
+apart-from n (suc k) = not (same-text n (home-name (record { 0 = k }))) && apart-from n k
+
+-- whether the homes of the accounts below k have names, each of its own
+home-names : ℕ → Bool
+home-names zero = true
+home-names (suc k) = (is-name (home-name (record { 0 = k })) && apart-from (home-name (record { 0 = k })) k) && home-names k
+
+all-home-names : home-names 16 ≡ true
+unfolding home-names apart-from home-name decimal-text digits-before bytes same-text is-name name-byte every rep
+all-home-names = refl
+
+-- `/rep` alone is `/rep` put in
+rep-alone : insert rep (leaf rep-node) nil ≡ node rep rep-node nil nil
+rep-alone = insert-nil rep (leaf rep-node) ∙ rw (leaf-here rep-node, leaf-below rep-node)
+
+-- a name apart from a home's is not used by the home
+unused-home : (n : Name) (v : Uid) (p : Option Person) (F : Forest Node) → same-text n (home-name v) ≡ false → get n F ≡ none → get n (with-home v p F) ≡ none
+unfolding with-home
+unused-home n v none F d h = h
+unused-home n v (some p) F d h = get-insert-other (home-name v) (leaf (home-node v p)) n d F ∙ h
+
+-- so a name apart from all is not used
+unused-name : (u : Setup) (n : Name) (k : ℕ) → apart-from n k ≡ true → get n (homes u k) ≡ none
+unfolding apart-from homes
+unused-name u n zero h = rw (← rep-alone) (get-insert-other rep (leaf rep-node) n (not-true (same-text n rep) h) nil ∙ get-nil n)
+unused-name u n (suc k) h =
+    let v : Uid = record { 0 = k } in
+    let i = and-both (not (same-text n (home-name v))) (apart-from n k) h in
+    unused-home n v (person u v) (homes u k) (not-true (same-text n (home-name v)) (i .0)) (unused-name u n k (i .1))
+
+directory-fits : (v : Uid) (g : Gid) (m : ℕ) → ltb (v .0) 24 ≡ true → ltb (g .0) 25 ≡ true → is-mode m ≡ true → is-node (directory-of v g m) ≡ true
+unfolding directory-of
+directory-fits v g m a b c = plain-node Directory v g m a b c (rw directory-is-one)
+
+-- a well-formed tree with the initial top, of at most so many nodes below it
+abbrev Begun : ℕ → Forest Node → Type 0
+Begun k F = (is-tree (record { here = top-node; below = F }) ≡ true) × (size F ≤ k)
+
+-- one more directory in it
+begun-with : (k : ℕ) (n : Name) (x : Node) (F : Forest Node) → k < 255 → is-name n ≡ true → get n F ≡ none → is-node x ≡ true → Begun k F → Begun (suc k) (insert n (leaf x) F)
+begun-with k n x F b a free w h =
+    let t : Place Node = record { here = top-node; below = F } in (
+      keep-insert t n (leaf x) (h .0) free a (leaf-place x w) (omega (arith, leaf-height x)) (omega (arith, nodes-below t, leaf-size x, h .1)),
+      omega (arith, size-insert n (leaf x) F, leaf-size x, h .1),
+    )
+
+begun-top : Begun 0 nil
+begun-top =
+    let q : leaf top-node ≡ record { here = top-node; below = nil } = λ i. record { here = leaf-here top-node i; below = leaf-below top-node i } in
+    (rw q at (leaf-tree top-node top-fits (unfold top-node directory-of in directory-is-one)), omega (arith, rw (leaf-below top-node) at (leaf-size top-node)))
+  where
+    top-fits : is-node top-node ≡ true
+    top-fits = unfold top-node is-mode in directory-fits (record { 0 = 0 }) (record { 0 = 0 }) 493 refl refl refl
+
+begun-rep : Begun 1 (node rep rep-node nil nil)
+unfolding rep-node
+begun-rep = rw (← rep-alone) (begun-with 0 rep rep-node nil (omega arith) (unfold rep bytes is-name name-byte every in refl) (get-nil rep)
+    (directory-fits (record { 0 = 16 }) (record { 0 = 24 }) 488 refl refl (unfold is-mode in refl)) begun-top)
+
+begun-home : (k : ℕ) (v : Uid) (p : Option Person) (F : Forest Node) → k < 255 → ((q : Person) → p ≡ some q → In-range v q)
+    → is-name (home-name v) ≡ true → get (home-name v) F ≡ none → Begun k F → Begun (suc k) (with-home v p F)
+unfolding with-home home-node
+begun-home k v none F b r a free h = (h .0, omega (arith, h .1))
+begun-home k v (some p) F b r a free h =
+    let i = r p refl in
+    begun-with k (home-name v) (home-node v p) F b a free
+    (directory-fits v (p .primary) 493 (lt-ltb (v .0) 24 (omega (arith, i .0))) (lt-ltb (p .primary .0) 25 (omega (arith, i .1))) (unfold is-mode in refl)) h
+
+begun-homes : (u : Setup) → is-setup u ≡ true → (k : ℕ) → k ≤ 16 → home-names k ≡ true → Begun (suc k) (homes u k)
+unfolding homes home-names
+begun-homes u g zero b h = begun-rep
+begun-homes u g (suc k) b h =
+    let v : Uid = record { 0 = k } in
+    let i = and-both (is-name (home-name v) && apart-from (home-name v) k) (home-names k) h in
+    let j = and-both (is-name (home-name v)) (apart-from (home-name v) k) (i .0) in
+    begun-home (suc k) v (person u v) (homes u k) (omega arith) (person-in-range u g v) (j .0) (unused-name u (home-name v) k (j .1)) (begun-homes u g k (omega arith) (i .1))
+
+-- the initial tree is well-formed
+pub initial-is-tree : (u : Setup) → is-setup u ≡ true → is-tree (initial-tree u) ≡ true
+unfolding initial-tree accounts
+initial-is-tree u g = begun-homes u g 16 (omega arith) all-home-names .0

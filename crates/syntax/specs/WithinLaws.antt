@@ -1,0 +1,56 @@
+-- A path that is another or lies below it, name by name: what the test `within` says.
+use mathlib.Core.Path.{_≡_, refl, ap₂}
+use mathlib.Core.Bool.{true, false, or-true}
+use Rattle.accounts.specs.Cases.{case, and-both, contra}
+use Rattle.syntax.specs.Text.{same-text}
+use Rattle.syntax.specs.TextLaws.{same-text-refl, same-text-sound}
+use Rattle.syntax.specs.Path.{Name, Path, root, _▹_, same-path, within}
+
+-- the paths that are p or lie below it
+pub data Lies (p : Path) : Path → Type 0 where
+  itself : Lies p p
+  deeper : {q : Path} {n : Name} → Lies p q → Lies p (q ▹ n)
+
+-- paths that are the same by the test are one path
+pub same-path-sound : (p q : Path) → same-path p q ≡ true → p ≡ q
+unfolding same-path
+same-path-sound root root e = refl
+same-path-sound root (q ▹ m) e = cc
+same-path-sound (p ▹ n) root e = cc
+same-path-sound (p ▹ n) (q ▹ m) e =
+    let h = and-both (same-text n m) (same-path p q) e in
+    ap₂ _▹_ (same-path-sound p q (h .1)) (same-text-sound n m (h .0))
+
+-- and one path is the same
+pub same-path-refl : (p : Path) → same-path p p ≡ true
+unfolding same-path
+same-path-refl root = refl
+same-path-refl (p ▹ n) = rw (same-text-refl n) (same-path-refl p)
+
+-- what the test finds within p lies there
+pub lies : (p q : Path) → within p q ≡ true → Lies p q
+unfolding within
+lies p root e = rw (same-path-sound p root e) itself
+lies p (q ▹ n) e = case (same-path p (q ▹ n))
+    (λ t. rw (same-path-sound p (q ▹ n) t) itself)
+    (λ t. deeper (lies p q (rw t at e)))
+
+within-self : (p : Path) → within p p ≡ true
+unfolding within
+within-self root = same-path-refl root
+within-self (p ▹ n) = rw (same-path-refl (p ▹ n))
+
+-- and what lies there the test finds
+pub lies-within : {p q : Path} → Lies p q → within p q ≡ true
+unfolding within
+lies-within {p} itself = within-self p
+lies-within {p} (deeper {q = q} {n = n} l) = rw (lies-within l) (or-true (same-path p (q ▹ n)))
+
+-- what the test finds outside p does not lie within it
+pub lies-outside : {P : Type 0} {p q : Path} → within p q ≡ false → Lies p q → P
+lies-outside e l = contra (lies-within l) e
+
+-- every path lies below `/`
+pub lies-top : (q : Path) → Lies root q
+lies-top root = itself
+lies-top (q ▹ n) = deeper (lies-top q)

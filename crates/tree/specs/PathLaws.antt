@@ -1,0 +1,217 @@
+-- What stands at a path after a change at another, and where a walk does not lead: a judge that does not pass a directory
+-- leads nowhere below it.
+use mathlib.Core.Path.{_≡_, refl, sym, _∙_, ap}
+use mathlib.Core.Option.{none, some}
+use mathlib.Core.Bool.{Bool, true, false}
+use mathlib.Core.Logic.{_⊎_, inl, inr, ⊎-elim}
+use Rattle.accounts.specs.Cases.{case, contra}
+use Rattle.syntax.specs.Text.{same-text}
+use Rattle.syntax.specs.TextLaws.{same-text-sound}
+use Rattle.syntax.specs.Path.{Name, Path, root, _▹_, same-path, within}
+use Rattle.syntax.specs.WithinLaws.{Lies, itself, deeper, same-path-sound, same-path-refl, lies, lies-outside, lies-top}
+use Rattle.syntax.specs.Form.{_>>=_}
+use Rattle.syntax.specs.FormLaws.{no-answer, answered}
+use Rattle.tree.specs.Result.{refused, done, _>>_, require}
+use Rattle.tree.specs.ResultLaws.{done-then, refused-then, done-bind, refused-bind}
+use Rattle.tree.specs.Forest.{Forest, nil, node, Place, get, is-empty, at, under, update, place-at, alter, put, drop}
+use Rattle.tree.specs.ForestLaws.{get-at, get-at-other, get-insert, get-insert-other, get-remove-other}
+use Rattle.tree.specs.Node.{is-directory, Node}
+use Rattle.tree.specs.Walk.{Judge, enter, walk}
+use Rattle.tree.specs.StepLaws.{look-some, walked, entered, enters, walk-root, walk-step}
+use Rattle.tree.specs.WellFormed.{is-tree}
+use Rattle.tree.specs.UpdateLaws.{by-option, at-top, at-child, child-at, walked-at, update-none}
+use Rattle.tree.specs.WellFormedLaws.{place-parts, tree-parts, place-below}
+
+get-empty : {A : Type 0} (n : Name) (F : Forest A) → is-empty F ≡ true → get n F ≡ none
+unfolding get is-empty
+get-empty n nil e = refl
+get-empty n (node m x cs rest) e = contra {b = false} e refl
+
+module _ {A : Type 0} (t : Place A) where
+  -- ---- a place at, above and beside a change
+
+  -- above a place there are places
+  above-at : {p q : Path} → Lies p q → (d : Place A) → place-at t q ≡ some d → (c : Place A) × (place-at t p ≡ some c)
+  above-at itself d e = (d, e)
+  above-at (deeper {q = q} {n = n} l) d e = let i = child-at t q n d e in above-at l (i .0) (i .1)
+
+  -- no place lies below one without children
+  empty-below : {a p : Path} → Lies a p → (x : Place A) → place-at t a ≡ some x → is-empty (x .below) ≡ true
+      → (d : Place A) → place-at t p ≡ some d → is-empty (d .below) ≡ true
+  empty-below itself x h z d e = rw (answered (sym h ∙ e)) z
+  empty-below (deeper {q = q} {n = n} l) x h z d e =
+      let i = child-at t q n d e in
+      no-answer (sym (get-empty n (i .0 .below) (empty-below l x h z (i .0) (i .1))) ∙ i .2)
+
+  -- the place changed
+  changed-at : (q : Path) (f : Place A → Place A) (d : Place A) → place-at t q ≡ some d → place-at (update q f t) q ≡ some (f d)
+  unfolding update under place-at _>>=_
+  changed-at root f d e = rw (answered e)
+  changed-at (q ▹ n) f d e =
+      let i = child-at t q n d e in
+      at-child (update q (under (at n f)) t) q n _ (changed-at q (under (at n f)) (i .0) (i .1)) ∙ get-at n f (i .0 .below) d (i .2)
+
+  -- a place above a change stays a place
+  changed-some : {p q : Path} → Lies p q → (f : Place A → Place A) (c : Place A) → place-at t p ≡ some c
+      → (d : Place A) × (place-at (update q f t) p ≡ some d)
+  unfolding update
+  changed-some {p} itself f c e = (f c, changed-at p f c e)
+  changed-some (deeper {n = n} l) f c e = changed-some l (under (at n f)) c e
+
+  -- and none is made there
+  changed-none : {p q : Path} → Lies p q → (f : Place A → Place A) → place-at t p ≡ none → place-at (update q f t) p ≡ none
+  unfolding update
+  changed-none {p} itself f e = rw (update-none t p f e) e
+  changed-none (deeper {n = n} l) f e = changed-none l (under (at n f)) e
+
+  -- a child beside a change further down
+  child-kept : {p q : Path} → Lies p q → (m : Name) (f : Place A → Place A) (c : Place A) → place-at t p ≡ some c → (Lies (p ▹ m) q → ⊥)
+      → (q ≡ p → get m (f c .below) ≡ get m (c .below)) → place-at (update q f t) (p ▹ m) ≡ place-at t (p ▹ m)
+  unfolding update under
+  child-kept {p} itself m f c e off h = at-child (update p f t) p m (f c) (changed-at p f c e) ∙ h refl ∙ sym (at-child t p m c e)
+  child-kept {p} (deeper {q = q} {n = n} l) m f c e off h = child-kept l m (under (at n f)) c e (λ k. off (deeper k))
+      (λ s. get-at-other n f m (c .below) (case (same-text m n)
+      (λ i. absurd (off (rw (s, same-text-sound m n i) itself)))
+      (λ i. i)))
+
+  -- a path beside a change, or below one that leaves the child on the way to it
+  kept : (q : Path) (f : Place A → Place A) (p : Path) → (Lies p q → ⊥)
+      → ((e : Place A) (m : Name) → place-at t q ≡ some e → Lies (q ▹ m) p → get m (f e .below) ≡ get m (e .below))
+      → place-at (update q f t) p ≡ place-at t p
+  unfolding place-at _>>=_
+  kept q f root off h = absurd (off (lies-top q))
+  kept q f (p ▹ m) off h = case (within p q)
+      (λ i. by-option (place-at t p)
+      (λ e. rw (e, changed-none (lies p q i) f e))
+      (λ c e. child-kept (lies p q i) m f c e off (λ s. h c m (rw s e) (rw s itself))))
+      (λ i. rw (kept q f p (lies-outside i) (λ e k a l. h e k a (deeper l))))
+
+  drop-same : (p q : Path) (n : Name) → within p q ≡ false → within (q ▹ n) p ≡ false → place-at (update q (drop n) t) p ≡ place-at t p
+  unfolding drop under
+  drop-same p q n b o = kept q (drop n) p (lies-outside b) (λ e m a l. get-remove-other n m
+      (case (same-text m n) (λ i. lies-outside o (rw (same-text-sound m n i) at l)) (λ i. i)) (e .below))
+
+  -- ---- the changes: a place at p stays where a change at q is neither at p nor below it
+
+  -- a payload altered
+  pub alter-keeps : (p : Path) (d : Place A) (q : Path) (g : A → A) → place-at t p ≡ some d → within p q ≡ false
+      → place-at (update q (alter g) t) p ≡ some d
+  unfolding alter
+  alter-keeps p d q g h b = kept q (alter g) p (lies-outside b) (λ e m a l. refl) ∙ h
+
+  -- a child put in
+  pub put-keeps : (p : Path) (d : Place A) (q : Path) (n : Name) (x : Place A) → place-at t p ≡ some d → within p q ≡ false
+      → place-at t (q ▹ n) ≡ none → place-at (update q (put n x) t) p ≡ some d
+  unfolding put under
+  put-keeps p d q n x h b z = kept q (put n x) p (lies-outside b) (λ e m a l. get-insert-other n x m
+      (case (same-text m n) (λ i. no-answer (sym z ∙ above-at (rw (same-text-sound m n i) at l) d h .1)) (λ i. i)) (e .below)) ∙ h
+
+  -- a child taken out that does not lead to p
+  pub drop-keeps : (p : Path) (d : Place A) (q : Path) (n : Name) → place-at t p ≡ some d → within p q ≡ false → within (q ▹ n) p ≡ false
+      → place-at (update q (drop n) t) p ≡ some d
+  drop-keeps p d q n h b o = drop-same p q n b o ∙ h
+
+  -- a child taken out that has nothing below it: it is not above p, and p only if nothing is below that
+  pub drop-empty-keeps : (p : Path) (d : Place A) (q : Path) (n : Name) (x : Place A) → place-at t p ≡ some d → within p q ≡ false
+      → place-at t (q ▹ n) ≡ some x → is-empty (x .below) ≡ true → (is-empty (d .below) ≡ true) ⊎ (place-at (update q (drop n) t) p ≡ some d)
+  drop-empty-keeps p d q n x h b a z = case (within (q ▹ n) p)
+      (λ i. inl (empty-below (lies (q ▹ n) p i) x a z d h))
+      (λ i. inr (drop-keeps p d q n h b i))
+
+  -- a child put in stands at its name
+  pub put-stands : (q : Path) (e : Place A) (n : Name) (x : Place A) → place-at t q ≡ some e → place-at t (q ▹ n) ≡ none
+      → place-at (update q (put n x) t) (q ▹ n) ≡ some x
+  unfolding put under
+  put-stands q e n x h z = at-child (update q (put n x) t) q n (put n x e) (changed-at q (put n x) e h) ∙ get-insert n x (e .below) (sym (at-child t q n e h) ∙ z)
+
+-- what lies below a place lies below that place elsewhere
+below-elsewhere : {A : Type 0} (t s : Place A) (x : Place A) (b : Path) {a p : Path} → Lies a p → place-at t a ≡ some x → place-at s b ≡ some x
+    → (d : Place A) → place-at t p ≡ some d → (r : Path) × (place-at s r ≡ some d)
+below-elsewhere t s x b itself h k d e = (b, k ∙ sym h ∙ e)
+below-elsewhere t s x b (deeper {q = q} {n = n} l) h k d e =
+    let i = child-at t q n d e in
+    let r = below-elsewhere t s x b l h k (i .0) (i .1) in
+    (r .0 ▹ n, at-child s (r .0) n (i .0) (r .1) ∙ i .2)
+
+module _ {A : Type 0} (t : Place A) where
+  drop-none : (p q : Path) (n : Name) → within (q ▹ n) p ≡ false → place-at t p ≡ none → place-at (update q (drop n) t) p ≡ none
+  drop-none p q n o e = case (within p q)
+      (λ i. changed-none t (lies p q i) (drop n) e)
+      (λ i. drop-same t p q n i o ∙ e)
+
+  drop-some : (p : Path) (d : Place A) (q : Path) (n : Name) → within (q ▹ n) p ≡ false → place-at t p ≡ some d
+      → (c : Place A) × (place-at (update q (drop n) t) p ≡ some c)
+  drop-some p d q n o e = case (within p q)
+      (λ i. changed-some t (lies p q i) (drop n) d e)
+      (λ i. (d, drop-same t p q n i o ∙ e))
+
+  -- a child moved: a place at p stays, or stands below the child where that was put
+  pub move-keeps : (p : Path) (d : Place A) (q : Path) (n : Name) (x : Place A) (r : Path) (f : Place A) (k : Name) → place-at t p ≡ some d
+      → within p q ≡ false → within p r ≡ false → place-at t (q ▹ n) ≡ some x → place-at t r ≡ some f → place-at t (r ▹ k) ≡ none → within (q ▹ n) (r ▹ k) ≡ false
+      → (s : Path) × (place-at (update r (put k x) (update q (drop n) t)) s ≡ some d)
+  move-keeps p d q n x r f k h b c a e z o =
+      let s = update q (drop n) t in
+      let y = drop-none (r ▹ k) q n o z in
+      case (within (q ▹ n) p)
+      (λ i.
+      let g = drop-some r f q n (case (within (q ▹ n) r) (λ l. lies-outside o (deeper (lies (q ▹ n) r l))) (λ l. l)) e in
+      below-elsewhere t (update r (put k x) s) x (r ▹ k) (lies (q ▹ n) p i) a (put-stands s r (g .0) k x (g .1) y) d h)
+      (λ i. (p, put-keeps s p d r k x (drop-keeps t p d q n h b i) c y))
+
+-- ---- walks
+
+module _ {A : Type 0} (j : Judge A) (t : Place A) (p : Path) (d : Place A) (there : place-at t p ≡ some d) (shut : j .passes (d .here) ≡ false) where
+  shut-below : {q : Path} → Lies p q → (e : Place A) → walk j t q ≡ done e → q ≡ p
+  shut-below itself e w = refl
+  shut-below (deeper {q = q} {n = n} l) e w =
+      let i = walked j t q n w in
+      let s : place-at t p ≡ some (i .0) = rw (← shut-below l (i .0) (i .1)) (walked-at t j q (i .0) (i .1)) in
+      contra (entered j (i .0 .here) (i .2) .1) (rw (answered (sym there ∙ s)) shut)
+
+  -- a walk that may not pass the directory at p leads nowhere below it, nor there if the place passes a test that the directory does not
+  pub walk-outside : (q : Path) (e : Place A) → walk j t q ≡ done e → (T : A → Bool) → T (d .here) ≡ false → T (e .here) ≡ true → within p q ≡ false
+  walk-outside q e w T a b = case (within p q)
+      (λ i.
+      let s : place-at t p ≡ some e = rw (← shut-below (lies p q i) e w) (walked-at t j q e w) in
+      contra b (rw (answered (sym there ∙ s)) a))
+      (λ i. i)
+
+enter-shut : {A : Type 0} (j : Judge A) (a : A) → is-directory (j .kind a) ≡ true → j .passes a ≡ false → enter j a ≡ refused 5
+unfolding enter require _>>_
+enter-shut j a k b = rw (k, b)
+
+module _ (j : Judge Node) (kinds : (n : Node) → j .kind n ≡ n .kind) (t : Place Node) (whole : is-tree t ≡ true) where
+  -- what has a child is a directory
+  parent-directory : (p : Path) (c : Place Node) (n : Name) (d : Place Node) → place-at t p ≡ some c → get n (c .below) ≡ some d → is-directory (j .kind (c .here)) ≡ true
+  parent-directory p c n d h e = rw (kinds (c .here)) (case (is-directory (c .here .kind))
+      (λ k. k)
+      (λ k. no-answer (sym (get-empty n (c .below) (place-parts c (place-below t p c (tree-parts t whole .whole) h) .childless k)) ∙ e)))
+
+  -- a walk to a place leads there or is refused for want of x
+  walk-to : (p : Path) (d : Place Node) → place-at t p ≡ some d → (walk j t p ≡ done d) ⊎ (walk j t p ≡ refused 5)
+  walk-to root d e = inl (walk-root j t ∙ ap done (answered (sym e ∙ at-top t)))
+  walk-to (p ▹ n) d e =
+      let i = child-at t p n d e in
+      let k = parent-directory p (i .0) n d (i .1) (i .2) in
+      rw (walk-step j t p n) (⊎-elim
+      (λ (w : walk j t p ≡ done (i .0)). case (j .passes (i .0 .here))
+      (λ b. inl (rw (w, done-bind, enters j (i .0 .here) k b, done-then) (look-some n (i .0 .below) (i .2))))
+      (λ b. inr (rw (w, done-bind, enter-shut j (i .0 .here) k b, refused-then))))
+      (λ (w : walk j t p ≡ refused 5). inr (rw (w, refused-bind)))
+      (walk-to p (i .0) (i .1)))
+
+  -- a walk through a directory that may not be passed is refused for want of x
+  walk-below : (p : Path) (d : Place Node) → place-at t p ≡ some d → is-directory (d .here .kind) ≡ true → j .passes (d .here) ≡ false
+      → {q : Path} → Lies p q → same-path p q ≡ false → walk j t q ≡ refused 5
+  walk-below p d h k b itself o = contra (same-path-refl p) o
+  walk-below p d h k b (deeper {q = q} {n = n} l) o = rw (walk-step j t q n) (case (same-path p q)
+      (λ i. rw (← same-path-sound p q i) (⊎-elim
+      (λ (w : walk j t p ≡ done d). rw (w, done-bind, enter-shut j (d .here) (ap is-directory (kinds (d .here)) ∙ k) b, refused-then))
+      (λ (w : walk j t p ≡ refused 5). rw (w, refused-bind))
+      (walk-to p d h)))
+      (λ i. rw (walk-below p d h k b l i, refused-bind)))
+
+  -- so is the walk to every path below it
+  pub walk-shut : (p : Path) (d : Place Node) → place-at t p ≡ some d → is-directory (d .here .kind) ≡ true → j .passes (d .here) ≡ false
+      → (q : Path) → within p q ≡ true → same-path p q ≡ false → walk j t q ≡ refused 5
+  walk-shut p d h k b q i o = walk-below p d h k b (lies p q i) o
