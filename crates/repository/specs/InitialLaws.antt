@@ -17,7 +17,7 @@ use Rattle.tree.specs.declared.Kind.the-variants.{Directory}
 use Rattle.tree.specs.Forest.{Forest, nil, node, Place, get, insert, leaf, size}
 use Rattle.tree.specs.ForestLaws.{get-nil, insert-nil, get-insert-other, size-insert}
 use Rattle.tree.specs.Node.{Node}
-use Rattle.tree.specs.WellFormed.{is-node, is-tree}
+use Rattle.tree.specs.WellFormed.{nodes, is-node, is-tree}
 use Rattle.tree.specs.JudgeLaws.{directory-is-one}
 use Rattle.tree.specs.PlaceLaws.{leaf-here, leaf-below, leaf-size, nodes-below}
 use Rattle.tree.specs.UpdateLaws.{leaf-height}
@@ -111,3 +111,8 @@ begun-homes u g (suc k) b h =
 pub initial-is-tree : (u : Setup) → is-setup u ≡ true → is-tree (initial-tree u) ≡ true
 unfolding initial-tree accounts
 initial-is-tree u g = begun-homes u g 16 (omega arith) all-home-names .0
+
+-- and has at most 18 nodes
+pub initial-few : (u : Setup) → is-setup u ≡ true → nodes (initial-tree u) ≤ 18
+unfolding initial-tree accounts
+initial-few u g = omega (arith, nodes-below (initial-tree u), begun-homes u g 16 (omega arith) all-home-names .1)

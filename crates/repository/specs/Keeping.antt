@@ -50,7 +50,7 @@ use Rattle.repository.specs.Copies.{entry-fits, copy-is-place}
 use Rattle.repository.specs.InitialLaws.{initial-is-tree}
 
 -- a state with its parts well-formed is well-formed
-formed : (u : Setup) → is-setup u ≡ true → (s : Store) → length (s .sessions) ≡ 16 → is-tree (s .tree) ≡ true → well-formed (record { setup = u; store = s }) ≡ true
+pub formed : (u : Setup) → is-setup u ≡ true → (s : Store) → length (s .sessions) ≡ 16 → is-tree (s .tree) ≡ true → well-formed (record { setup = u; store = s }) ≡ true
 unfolding well-formed accounts
 formed u g s n t = rw (g, eq-eqb (length (s .sessions)) 16 n) t
 

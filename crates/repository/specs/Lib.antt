@@ -14,10 +14,11 @@ pub mod BytesLaws
 pub mod Observed
 pub mod Judges
 pub mod Callers
-pub mod Simulation
-pub mod Lists
 pub mod Copies
 pub mod InitialLaws
 pub mod Keeping
+pub mod Simulation
+pub mod Lists
+pub mod Reading
 pub mod Privacy
 pub mod Example

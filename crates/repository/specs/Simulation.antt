@@ -80,7 +80,7 @@ people-tie : {s : Store} {h : Abstract} → Tie s h → (p : Path) → Outside p
 people-tie t p o f = workspace-tie t (update-beside (beside t) p o f)
 
 -- changes of the entries in both
-entries-tie : {s : Store} {h : Abstract} → Tie s h → (p : Path) (g : Place Node → Place Node) (k : Place Entry → Place Entry)
+pub entries-tie : {s : Store} {h : Abstract} → Tie s h → (p : Path) (g : Place Node → Place Node) (k : Place Entry → Place Entry)
     → ((d : Place Entry) → g (map-place in-store d) ≡ map-place in-store (k d)) → update p k (h .entries) .here ≡ h .entries .here
     → Tie (store .on-entries (update (in-rep p) g) s) (abstract .on-entries (update p k) h)
 unfolding embed whole
@@ -98,7 +98,7 @@ sessions-tie t z = record {
 }
 
 -- a new entry put into both
-put-entry : (n : Name) (kind : Kind) (z : Bounded-role) (content : Text) (d : Place Entry) →
+pub put-entry : (n : Name) (kind : Kind) (z : Bounded-role) (content : Text) (d : Place Entry) →
     put n (leaf (store .entry kind z content)) (map-place in-store d) ≡ map-place in-store (put n (leaf (abstract .entry kind z content)) d)
 put-entry n kind z content d =
     let e = abstract .entry kind z content in
@@ -142,7 +142,7 @@ module _ (u : Setup) (z : Bounded-role) where
         rw (k .top) (enters (store .judge u z) top-node (rw (kind-by-modes a top-node) (t .0)) (rw (passes-by-modes a top-node) (t .1)))
 
     -- it walks to the same entry in both
-    account-walk : (p : Path) → Agree (λ d e. d ≡ map-place in-store e) (walk (store .judge u z) (embed h .tree) (in-rep p)) (walk (abstract .judge u z) (h .entries) p)
+    pub account-walk : (p : Path) → Agree (λ d e. d ≡ map-place in-store e) (walk (store .judge u z) (embed h .tree) (in-rep p)) (walk (abstract .judge u z) (h .entries) p)
     unfolding embed whole
     account-walk p =
         rw (walk-inside (store .judge u z) (filed h) (h .workspace) top-entered (k .there) p)

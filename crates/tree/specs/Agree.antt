@@ -4,6 +4,7 @@ use mathlib.Core.Path.{_≡_, refl}
 use mathlib.Core.Bool.{Bool, true, false}
 use Prim.Native.Nat.{ℕ}
 use Rattle.tree.specs.Result.{Result, refused, done, _>>=_, _>>_, require}
+use Rattle.tree.specs.ResultLaws.{not-done}
 
 -- ---- two outcomes
 
@@ -16,6 +17,16 @@ pub data Agree {X Y : Type 0} (R : X → Y → Type 0) : Result X → Result Y �
 pub itself : {X : Type 0} {R : X → X → Type 0} (a : Result X) → ((x : X) → a ≡ done x → R x x) → Agree R a a
 itself (refused n) k = refusal n
 itself (done x) k = both (k x refl)
+
+-- where the first is done, so is the other, with something related
+pub done-first : {X Y : Type 0} {R : X → Y → Type 0} {a : Result X} {b : Result Y} → Agree R a b → {x : X} → a ≡ done x → (y : Y) × (b ≡ done y) × R x y
+done-first (refusal n) e = not-done e
+done-first (both {x = x} {y = y} r) {x = v} e = let q : v ≡ x = cc in (y, refl, rw q r)
+
+-- and the other way round
+pub done-second : {X Y : Type 0} {R : X → Y → Type 0} {a : Result X} {b : Result Y} → Agree R a b → {y : Y} → b ≡ done y → (x : X) × (a ≡ done x) × R x y
+done-second (refusal n) e = not-done e
+done-second (both {x = x} {y = y} r) {y = v} e = let q : v ≡ y = cc in (x, refl, rw q r)
 
 -- steps that agree, each followed by steps that agree on what is related
 pub bind : {X Y C D : Type 0} {R : X → Y → Type 0} {Q : C → D → Type 0} {a : Result X} {b : Result Y} {f : X → Result C} {g : Y → Result D}

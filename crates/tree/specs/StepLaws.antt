@@ -4,7 +4,7 @@ use mathlib.Core.Option.{none, some}
 use mathlib.Core.Bool.{true}
 use Rattle.syntax.specs.Path.{Name, Path, root, _▹_, parent}
 use Rattle.tree.specs.Result.{done, _>>=_, _>>_, require, present, absent}
-use Rattle.tree.specs.ResultLaws.{present-some, was-absent, required, bind-done, then-done}
+use Rattle.tree.specs.ResultLaws.{present-some, was-absent, required, bind-done, then-done, done-then, done-bind}
 use Rattle.tree.specs.Forest.{Forest, Place, get}
 use Rattle.tree.specs.Node.{is-directory}
 use Rattle.tree.specs.Walk.{Judge, look, unused, enter, walk, parent-walk}
@@ -62,6 +62,10 @@ module _ {A : Type 0} where
           let v = then-done (enter j (w .0 .here)) (look n (w .0 .below)) (w .2) in
           (w .0, w .1, v .0, looked n (w .0 .below) (v .1))
 
+      -- a walk goes on to a child of what it led to and may enter
+      pub walks-on : (p : Path) (n : Name) {c d : Place A} → walk j t p ≡ done c → enter j (c .here) ≡ done tt → get n (c .below) ≡ some d → walk j t (p ▹ n) ≡ done d
+      walks-on p n {c} i e g = rw (walk-step p n, i, done-bind c (λ x. enter j (x .here) >> look n (x .below)), e, done-then (look n (c .below))) (look-some n (c .below) g)
+
       -- a walk to the parent that is done led there and entered it
       pub parent-walked : (p : Path) {d : Place A} → parent-walk j t p ≡ done d → (walk j t (parent p) ≡ done d) × (enter j (d .here) ≡ done tt)
       unfolding parent-walk
@@ -70,3 +74,13 @@ module _ {A : Type 0} where
           let v = then-done (enter j (w .0 .here)) (done (w .0)) (w .2) in
           let q : d ≡ w .0 = cc (v .1) in
           rw q (w .1, v .0)
+
+  -- a judge that lets pass no less leads wherever another does
+  pub walk-more : (j k : Judge A) → ((a : A) → k .kind a ≡ j .kind a) → ((a : A) → j .passes a ≡ true → k .passes a ≡ true)
+      → (t : Place A) (p : Path) (d : Place A) → walk j t p ≡ done d → walk k t p ≡ done d
+  walk-more j k kinds more t root d e = walk-root k t ∙ sym (walk-root j t) ∙ e
+  walk-more j k kinds more t (p ▹ n) d e =
+      let w = walked j t p n e in
+      let a = w .0 .here in
+      let v = entered j a (w .2) in
+      walks-on k t p n (walk-more j k kinds more t p (w .0) (w .1)) (enters k a (rw (kinds a) (v .0)) (more a (v .1))) (w .3)

@@ -1,0 +1,234 @@
+-- A role dominates another just if its account may read every entry that the other's account may, and more pairs take no
+-- permission away.
+use mathlib.Core.Path.{_≡_, refl, sym, _∙_, ap}
+use mathlib.Core.List.{List, [], _∷_}
+use mathlib.Core.Option.{Option, none, some}
+use mathlib.Core.Bool.{true, _&&_}
+use Prim.Native.Nat.{_≤_}
+use native.Mathlib.Omega.{arith}
+use borrow.Author.Tests.{ltb-true}
+use lib.Dec.{ltb}
+use Rattle.accounts.specs.declared.Role.{Role}
+use Rattle.accounts.specs.declared.Pair.{Pair}
+use Rattle.accounts.specs.Cases.{and-both}
+use Rattle.accounts.specs.Dominance.{Bounded-role, Listed, Dominates, self, down, Falling, falls, all-fall, all-fall-is, dominates-is, dominates-self, dominates-trans}
+use Rattle.syntax.specs.Text.{bytes, every}
+use Rattle.syntax.specs.Path.{Name, Path, root, _▹_, depth, rep, in-rep, name-byte, is-name}
+use Rattle.syntax.specs.Field.{content-limit, is-content}
+use Rattle.syntax.specs.Setup.{Setup, is-pair, is-setup}
+use Rattle.syntax.specs.SetupLaws.{apart}
+use Rattle.tree.specs.declared.Kind.{Kind}
+use Rattle.tree.specs.declared.Kind.the-variants.{File}
+use Rattle.tree.specs.Result.{done}
+use Rattle.tree.specs.Agree.{done-first, done-second}
+use Rattle.tree.specs.Forest.{nil, Place, get, update, put, leaf, map-place}
+use Rattle.tree.specs.Node.{is-directory, Node}
+use Rattle.tree.specs.Walk.{enter, walk}
+use Rattle.tree.specs.StepLaws.{walk-root, walks-on, walk-more, enters}
+use Rattle.tree.specs.JudgeLaws.{directory-is-one}
+use Rattle.tree.specs.ForestLaws.{get-nil, get-insert}
+use Rattle.tree.specs.PlaceLaws.{leaf-here, leaf-below, leaf-size, put-below, update-root, update-put-here}
+use Rattle.tree.specs.UpdateLaws.{leaf-height}
+use Rattle.tree.specs.WellFormedLaws.{leaf-place}
+use Rattle.tree.specs.ChangeLaws.{keep-put}
+use Rattle.tree.specs.MapLaws.{map-nil, map-here, map-below}
+use Rattle.repository.specs.Initial.{directory-of, rep-node}
+use Rattle.repository.specs.Store.{Store, store, initial-store}
+use Rattle.repository.specs.Abstract.{Entry, Abstract, dominated, role-passes, role-readable, role-writable, by-dominance, abstract, rep-entry, initial-abstract, in-store, embed}
+use Rattle.repository.specs.Encoding.{well-formed}
+use Rattle.repository.specs.EncodingLaws.{parts}
+use Rattle.repository.specs.Judges.{passes-law, readable-law, writable-law}
+use Rattle.repository.specs.Copies.{entry-fits}
+use Rattle.repository.specs.InitialLaws.{initial-few}
+use Rattle.repository.specs.Keeping.{formed, initial-well-formed}
+use Rattle.repository.specs.Simulation.{Kept, Tie, entries-tie, put-entry, rep-stands, account-walk}
+use Rattle.repository.specs.Lists.{initial-tie}
+
+-- the account of a role walks from `/` to the entry at a path below `/rep`, and may read it
+pub record May-read (u : Setup) (z : Bounded-role) (s : Store) (p : Path) (d : Place Node) : Type 0 where
+  pub walks : walk (store .judge u z) (s .tree) (in-rep p) ≡ done d
+  pub reads : store .judge u z .readable (d .here) ≡ true
+
+-- in every well-formed store that an abstract machine stands for, the first role's account may read what the second's may
+abbrev pub Reads-all : Setup → Bounded-role → Bounded-role → Type 0
+Reads-all u a b = (h : Abstract) → Kept h → well-formed (record { setup = u; store = embed h }) ≡ true
+    → (p : Path) (d : Place Node) → May-read u b (embed h) p d → May-read u a (embed h) p d
+
+-- every pair of the one is a pair of the other
+unfoldable pub More-pairs : Setup → Setup → Type 0
+More-pairs u u′ = (s j : Role) → Listed s j (u .pairs) → Listed s j (u′ .pairs)
+
+-- ---- dominance
+
+all-pairs-fall : (ps : List Pair) → every is-pair ps ≡ true → all-fall ps ≡ true
+unfolding every is-pair all-fall
+all-pairs-fall [] h = refl
+all-pairs-fall (p ∷ ps) h =
+    let a = and-both (is-pair p) (every is-pair ps) h in
+    rw (and-both (falls p) (ltb (p .junior .0) 8) (a .0) .0) (all-pairs-fall ps (a .1))
+
+-- the pairs of a setup in range lead down
+pub setup-falls : (u : Setup) → is-setup u ≡ true → Falling (u .pairs)
+setup-falls u s = all-fall-is (u .pairs) (all-pairs-fall (u .pairs) (apart u s .all-pairs))
+
+role-bound : (z : Bounded-role) → z .role .0 ≤ 7
+role-bound z = omega (arith, ltb-true (z .role .0) 8 (z .bound))
+
+wider : {ps qs : List Pair} → ((s j : Role) → Listed s j ps → Listed s j qs) → {s r : Role} → Dominates ps s r → Dominates qs s r
+wider more self = self
+wider more (down {s = s} {j = j} l d) = down (more s j l) (wider more d)
+
+-- what a role dominates by some pairs it dominates by more
+pub more-dominates : (u u′ : Setup) → is-setup u ≡ true → is-setup u′ ≡ true → More-pairs u u′
+    → (a b : Bounded-role) → dominated u a b ≡ true → dominated u′ a b ≡ true
+unfolding More-pairs dominated
+more-dominates u u′ s s′ more a b d =
+    dominates-is (u′ .pairs) (setup-falls u′ s′) (a .role) (b .role) (role-bound b) .1
+    (wider more (dominates-is (u .pairs) (setup-falls u s) (a .role) (b .role) (role-bound b) .0 d))
+
+-- ---- judges
+
+module _ (u u′ : Setup) (a a′ : Bounded-role) (more : (r : Bounded-role) → dominated u a r ≡ true → dominated u′ a′ r ≡ true) where
+  directory-more : (k : Kind) (r : Bounded-role) → (is-directory k && dominated u a r) ≡ true → (is-directory k && dominated u′ a′ r) ≡ true
+  directory-more k r h = let w = and-both (is-directory k) (dominated u a r) h in rw (w .0) (more r (w .1))
+
+  role-passes-more : (k : Kind) (v : Option Bounded-role) → role-passes u a k v ≡ true → role-passes u′ a′ k v ≡ true
+  unfolding role-passes
+  role-passes-more k none h = h
+  role-passes-more k (some r) h = directory-more k r h
+
+  role-readable-more : (v : Option Bounded-role) → role-readable u a v ≡ true → role-readable u′ a′ v ≡ true
+  unfolding role-readable
+  role-readable-more none h = h
+  role-readable-more (some r) h = more r h
+
+  passes-more : (x : Entry) → by-dominance u a .passes x ≡ true → by-dominance u′ a′ .passes x ≡ true
+  unfolding by-dominance
+  passes-more x h = role-passes-more (x .kind) (x .role) h
+
+  readable-more : (x : Entry) → store .judge u a .readable (in-store x) ≡ true → store .judge u′ a′ .readable (in-store x) ≡ true
+  unfolding by-dominance
+  readable-more x h = rw (readable-law u′ a′ x) (role-readable-more (x .role) (rw (readable-law u a x) at h))
+
+  kind-same : (x : Entry) → by-dominance u′ a′ .kind x ≡ by-dominance u a .kind x
+  unfolding by-dominance
+  kind-same x = refl
+
+  -- who dominates no less may read no less
+  reads-more : (h : Abstract) → Kept h → (p : Path) (d : Place Node) → May-read u a (embed h) p d → May-read u′ a′ (embed h) p d
+  reads-more h k p d m =
+      let w = done-first (account-walk u a h k p) (m .walks) in
+      let e = w .0 in
+      let v = done-second (account-walk u′ a′ h k p) (walk-more (by-dominance u a) (by-dominance u′ a′) kind-same passes-more (h .entries) p e (w .1)) in
+      let q : d ≡ map-place in-store e = w .2 in
+      let here : d .here ≡ in-store (e .here) = ap (λ x. x .here) q ∙ map-here in-store e in
+      record {
+        walks = v .1 ∙ ap done (v .2 ∙ sym q);
+        reads = rw here (readable-more (e .here) (rw here at (m .reads)));
+      }
+
+role-writable-more : (u u′ : Setup) (z : Bounded-role) → ((r : Bounded-role) → dominated u z r ≡ true → dominated u′ z r ≡ true)
+    → (k : Kind) (v : Option Bounded-role) → role-writable u z k v ≡ true → role-writable u′ z k v ≡ true
+unfolding role-writable
+role-writable-more u u′ z more k none h = h
+role-writable-more u u′ z more k (some r) h = directory-more u u′ z z more k r h
+
+-- ---- more pairs
+
+module _ (u u′ : Setup) (s : is-setup u ≡ true) (s′ : is-setup u′ ≡ true) (pairs : More-pairs u u′) (z : Bounded-role) where
+  module _ (x : Entry) where
+    -- more pairs take no entry's x away
+    pub more-passes : store .judge u z .passes (in-store x) ≡ true → store .judge u′ z .passes (in-store x) ≡ true
+    more-passes h = rw (passes-law u′ z x) (passes-more u u′ z z (more-dominates u u′ s s′ pairs z) x (rw (passes-law u z x) at h))
+
+    -- nor its being readable
+    pub more-readable : store .judge u z .readable (in-store x) ≡ true → store .judge u′ z .readable (in-store x) ≡ true
+    more-readable = readable-more u u′ z z (more-dominates u u′ s s′ pairs z) x
+
+    -- nor its being writable
+    pub more-writable : store .judge u z .writable (in-store x) ≡ true → store .judge u′ z .writable (in-store x) ≡ true
+    unfolding by-dominance
+    more-writable h = rw (writable-law u′ z x) (role-writable-more u u′ z (more-dominates u u′ s s′ pairs z) (x .kind) (x .role) (rw (writable-law u z x) at h))
+
+  -- nor an entry that may be read
+  pub more-may-read : (h : Abstract) → Kept h → (p : Path) (d : Place Node) → May-read u z (embed h) p d → May-read u′ z (embed h) p d
+  more-may-read = reads-more u u′ z z (more-dominates u u′ s s′ pairs z)
+
+-- ---- the witness: the initial state with one file of a role, named `x`, in `/rep`
+
+abbrev filed-name : Name
+filed-name = bytes "x"
+
+module _ (u : Setup) (b : Bounded-role) where
+  abbrev filed-entry : Entry
+  filed-entry = abstract .entry File b []
+
+  abbrev filed-node : Node
+  filed-node = store .entry File b []
+
+  witness : Abstract
+  witness = abstract .on-entries (update root (put filed-name (leaf filed-entry))) (initial-abstract u)
+
+  -- it stands for the initial store with the file put in
+  witness-tie : Tie (store .on-entries (update (in-rep root) (put filed-name (leaf filed-node))) (initial-store u)) witness
+  unfolding witness
+  witness-tie = entries-tie (initial-tie u) root (put filed-name (leaf filed-node)) (put filed-name (leaf filed-entry)) (put-entry filed-name File b [])
+      (update-put-here root filed-name (leaf filed-entry) (initial-abstract u .entries))
+
+  -- the file is there
+  witness-entry : get filed-name (witness .entries .below) ≡ some (leaf filed-entry)
+  unfolding witness initial-abstract
+  witness-entry =
+      let e = leaf filed-entry in
+      let d = leaf rep-entry in
+      rw (update-root (put filed-name e) d, put-below filed-name e d, leaf-below rep-entry) (get-insert filed-name e nil (get-nil filed-name))
+
+  -- who dominates the role may read it, and nobody else
+  witness-readable : (a : Bounded-role) → store .judge u a .readable (map-place in-store (leaf filed-entry) .here) ≡ dominated u a b
+  unfolding by-dominance role-readable
+  witness-readable a = rw (map-here in-store (leaf filed-entry), leaf-here filed-entry) (readable-law u a filed-entry)
+
+  -- the role's account may read it
+  witness-read : May-read u b (embed witness) (root ▹ filed-name) (map-place in-store (leaf filed-entry))
+  unfolding by-dominance role-passes rep-entry dominated
+  witness-read =
+      let j = by-dominance u b in
+      let k = witness-tie .kept in
+      let e : enter j (witness .entries .here) ≡ done tt = rw (k .rep-here) (enters j rep-entry directory-is-one refl) in
+      let w = walks-on j (witness .entries) root filed-name (walk-root j (witness .entries)) e witness-entry in
+      let v = done-second (account-walk u b witness k (root ▹ filed-name)) w in
+      record { walks = v .1 ∙ ap done (v .2); reads = witness-readable b ∙ dominates-self (u .pairs) (b .role) (b .role) refl }
+
+  -- its store is well-formed
+  witness-formed : is-setup u ≡ true → well-formed (record { setup = u; store = embed witness }) ≡ true
+  unfolding in-rep depth is-name name-byte every bytes is-content content-limit rep-node directory-of initial-abstract initial-store
+  witness-formed s =
+      let h = initial-abstract u in
+      let k = initial-tie u .kept in
+      let d = map-place in-store (h .entries) in
+      let i = parts (record { setup = u; store = initial-store u }) (initial-well-formed u s) in
+      let v = done-second (account-walk u b h k root) (walk-root (by-dominance u b) (h .entries)) in
+      let to : walk (store .judge u b) (initial-store u .tree) (root ▹ rep) ≡ done d = ap (λ t. walk (store .judge u b) (t .tree) (root ▹ rep)) (initial-tie u .same) ∙ v .1 ∙ ap done (v .2) in
+      rw (← witness-tie .same) (formed u s _ (i .1 .0)
+      (keep-put (store .judge u b) (initial-store u .tree) (root ▹ rep) d filed-name (leaf filed-node) (i .1 .1) to
+      (rw (rep-stands h k) directory-is-one) (rw (map-below in-store (h .entries), leaf-below rep-entry, map-nil in-store) (get-nil filed-name)) refl
+      (leaf-place filed-node (entry-fits File b [] refl λ _. refl)) (omega (arith, leaf-height filed-node)) (omega (arith, initial-few u s, leaf-size filed-node))))
+
+-- ---- dominance is reading
+
+module _ (u : Setup) (s : is-setup u ≡ true) (a b : Bounded-role) where
+  -- the account of a role may read what those of the roles that it dominates may
+  pub dominance-reads : dominated u a b ≡ true → (h : Abstract) → Kept h → (p : Path) (d : Place Node) → May-read u b (embed h) p d → May-read u a (embed h) p d
+  unfolding dominated
+  dominance-reads e = reads-more u u b a
+      (λ r i. dominates-trans (u .pairs) (setup-falls u s) (a .role) (b .role) (r .role) (role-bound b) (role-bound r) e i)
+
+  -- a role whose account may read all that another's may dominates the other
+  pub reading-dominates : Reads-all u a b → dominated u a b ≡ true
+  reading-dominates all =
+      let d = map-place in-store (leaf (filed-entry u b)) in
+      sym (witness-readable u b a) ∙ all (witness u b) (witness-tie u b .kept) (witness-formed u b s) (root ▹ filed-name) d (witness-read u b) .reads
+
+  -- so dominance is reading
+  pub dominance-is-reading : (dominated u a b ≡ true → Reads-all u a b) × (Reads-all u a b → dominated u a b ≡ true)
+  dominance-is-reading = (λ e h k _. dominance-reads e h k, reading-dominates)
