@@ -19,6 +19,9 @@ pub mod InitialLaws
 pub mod Keeping
 pub mod Simulation
 pub mod Lists
+pub mod KeptOut
+pub mod EntryChanges
 pub mod Reading
 pub mod Privacy
+pub mod Theorems
 pub mod Example

@@ -122,9 +122,9 @@ tie-compared {b} r t = record {
 }
 
 -- demand 3
-pub demand-3 : (text : Text) (u : Setup) → setup text ≡ accepted u → (calls : List Call) → without-root calls ≡ true
+pub compared-lists : (text : Text) (u : Setup) → setup text ≡ accepted u → (calls : List Call) → without-root calls ≡ true
     → Compared (runs store u (initial-store u) calls) (runs abstract u (initial-abstract u) calls)
-demand-3 text u e calls r =
+compared-lists text u e calls r =
     let t = runs-agree u (accepted-is-setup text u e) calls r (initial-store u) (initial-abstract u) (initial-tie u) in
     tie-compared (t .0) (t .1)
 

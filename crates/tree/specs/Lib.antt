@@ -17,6 +17,7 @@ pub mod ChangeLaws
 pub mod PathLaws
 pub mod MapLaws
 pub mod Graft
+pub mod ChangeAtLaws
 pub mod Rows
 pub mod RowLaws
 pub mod Fields

@@ -22,7 +22,8 @@ use Rattle.tree.specs.WellFormed.{is-tree}
 use Rattle.tree.specs.UpdateLaws.{by-option, at-top, at-child, child-at, walked-at, update-none}
 use Rattle.tree.specs.WellFormedLaws.{place-parts, tree-parts, place-below}
 
-get-empty : {A : Type 0} (n : Name) (F : Forest A) → is-empty F ≡ true → get n F ≡ none
+-- in a forest without children no child is found
+pub get-empty : {A : Type 0} (n : Name) (F : Forest A) → is-empty F ≡ true → get n F ≡ none
 unfolding get is-empty
 get-empty n nil e = refl
 get-empty n (node m x cs rest) e = contra {b = false} e refl
@@ -36,7 +37,7 @@ module _ {A : Type 0} (t : Place A) where
   above-at (deeper {q = q} {n = n} l) d e = let i = child-at t q n d e in above-at l (i .0) (i .1)
 
   -- no place lies below one without children
-  empty-below : {a p : Path} → Lies a p → (x : Place A) → place-at t a ≡ some x → is-empty (x .below) ≡ true
+  pub empty-below : {a p : Path} → Lies a p → (x : Place A) → place-at t a ≡ some x → is-empty (x .below) ≡ true
       → (d : Place A) → place-at t p ≡ some d → is-empty (d .below) ≡ true
   empty-below itself x h z d e = rw (answered (sym h ∙ e)) z
   empty-below (deeper {q = q} {n = n} l) x h z d e =
@@ -44,7 +45,7 @@ module _ {A : Type 0} (t : Place A) where
       no-answer (sym (get-empty n (i .0 .below) (empty-below l x h z (i .0) (i .1))) ∙ i .2)
 
   -- the place changed
-  changed-at : (q : Path) (f : Place A → Place A) (d : Place A) → place-at t q ≡ some d → place-at (update q f t) q ≡ some (f d)
+  pub changed-at : (q : Path) (f : Place A → Place A) (d : Place A) → place-at t q ≡ some d → place-at (update q f t) q ≡ some (f d)
   unfolding update under place-at _>>=_
   changed-at root f d e = rw (answered e)
   changed-at (q ▹ n) f d e =

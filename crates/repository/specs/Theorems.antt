@@ -1,0 +1,117 @@
+-- The theorems about the pattern repository, each with the words that it stands for. Their proofs are in the files beside it.
+--
+-- Demand 3 and soundness come first, then what follows for people, roles and entries.
+use mathlib.Core.Path.{_≡_, refl}
+use mathlib.Core.List.{List, []}
+use mathlib.Core.Option.{some}
+use mathlib.Core.Bool.{Bool, true, false}
+use mathlib.Core.Logic.{_⊎_}
+use Prim.Native.Nat.{ℕ}
+use lib.Dec.{ltb}
+use lib.ListN.{length}
+use Rattle.accounts.specs.declared.Uid.{Uid}
+use Rattle.accounts.specs.Access.{is-root}
+use Rattle.accounts.specs.Dominance.{Bounded-role}
+use Rattle.syntax.specs.Text.{Text, every}
+use Rattle.syntax.specs.Path.{Path, Entry-path, same-path, within}
+use Rattle.syntax.specs.Command.{Shell-command, read, Command, shell}
+use Rattle.syntax.specs.Setup.{Setup, accepted, setup, is-setup}
+use Rattle.syntax.specs.SetupLaws.{accepted-is-setup}
+use Rattle.tree.specs.declared.Kind.{Kind}
+use Rattle.tree.specs.Result.{refused, done}
+use Rattle.tree.specs.Agree.{Ensures}
+use Rattle.tree.specs.Forest.{Place, place-at}
+use Rattle.tree.specs.Node.{Node}
+use Rattle.tree.specs.WellFormed.{is-tree}
+use Rattle.shell.specs.Caller.{Caller, Outcome}
+use Rattle.shell.specs.Steps.{run-shell}
+use Rattle.shell.specs.Privacy.{Private, Stays, read-through}
+use Rattle.repository.specs.Machine.{caller, run}
+use Rattle.repository.specs.Store.{Store, store, entry-node, initial-store}
+use Rattle.repository.specs.Abstract.{Entry, Abstract, abstract, dominated, initial-abstract, in-store, embed}
+use Rattle.repository.specs.Calls.{Call, after, step, runs}
+use Rattle.repository.specs.Encoding.{State, encode, well-formed, decode}
+use Rattle.repository.specs.Bytes.{refused-by, run-result, run-call}
+use Rattle.repository.specs.BytesLaws
+use Rattle.repository.specs.Observed.{Compared, without-root, Reached, Reached-without-root}
+use Rattle.repository.specs.Keeping
+use Rattle.repository.specs.Lists
+use Rattle.repository.specs.Simulation.{Kept}
+use Rattle.repository.specs.KeptOut.{names-entry}
+use Rattle.repository.specs.KeptOut
+use Rattle.repository.specs.EntryChanges.{node-of, Changes, Rightful}
+use Rattle.repository.specs.EntryChanges
+use Rattle.repository.specs.Reading.{May-read, Reads-all, More-pairs}
+use Rattle.repository.specs.Reading
+use Rattle.repository.specs.Privacy
+
+-- Demand 3. For every setup text that is taken and every list of calls, of any bytes and with any answer buffers, none of them
+-- root's, the store and the abstract machine give the same replies, and afterwards hold the same people's tree, sessions and entries.
+pub demand-3 : (text : Text) (u : Setup) → setup text ≡ accepted u → (calls : List Call) → without-root calls ≡ true →
+    Compared (runs store u (initial-store u) calls) (runs abstract u (initial-abstract u) calls)
+demand-3 = Lists.compared-lists
+
+-- Soundness. Every accepted setup gives a well-formed store,
+pub initial-is-sound : (text : Text) (u : Setup) → setup text ≡ accepted u → well-formed (record { setup = u; store = initial-store u }) ≡ true
+initial-is-sound text u e = Keeping.initial-well-formed u (accepted-is-setup text u e)
+
+-- and every call by anyone, root included, keeps it well-formed.
+pub calls-keep-sound : (u : Setup) → is-setup u ≡ true → (s : Store) → well-formed (record { setup = u; store = s }) ≡ true → (call : Call) →
+    well-formed (record { setup = u; store = after s (step store u s call) }) ≡ true
+calls-keep-sound = Keeping.step-keeps
+
+-- So the bytes of a store that is reached from a fresh one are always read back: 18 never comes on them.
+pub reached-is-read-back : (u : Setup) (s : Store) → Reached u s →
+    decode (encode (record { setup = u; store = s })) ≡ some (record { setup = u; store = s })
+reached-is-read-back = Keeping.reached-decodes
+
+-- The stores that the following speak of are there: that of every accepted setup is one.
+pub initial-is-reached : (text : Text) (u : Setup) → setup text ≡ accepted u → Reached-without-root u (initial-store u)
+unfolding without-root runs every
+initial-is-reached text u e = record { reached = record { text = text; taken = e; calls = []; state = refl }; rootless = refl }
+
+-- A refused call changes nothing: neither the store's bytes nor the answer buffer's.
+pub refused-changes-nothing : (b : List ℕ) (line : Text) (answer : List ℕ) (n : ℕ) → run-result b line (length answer) ≡ refused n →
+    run-call b line answer ≡ record { tells = refused-by n; store = b; answer = answer }
+refused-changes-nothing = BytesLaws.refused-changes-nothing
+
+-- A person's shell line with a path below `/rep` is refused.
+pub shell-reaches-no-entry : (u : Setup) (s : Store) → Reached-without-root u s → (v : Uid) (c : Caller) → is-root v ≡ false → caller u v ≡ done c →
+    (command : Shell-command) → names-entry command ≡ true → (n : ℕ) × (run store u s c (shell command) ≡ refused n)
+shell-reaches-no-entry = KeptOut.shell-refused
+
+-- An entry is altered or removed only by a done `commit` or `del` in a session whose role dominates the entry's.
+pub entry-changed-by-right : (u : Setup) (s : Store) → Reached-without-root u s → (v : Uid) (c : Caller) → is-root v ≡ false → caller u v ≡ done c →
+    (command : Command) (o : Outcome Store) → run store u s c command ≡ done o →
+    (e : Entry-path) (kind : Kind) (r : Bounded-role) (revision : ℕ) (content : Text) → node-of s e ≡ some (entry-node kind r revision content) →
+    (node-of (o .state) e ≡ some (entry-node kind r revision content)) ⊎ (Changes e command × Rightful u (s .sessions) c r)
+entry-changed-by-right = EntryChanges.stored-entry-changed
+
+-- A role dominates another just if its account may read every entry that the other's may, in every well-formed store whose
+-- entries have document 01's form.
+pub dominance-is-reading : (u : Setup) → is-setup u ≡ true → (a b : Bounded-role) →
+    (dominated u a b ≡ true → Reads-all u a b) × (Reads-all u a b → dominated u a b ≡ true)
+dominance-is-reading = Reading.dominance-is-reading
+
+-- More role pairs never turn a role's permission into a refusal: at every entry an account may still pass, read and write,
+pub more-pairs-refuse-nothing : (u u′ : Setup) → is-setup u ≡ true → is-setup u′ ≡ true → More-pairs u u′ → (z : Bounded-role) (x : Entry) →
+    (store .judge u z .passes (in-store x) ≡ true → store .judge u′ z .passes (in-store x) ≡ true)
+    × (store .judge u z .readable (in-store x) ≡ true → store .judge u′ z .readable (in-store x) ≡ true)
+    × (store .judge u z .writable (in-store x) ≡ true → store .judge u′ z .writable (in-store x) ≡ true)
+more-pairs-refuse-nothing u u′ s s′ more z x = (Reading.more-passes u u′ s s′ more z x, Reading.more-readable u u′ s s′ more z x, Reading.more-writable u u′ s s′ more z x)
+
+-- and the entries that it may walk to and read it still may.
+pub more-pairs-hide-nothing : (u u′ : Setup) → is-setup u ≡ true → is-setup u′ ≡ true → More-pairs u u′ →
+    (z : Bounded-role) (h : Abstract) → Kept h → (p : Path) (d : Place Node) → May-read u z (embed h) p d → May-read u′ z (embed h) p d
+more-pairs-hide-nothing = Reading.more-may-read
+
+-- A command by anyone but its owner and root leaves all that lies below a directory of mode 0700 owned by a person as it was;
+-- a directory above it, or it itself, may be moved, and it along.
+pub private-directory-stays : (u : Setup) (s : Store) (c : Caller) (p : Path) (d : Place Node) → place-at (s .tree) p ≡ some d →
+    Private (c .account) d → ltb (d .here .owner .0) 16 ≡ true → (command : Command) → Ensures (λ o. Stays d (o .state .tree)) (run store u s c command)
+private-directory-stays = Privacy.run-private
+
+-- And a `read` through it is refused 5.
+pub private-directory-is-not-read : (c : Caller) (m : ℕ) (t : Place Node) (p : Path) (d : Place Node) → is-tree t ≡ true → place-at t p ≡ some d →
+    Private (c .account) d → (q : Path) → within p q ≡ true → same-path p q ≡ false → run-shell c m t (read q) ≡ refused 5
+private-directory-is-not-read = read-through
