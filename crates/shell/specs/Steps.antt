@@ -82,8 +82,8 @@ module _ (c : Caller) (elsewhere : ℕ) (t : Place Node) where
     require (not (reserved p)) 9
     d ← walks p
     require (same-kind (d .here .kind) kind) 7
-    e ← walks (parent p)
-    require (can W e) 5
+    above ← walks (parent p)
+    require (can W above) 5
     require (is-empty (d .below)) 8
     changed (parent p) (drop (last p))
 
