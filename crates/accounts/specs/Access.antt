@@ -5,15 +5,10 @@ use Prim.Native.Nat.{ℕ, _/_, _%_}
 use lib.Dec.{eqb}
 use Rattle.accounts.specs.declared.Uid.{Uid}
 use Rattle.accounts.specs.declared.Gid.{Gid}
-use Rattle.accounts.specs.declared.Groups.{Groups}
+use Rattle.accounts.specs.declared.Account.{Account}
 use Rattle.accounts.specs.declared.Right.{Right}
 use Rattle.accounts.specs.declared.Right.the-variants.{R, W, X}
 use Rattle.accounts.specs.Groups.{member, no-groups, with-group}
-
--- an account with the groups it is in
-pub record Account : Type 0 where
-  pub uid : Uid
-  pub groups : Groups
 
 unfoldable pub same-uid : Uid → Uid → Bool
 same-uid u v = eqb (u .0) (v .0)

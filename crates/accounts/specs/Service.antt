@@ -13,7 +13,8 @@ use Rattle.accounts.specs.declared.Groups.{Groups}
 use Rattle.accounts.specs.declared.Pair.{Pair}
 use Rattle.accounts.specs.Cases.{case}
 use Rattle.accounts.specs.Groups.{same-gid, member, no-groups, with-group, member-none, member-with}
-use Rattle.accounts.specs.Access.{Account, same-uid, is-root}
+use Rattle.accounts.specs.declared.Account.{Account}
+use Rattle.accounts.specs.Access.{same-uid, is-root}
 use Rattle.accounts.specs.Dominance.{Bounded-role, same-role, same-role-is, dominates}
 
 unfoldable pub service-uid : Role → Uid

@@ -6,7 +6,7 @@ use Prim.Native.Nat.{_+_, _≤_}
 use native.Mathlib.Omega.{arith}
 use borrow.Author.Tests.{ltb-true, lt-ltb}
 use Rattle.accounts.specs.Cases.{case}
-use Rattle.accounts.specs.Access.{Account}
+use Rattle.accounts.specs.declared.Account.{Account}
 use Rattle.accounts.specs.Dominance.{Bounded-role}
 use Rattle.accounts.specs.Service.{service-uid, service-gid}
 use Rattle.syntax.specs.Text.{Text, precedes}

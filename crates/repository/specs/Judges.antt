@@ -10,7 +10,8 @@ use Rattle.accounts.specs.declared.Uid.{Uid}
 use Rattle.accounts.specs.declared.Gid.{Gid}
 use Rattle.accounts.specs.declared.Role.{Role}
 use Rattle.accounts.specs.Groups.{member}
-use Rattle.accounts.specs.Access.{Account, is-root, same-uid, grants, may-owner, may-group, may-other, grants-none}
+use Rattle.accounts.specs.declared.Account.{Account}
+use Rattle.accounts.specs.Access.{is-root, same-uid, grants, may-owner, may-group, may-other, grants-none}
 use Rattle.accounts.specs.Dominance.{same-role, same-role-is, Bounded-role, dominates, dominates-self}
 use Rattle.accounts.specs.Service.{service-uid, service-gid, all-services, service, service-not-root, service-own, same-service, member-service, member-all}
 use Rattle.syntax.specs.Text.{Text}

@@ -10,7 +10,8 @@ use borrow.Author.Tests.{ltb-true, ne-eqb}
 use lib.Dec.{ltb}
 use Rattle.accounts.specs.declared.Right.{Right}
 use Rattle.accounts.specs.declared.Right.the-variants.{R, W}
-use Rattle.accounts.specs.Access.{Account, same-uid}
+use Rattle.accounts.specs.declared.Account.{Account}
+use Rattle.accounts.specs.Access.{same-uid}
 use Rattle.accounts.specs.Dominance.{Bounded-role}
 use Rattle.accounts.specs.Service.{service-uid, service, service-not-root, service-own}
 use Rattle.syntax.specs.Path.{Path, _▹_, Entry-path, parent, last, within, in-rep}

@@ -6,7 +6,8 @@ use Prim.Native.Nat.{ℕ}
 use Rattle.accounts.specs.declared.Uid.{Uid}
 use Rattle.accounts.specs.declared.Gid.{Gid}
 use Rattle.accounts.specs.Groups.{no-groups, with-group}
-use Rattle.accounts.specs.Access.{Account, is-root, same-uid}
+use Rattle.accounts.specs.declared.Account.{Account}
+use Rattle.accounts.specs.Access.{is-root, same-uid}
 use Rattle.syntax.specs.Text.{Text}
 use Rattle.syntax.specs.Number.{set-gid}
 use Rattle.tree.specs.declared.Kind.{Kind}

@@ -11,7 +11,8 @@ use Rattle.accounts.specs.declared.Gid.{Gid}
 use Rattle.accounts.specs.declared.Right.{Right}
 use Rattle.accounts.specs.declared.Right.the-variants.{W, X}
 use Rattle.accounts.specs.Groups.{member}
-use Rattle.accounts.specs.Access.{Account, is-root, same-uid, may-group, may-other, grants-none}
+use Rattle.accounts.specs.declared.Account.{Account}
+use Rattle.accounts.specs.Access.{is-root, same-uid, may-group, may-other, grants-none}
 use Rattle.accounts.specs.Cases.{case, contra}
 use Rattle.syntax.specs.Text.{Text}
 use Rattle.syntax.specs.Path.{Name, Path, root, _▹_, parent, last, same-path, within, reserved}

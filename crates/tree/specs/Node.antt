@@ -6,7 +6,8 @@ use Prim.Native.Nat.{ℕ}
 use Rattle.accounts.specs.declared.Uid.{Uid}
 use Rattle.accounts.specs.declared.Gid.{Gid}
 use Rattle.accounts.specs.declared.Right.{Right}
-use Rattle.accounts.specs.Access.{Account, may}
+use Rattle.accounts.specs.declared.Account.{Account}
+use Rattle.accounts.specs.Access.{may}
 use Rattle.syntax.specs.Text.{Text}
 use Rattle.syntax.specs.Path.{Entry-path}
 use Rattle.tree.specs.declared.Kind.{Kind}

@@ -6,7 +6,7 @@ use mathlib.Core.Option.{Option}
 use mathlib.Core.Bool.{Bool, true, false, _&&_, _||_, not}
 use Prim.Native.Nat.{ℕ}
 use Rattle.accounts.specs.declared.Right.the-variants.{R, W, X}
-use Rattle.accounts.specs.Access.{Account}
+use Rattle.accounts.specs.declared.Account.{Account}
 use Rattle.syntax.specs.Path.{Name, Path, root, _▹_, parent}
 use Rattle.tree.specs.declared.Kind.{Kind}
 use Rattle.tree.specs.Result.{Result, done, _>>=_, _>>_, require, present, absent}

@@ -6,7 +6,7 @@ use Prim.Native.Nat.{_+_, _≤_}
 use native.Mathlib.Omega.{arith}
 use lib.Dec.{leb}
 use borrow.Author.Tests.{leb-true, le-leb}
-use Rattle.accounts.specs.Access.{Account}
+use Rattle.accounts.specs.declared.Account.{Account}
 use Rattle.accounts.specs.Cases.{case, and-both, contra}
 use Rattle.syntax.specs.Text.{same-text, precedes}
 use Rattle.syntax.specs.TextLaws.{precedes-trans}
