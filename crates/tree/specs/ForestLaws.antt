@@ -3,7 +3,7 @@
 -- In order:
 --   names, and the larger of two numbers;
 --   no siblings, and the first of some: get-nil, insert-nil, empty-is-nil, height-node;
---   a child found: get-first;
+--   a child found: get-first, found-first, found-none;
 --   a child changed: get-at, get-at-other, get-at-none, names-at, empty-at, at-at, size-at, height-at, at-twice, at-id, at-none;
 --   a child put in: get-insert, get-insert-other, empty-insert, insert-at, size-insert, height-insert;
 --   a child taken out: get-remove-other, empty-remove, remove-at, size-remove, height-remove; and height-get;
@@ -76,12 +76,12 @@ get-first n x cs rest = rw (same-text-refl n)
 
 module _ {A : Type 0} (n m : Name) (y : A) (ds rest : Forest A) where
   -- the first node is the child found if it has the name
-  found-first : (d : Place A) → same-text n m ≡ true → get n (node m y ds rest) ≡ some d → d ≡ record { here = y; below = ds }
+  pub found-first : (d : Place A) → same-text n m ≡ true → get n (node m y ds rest) ≡ some d → d ≡ record { here = y; below = ds }
   unfolding get
   found-first d t e = let q : some (record { here = y; below = ds }) ≡ some d = rw t at e in cc
 
   -- where no child is found neither the first node nor the rest has it
-  found-none : get n (node m y ds rest) ≡ none → (same-text n m ≡ false) × (get n rest ≡ none)
+  pub found-none : get n (node m y ds rest) ≡ none → (same-text n m ≡ false) × (get n rest ≡ none)
   unfolding get
   found-none e = case (same-text n m)
       (λ t. contra {b = true} refl (let q : some (record { here = y; below = ds }) ≡ none = rw t at e in cc))

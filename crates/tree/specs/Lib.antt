@@ -20,6 +20,9 @@ pub mod Graft
 pub mod ChangeAtLaws
 pub mod Rows
 pub mod RowLaws
+pub mod RowContext
+pub mod RowEdits
+pub mod RowScan
 pub mod Fields
 pub mod FieldsLaws
 pub mod Encoding
