@@ -12,4 +12,10 @@ pub mod Command
 pub mod CommandLaws
 pub mod Setup
 pub mod SetupLaws
+pub mod Parts
+pub mod PartsLaws
+pub mod Parsed
+pub mod ParsedLaws
+pub mod Reader
+pub mod ReaderLaws
 pub mod Compute

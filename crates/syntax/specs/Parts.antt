@@ -1,0 +1,59 @@
+-- What the code's readers answer: parts of a text by their places, fields, numbers and names.
+use mathlib.Core.List.{List, [], _∷_}
+use mathlib.Core.Option.{Option, none, some}
+use mathlib.Core.Bool.{Bool, true, false, cond}
+use Prim.Native.Nat.{ℕ, suc, _+_, _-_, _≤_}
+use lib.Dec.{eqb, leb}
+use lib.ListN.{length, take, drop}
+use Rattle.syntax.specs.declared.Span.{Span}
+use Rattle.syntax.specs.declared.Field.{Field}
+use Rattle.syntax.specs.declared.Class.{Class}
+use Rattle.syntax.specs.declared.Class.the-variants.{Name, Content, Decimal, Octal}
+use Rattle.syntax.specs.declared.Number.{Number}
+use Rattle.syntax.specs.declared.Number.the-variants.{Value, Nothing}
+use Rattle.syntax.specs.declared.NextName.{NextName}
+use Rattle.syntax.specs.declared.NextName.the-variants
+use Rattle.syntax.specs.Text.{Text, comma}
+use Rattle.syntax.specs.Number.{digit}
+use Rattle.syntax.specs.Path.{name-byte}
+use Rattle.syntax.specs.Field.{content-byte}
+
+-- the bytes from one place up to another
+unfoldable pub part : Text → ℕ → ℕ → Text
+part t start end = take (end - start) (drop start t)
+
+unfoldable pub span-text : Text → Span → Text
+span-text t s = part t (s .start) (s .end)
+
+-- a part lies inside a text
+pub record Inside (s : Span) (t : Text) : Type 0 where
+  pub ordered : s .start ≤ s .end
+  pub ends : s .end ≤ length t
+
+-- the bytes of a class
+unfoldable pub of-class : Class → ℕ → Bool
+of-class Name = name-byte
+of-class Content = content-byte
+of-class Decimal = digit 10
+of-class Octal = digit 8
+
+-- how many bytes come before the first separator, or all
+unfoldable pub piece-length : ℕ → Text → ℕ
+piece-length separator [] = 0
+piece-length separator (b ∷ t) = cond (eqb b separator) 0 (suc (piece-length separator t))
+
+-- the field that starts at a place
+unfoldable pub field-at : Text → ℕ → Field
+field-at t at =
+    let end = at + piece-length comma (drop at t) in
+    record { start = at; end = end; last = eqb end (length t) }
+
+unfoldable pub number-of : Number → Option ℕ
+number-of (Value n) = some n
+number-of Nothing = none
+
+-- the name that starts at a place of a path, or none where the path ends before
+unfoldable pub next-name : Text → ℕ → NextName
+next-name t at =
+    let end = at + piece-length 47 (drop at t) in
+    cond (leb (length t) at) the-variants.End (the-variants.Name at end (record { at = end + 1 }))

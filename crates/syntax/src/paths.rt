@@ -1,0 +1,79 @@
+// Paths: their form, and their names one after another.
+ghost use mathlib.Core.Path.{_≡_};
+ghost use Rattle.syntax.specs.Setup.{is-some};
+ghost use Rattle.syntax.specs.Path.{path, entry-path};
+ghost use Rattle.syntax.specs.Parts.{next-name};
+use crate::Names;
+use crate::NextName;
+use crate::text::is_name;
+use crate::text::piece_end;
+use crate::text::same;
+
+// Whether a text is a path: `/`, or 1 to 6 names each after a `/`.
+pub fn is_path(s: &[u8]) -> bool
+    ensures { λ r. ⌜ r ≡ is-some (path (now (s .entry))) ⌝ }
+{
+    if s.len() == 0 {
+        return false;
+    }
+    if s[0] != 47 {
+        return false;
+    }
+    if s.len() == 1 {
+        return true;
+    }
+    let mut at: usize = 1;
+    let mut count: usize = 0;
+    loop {
+        let end = piece_end(s, at, 47);
+        if count == 6 {
+            return false;
+        }
+        if !is_name(&s[at..end]) {
+            return false;
+        }
+        if end == s.len() {
+            return true;
+        }
+        at = end + 1;
+        count += 1;
+    }
+}
+
+// Whether a text is an entry path: a path of at least two names, the first `rep`.
+pub fn is_entry_path(s: &[u8]) -> bool
+    ensures { λ r. ⌜ r ≡ is-some (entry-path (now (s .entry))) ⌝ }
+{
+    if s.len() < 6 {
+        return false;
+    }
+    if !same(&s[..5], b"/rep/") {
+        return false;
+    }
+    is_path(s)
+}
+
+impl Names {
+    // The names of a path that has its form, from the first on.
+    pub fn first() -> Self
+        ensures { λ r. ⌜ r .at ≡ 1 ⌝ }
+    {
+        Names { at: 1 }
+    }
+
+    // The next name.
+    pub fn next(self, path: &[u8]) -> NextName
+        ensures { λ r. ⌜ r ≡ next-name (now (path .entry)) (self .at) ⌝ }
+    {
+        let at = self.at;
+        if path.len() <= at {
+            return NextName::End;
+        }
+        let end = piece_end(path, at, 47);
+        NextName::Name {
+            start: at,
+            end,
+            rest: Names { at: end + 1 },
+        }
+    }
+}
