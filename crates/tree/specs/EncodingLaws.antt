@@ -116,7 +116,7 @@ length-encode-tree t h =
     omega arith
 
 -- the rows of a well-formed tree are read from its encoding
-rows-of-encoded : (t : Place Node) → is-tree t ≡ true → rows-from (number-at 0 (encode-tree t)) (drop 2 (encode-tree t)) ≡ rows t
+pub rows-of-encoded : (t : Place Node) → is-tree t ≡ true → rows-from (number-at 0 (encode-tree t)) (drop 2 (encode-tree t)) ≡ rows t
 unfolding encode-tree two-bytes
 rows-of-encoded t h =
     let rs = rows t in

@@ -28,4 +28,6 @@ pub mod FieldsLaws
 pub mod Encoding
 pub mod RowBytesLaws
 pub mod EncodingLaws
+pub mod RowAt
+pub mod RowAtLaws
 pub mod Compute

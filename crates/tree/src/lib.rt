@@ -1,7 +1,36 @@
-// The file tree.
+// The file tree as rows in preorder in a lent buffer of 59,394 bytes; docs/FORMAT.md has the layout.
+mod rows;
+mod scan;
+
+pub use rows::content_at;
+pub use rows::count;
+pub use rows::depth_at;
+pub use rows::group_at;
+pub use rows::kind_at;
+pub use rows::mode_at;
+pub use rows::name_at;
+pub use rows::owner_at;
+pub use rows::revision_at;
+pub use rows::tag_path_at;
+pub use rows::tag_revision_at;
+pub use scan::find_child;
+pub use scan::subtree_end;
 
 // What a node is.
 pub enum Kind {
     File,
     Directory,
+}
+
+// How a text stands to another in byte order.
+pub enum Order {
+    Before,
+    Same,
+    After,
+}
+
+// The row of a child, or where a child of that name would stand.
+pub enum Child {
+    Found(usize),
+    Missing(usize),
 }

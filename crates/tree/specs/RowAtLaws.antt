@@ -1,0 +1,289 @@
+-- The rows of a tree's bytes by their index: where the fields of a row stand among all bytes, which row of the tree it is, and what
+-- the loops of the code go by.
+--
+-- In order:
+--   a field of a row: byte-in-row, number-in-row, text-in-row; its depth and kind;
+--   the bytes of a text before the zeros, one by one: text-goes-on to text-part;
+--   all rows by index, those of a tree's encoding, and scans over them: row-in-rows to scan-end;
+--   the order of two texts, byte by byte: order-before to order-tells;
+--   the tests of a scan: passes-below to child-beside;
+--   where a subtree ends, and where a child stands: end-at to child-at-end.
+use mathlib.Core.Path.{_≡_, refl, sym, _∙_, ap}
+use mathlib.Core.List.{List, [], _∷_}
+use mathlib.Core.Bool.{Bool, true, false, cond}
+use Prim.Native.Nat.{ℕ, zero, suc, _+_, _*_, _≤_, _<_}
+use native.Mathlib.Omega.{arith}
+use native.Mathlib.Numerals.{add-one}
+use lib.Dec.{eqb}
+use lib.ListN.{length, getD, take, drop, drop-of-length-le}
+use lib.Seq.{drop-cons, getD-take, getD-drop, take-take, drop-drop}
+use borrow.Author.Tests.{lt-ltb, le-ltb, eq-eqb, ne-eqb}
+use Rattle.accounts.specs.Cases.{case}
+use Rattle.syntax.specs.Text.{Text, same-text, precedes}
+use Rattle.syntax.specs.TextLaws.{same-text-sound, precedes-irrefl}
+use Rattle.tree.specs.declared.Kind.the-variants.{File, Directory}
+use Rattle.tree.specs.declared.Order.{Order}
+use Rattle.tree.specs.declared.Order.the-variants.{Before, Same, After}
+use Rattle.tree.specs.declared.Child.{Child}
+use Rattle.tree.specs.declared.Child.the-variants.{Found, Missing}
+use Rattle.tree.specs.Forest.{Place}
+use Rattle.tree.specs.Node.{Node}
+use Rattle.tree.specs.Rows.{Row, rows}
+use Rattle.tree.specs.WellFormed.{is-tree}
+use Rattle.tree.specs.Fields.{number-at, unpadded, text-at}
+use Rattle.tree.specs.Encoding.{row-width, kind-of, row-of, rows-from, encode-tree}
+use Rattle.tree.specs.EncodingLaws.{rows-of-encoded}
+use Rattle.tree.specs.RowScan.{span, first-passes, deeper, passes, is-child, first-at, span-go, span-stop, span-end}
+use Rattle.tree.specs.RowAt.{row-count, row-bytes-at, row-at, all-rows, order-of, first-depth, depth-of, end-of-subtree, child-at}
+
+-- ---- a field of a row
+
+-- a part of a beginning is that part of the whole
+part-of-take : (k w n : ℕ) (l : List ℕ) → k + w ≤ n → take w (drop k (take n l)) ≡ take w (drop k l)
+part-of-take zero w n l h = take-take w n l (omega arith)
+part-of-take (suc k) w zero l h = let z : ⊥ = omega arith in absurd z
+part-of-take (suc k) w (suc n) [] h = refl
+part-of-take (suc k) w (suc n) (x ∷ l) h = part-of-take k w n l (omega arith)
+
+module _ (b : List ℕ) (i : ℕ) where
+  -- a byte of a row
+  pub byte-in-row : (k : ℕ) → k < 232 → getD (row-bytes-at b i) k 0 ≡ getD b (2 + 232 * i + k) 0
+  unfolding row-bytes-at row-width
+  byte-in-row k h = getD-take 232 (drop (2 + 232 * i) b) k 0 h ∙ getD-drop (2 + 232 * i) b k 0
+
+  -- a number of a row
+  pub number-in-row : (k : ℕ) → k + 1 < 232 → number-at k (row-bytes-at b i) ≡ number-at (2 + 232 * i + k) b
+  unfolding number-at
+  number-in-row k h =
+      let q : 2 + 232 * i + suc k ≡ suc (2 + 232 * i + k) = omega arith in
+      let low : _ = byte-in-row k (omega arith) in
+      let high : _ = byte-in-row (suc k) (omega arith) ∙ ap (λ (j : ℕ). getD b j 0) q in
+      omega arith
+
+  -- a text of a row
+  pub text-in-row : (k w : ℕ) → k + w ≤ 232 → text-at k w (row-bytes-at b i) ≡ text-at (2 + 232 * i + k) w b
+  unfolding text-at row-bytes-at row-width
+  text-in-row k w h = ap unpadded (part-of-take k w 232 (drop (2 + 232 * i) b) h ∙ ap (take w) (drop-drop k (2 + 232 * i) b))
+
+  -- the depth is the first byte
+  pub depth-in-row : row-at b i .depth ≡ getD b (2 + 232 * i) 0
+  unfolding row-at row-of
+  depth-in-row =
+      let q : 2 + 232 * i + 0 ≡ 2 + 232 * i = omega arith in
+      byte-in-row 0 (omega arith) ∙ ap (λ (j : ℕ). getD b j 0) q
+
+  -- the kind is the second: `d` for a directory
+  pub directory-in-row : getD b (2 + 232 * i + 1) 0 ≡ 100 → row-at b i .here .kind ≡ Directory
+  unfolding row-at row-of kind-of
+  directory-in-row e = rw (eq-eqb (getD (row-bytes-at b i) 1 0) 100 (byte-in-row 1 (omega arith) ∙ e))
+
+  -- and anything else for a file
+  pub file-in-row : (getD b (2 + 232 * i + 1) 0 ≡ 100 → ⊥) → row-at b i .here .kind ≡ File
+  unfolding row-at row-of kind-of
+  file-in-row e = rw (ne-eqb (getD (row-bytes-at b i) 1 0) 100 (λ q. e (sym (byte-in-row 1 (omega arith)) ∙ q)))
+
+-- ---- the bytes of a text before the zeros
+
+module _ (s : List ℕ) (at w : ℕ) where
+  -- a byte that is not zero is counted
+  pub text-goes-on : at < length s → (getD s at 0 ≡ 0 → ⊥) → length (text-at at (suc w) s) ≡ suc (length (text-at (suc at) w s))
+  unfolding text-at unpadded
+  text-goes-on h e = rw (drop-cons s at 0 h, ne-eqb (getD s at 0) 0 e)
+
+  -- at a zero the text ends
+  pub text-stops : at < length s → getD s at 0 ≡ 0 → length (text-at at (suc w) s) ≡ 0
+  unfolding text-at unpadded
+  text-stops h e = rw (drop-cons s at 0 h, eq-eqb (getD s at 0) 0 e)
+
+-- and so it does at the end of the field
+pub text-ends : (s : List ℕ) (at : ℕ) → length (text-at at 0 s) ≡ 0
+unfolding text-at unpadded
+text-ends s at = refl
+
+-- what stands before the zeros
+take-unpadded : (l : List ℕ) → take (length (unpadded l)) l ≡ unpadded l
+unfolding unpadded
+take-unpadded [] = refl
+take-unpadded (x ∷ l) = case (eqb x 0) (λ e. rw e) (λ e. rw e (ap (λ (r : List ℕ). x ∷ r) (take-unpadded l)))
+
+-- the text is as many bytes of the field as it has
+pub text-part : (s : List ℕ) (at w r : ℕ) → r ≡ length (text-at at w s) → r ≤ w → take r (drop at s) ≡ text-at at w s
+unfolding text-at
+text-part s at w r e h = sym (take-take r w (drop at s) h) ∙ rw e (take-unpadded (take w (drop at s)))
+
+-- ---- all rows
+
+-- as many rows are read as are asked for
+length-rows-from : (n : ℕ) (b : List ℕ) → length (rows-from n b) ≡ n
+unfolding rows-from
+length-rows-from zero b = refl
+length-rows-from (suc n) b = ap suc (length-rows-from n (drop row-width b))
+
+-- each from the bytes at its index
+row-in-rows-from : (n i : ℕ) (b : List ℕ) (z : Row Node) → i < n → getD (rows-from n b) i z ≡ row-of (take 232 (drop (232 * i) b))
+unfolding rows-from row-width
+row-in-rows-from zero i b z h = let x : ⊥ = omega arith in absurd x
+row-in-rows-from (suc n) zero b z h = refl
+row-in-rows-from (suc n) (suc i) b z h =
+    let q : 232 + 232 * i ≡ 232 * suc i = omega arith in
+    row-in-rows-from n i (drop 232 b) z (omega arith)
+    ∙ ap (λ (l : List ℕ). row-of (take 232 l)) (drop-drop (232 * i) 232 b ∙ ap (λ (k : ℕ). drop k b) q)
+
+module _ (b : List ℕ) where
+  -- there are as many rows as the count says
+  pub length-all-rows : length (all-rows b) ≡ row-count b
+  unfolding all-rows
+  length-all-rows = length-rows-from (row-count b) (drop 2 b)
+
+  -- the row at an index is that of the bytes there
+  pub row-in-rows : (i : ℕ) (z : Row Node) → i < row-count b → getD (all-rows b) i z ≡ row-at b i
+  unfolding all-rows row-at row-bytes-at row-width
+  row-in-rows i z h = row-in-rows-from (row-count b) i (drop 2 b) z h ∙ ap (λ (l : List ℕ). row-of (take 232 l)) (drop-drop (232 * i) 2 b)
+
+  -- and its depth is that row's
+  pub depth-of-row : (i : ℕ) → i < row-count b → depth-of (all-rows b) i ≡ row-at b i .depth
+  unfolding depth-of first-depth
+  depth-of-row i h =
+      rw (drop-cons (all-rows b) i (row-at b i) (omega (arith, length-all-rows))) (ap (λ (r : Row Node). r .depth) (row-in-rows i (row-at b i) h))
+
+  -- a scan has come from one index to another: from both it ends at the same
+  abbrev pub Scanned : (Row Node → Bool) → ℕ → ℕ → Type 0
+  Scanned f from i = i + span f (drop i (all-rows b)) ≡ from + span f (drop from (all-rows b))
+
+  module _ (f : Row Node → Bool) (i : ℕ) where
+    -- it goes on at a row that passes
+    pub scan-go : (from : ℕ) → i < row-count b → f (row-at b i) ≡ true → Scanned f from i → Scanned f from (i + 1)
+    scan-go from h e g =
+        let s : _ = span-go f (all-rows b) i (row-at b i) (omega (arith, length-all-rows)) (ap f (row-in-rows i (row-at b i) h) ∙ e) in
+        let q : (i + 1) + span f (drop (i + 1) (all-rows b)) ≡ i + span f (drop i (all-rows b)) = rw add-one (omega arith) in
+        q ∙ g
+
+    -- stops at one that does not
+    pub scan-stop : i < row-count b → f (row-at b i) ≡ false → span f (drop i (all-rows b)) ≡ 0
+    scan-stop h e = span-stop f (all-rows b) i (row-at b i) (omega (arith, length-all-rows)) (ap f (row-in-rows i (row-at b i) h) ∙ e)
+
+    -- and behind the last
+    pub scan-end : row-count b ≤ i → span f (drop i (all-rows b)) ≡ 0
+    scan-end h = span-end f (all-rows b) i (omega (arith, length-all-rows)) .0
+
+-- the rows of a well-formed tree's encoding are the tree's
+pub all-rows-of-tree : (t : Place Node) → is-tree t ≡ true → all-rows (encode-tree t) ≡ rows t
+unfolding all-rows row-count
+all-rows-of-tree t h = rows-of-encoded t h
+
+-- so the count is theirs
+pub row-count-of-tree : (t : Place Node) → is-tree t ≡ true → row-count (encode-tree t) ≡ length (rows t)
+row-count-of-tree t h = sym (length-all-rows (encode-tree t)) ∙ ap length (all-rows-of-tree t h)
+
+-- ---- the order of two texts
+
+module _ (s t : Text) (i : ℕ) where
+  -- at the first byte that differs the lesser comes first
+  pub order-before : i < length s → i < length t → getD s i 0 < getD t i 0 → order-of (drop i s) (drop i t) ≡ Before
+  unfolding order-of same-text precedes
+  order-before h k l =
+      rw (drop-cons s i 0 h, drop-cons t i 0 k) (rw (ne-eqb (getD s i 0) (getD t i 0) (λ e. omega arith), lt-ltb (getD s i 0) (getD t i 0) l))
+
+  -- and the greater after it
+  pub order-after : i < length s → i < length t → getD t i 0 < getD s i 0 → order-of (drop i s) (drop i t) ≡ After
+  unfolding order-of same-text precedes
+  order-after h k l =
+      rw (drop-cons s i 0 h, drop-cons t i 0 k) (rw (ne-eqb (getD s i 0) (getD t i 0) (λ e. omega arith), le-ltb (getD s i 0) (getD t i 0) (omega arith)))
+
+  -- bytes that are the same leave it to those behind
+  pub order-goes-on : i < length s → i < length t → getD s i 0 ≡ getD t i 0 → order-of (drop (i + 1) s) (drop (i + 1) t) ≡ order-of (drop i s) (drop i t)
+  unfolding order-of same-text precedes
+  order-goes-on h k e =
+      rw (add-one, drop-cons s i 0 h, drop-cons t i 0 k) (rw (eq-eqb (getD s i 0) (getD t i 0) e, le-ltb (getD s i 0) (getD t i 0) (omega arith)))
+
+  -- a text comes after another that ends before it
+  pub order-longer : i < length s → length t ≤ i → order-of (drop i s) (drop i t) ≡ After
+  unfolding order-of same-text precedes
+  order-longer h k = rw (drop-cons s i 0 h, drop-of-length-le t k)
+
+  -- and before another that goes on
+  pub order-shorter : length s ≤ i → i < length t → order-of (drop i s) (drop i t) ≡ Before
+  unfolding order-of same-text precedes
+  order-shorter h k = rw (drop-of-length-le s h, drop-cons t i 0 k)
+
+  -- where both end, they are the same
+  pub order-same : length s ≤ i → length t ≤ i → order-of (drop i s) (drop i t) ≡ Same
+  unfolding order-of same-text precedes
+  order-same h k = rw (drop-of-length-le s h, drop-of-length-le t k)
+
+-- whether an order is that of a text before another
+unfoldable pub is-before : Order → Bool
+is-before Before = true
+is-before Same = false
+is-before After = false
+
+-- a text precedes another where the order says so
+pub order-tells : (s t : Text) → precedes s t ≡ is-before (order-of s t)
+unfolding order-of is-before
+order-tells s t = case (same-text s t)
+    (λ e. rw e (rw (same-text-sound s t e) (precedes-irrefl t)))
+    (λ e. rw e (case (precedes s t) (λ p. rw p) (λ p. rw p)))
+
+-- ---- the tests of a scan
+
+module _ (k : ℕ) (n : Text) (r : Row Node) where
+  -- the scan for a child goes past a deeper row
+  pub passes-below : k < r .depth → passes k n r ≡ true
+  unfolding passes
+  passes-below h = rw (lt-ltb k (r .depth) h)
+
+  -- stops at one that is less deep
+  pub passes-above : r .depth < k → passes k n r ≡ false
+  unfolding passes
+  passes-above h = rw (le-ltb k (r .depth) (omega arith), ne-eqb (r .depth) k (λ e. omega arith))
+
+  -- and goes by the order of the names at the same depth
+  pub passes-beside : (o : Order) → r .depth ≡ k → o ≡ order-of (r .name) n → passes k n r ≡ is-before o
+  unfolding passes
+  passes-beside o e q = rw (le-ltb k (r .depth) (omega arith), eq-eqb (r .depth) k e, q) (order-tells (r .name) n)
+
+  -- a row at another depth is not the child's
+  pub child-elsewhere : (r .depth ≡ k → ⊥) → is-child k n r ≡ false
+  unfolding is-child
+  child-elsewhere h = rw (ne-eqb (r .depth) k h)
+
+  -- one at that depth is if it has the name
+  pub child-beside : r .depth ≡ k → is-child k n r ≡ same-text (r .name) n
+  unfolding is-child
+  child-beside e = rw (eq-eqb (r .depth) k e)
+
+-- ---- where a subtree ends, and where a child stands
+
+module _ (b : List ℕ) (at i : ℕ) (h : at < row-count b) where
+  -- a subtree ends where the scan does
+  pub end-at : (k : ℕ) → k ≡ row-at b at .depth → Scanned b (deeper k) (at + 1) i → span (deeper k) (drop i (all-rows b)) ≡ 0
+      → i ≡ end-of-subtree (all-rows b) at
+  unfolding end-of-subtree
+  end-at k e g z =
+      let q = rw add-one at g in
+      rw (depth-of-row b at h, ← e) (omega arith)
+
+  module _ (n : Text) (k : ℕ) (e : k ≡ suc (row-at b at .depth)) where
+    -- a child is what the scan stops at, if it has the name
+    child-from-stop : Scanned b (passes k n) (at + 1) i → span (passes k n) (drop i (all-rows b)) ≡ 0
+        → child-at (all-rows b) at n ≡ cond (first-passes (is-child k n) (drop i (all-rows b))) (Found i) (Missing i)
+    unfolding child-at
+    child-from-stop g z =
+        let q = rw add-one at g in
+        let j : suc (at + span (passes k n) (drop (suc at) (all-rows b))) ≡ i = omega arith in
+        rw (depth-of-row b at h, ← e, j)
+
+    -- which is the row there
+    pub child-at-stop : (c : Bool) → Scanned b (passes k n) (at + 1) i
+        → i < row-count b → passes k n (row-at b i) ≡ false → is-child k n (row-at b i) ≡ c
+        → child-at (all-rows b) at n ≡ cond c (Found i) (Missing i)
+    child-at-stop c g l p q =
+        let f : first-passes (is-child k n) (drop i (all-rows b)) ≡ c =
+        first-at (is-child k n) (all-rows b) i (row-at b i) (omega (arith, length-all-rows b)) ∙ ap (is-child k n) (row-in-rows b i (row-at b i) l) ∙ q in
+        child-from-stop g (scan-stop b (passes k n) i l p) ∙ ap {B = Child} (λ (x : Bool). cond x (Found i) (Missing i)) f
+
+    -- behind the last row there is none
+    pub child-at-end : Scanned b (passes k n) (at + 1) i → row-count b ≤ i → child-at (all-rows b) at n ≡ Missing i
+    child-at-end g l =
+        let f : first-passes (is-child k n) (drop i (all-rows b)) ≡ false = span-end (is-child k n) (all-rows b) i (omega (arith, length-all-rows b)) .1 in
+        child-from-stop g (scan-end b (passes k n) i l) ∙ ap {B = Child} (λ (x : Bool). cond x (Found i) (Missing i)) f

@@ -1,0 +1,101 @@
+// Scans over the rows: where a subtree ends, and where a child stands.
+ghost use mathlib.Core.Path.{_≡_};
+ghost use Prim.Native.Nat.{_≤_, _<_};
+ghost use lib.ListN.{length};
+ghost use Rattle.tree.specs.RowScan.{passes, is-child};
+ghost use Rattle.tree.specs.RowAt.{row-count, row-at, all-rows, order-of, end-of-subtree, child-at};
+use crate::Child;
+use crate::Order;
+use crate::rows::count;
+use crate::rows::depth_at;
+use crate::rows::name_at;
+
+// How a text stands to another in byte order.
+fn compare(s: &[u8], t: &[u8]) -> Order
+    ensures { λ r. ⌜ r ≡ order-of (now (s .entry)) (now (t .entry)) ⌝ }
+{
+    let mut i: usize = 0;
+    while i < s.len() {
+        if t.len() <= i {
+            return Order::After;
+        }
+        if s[i] < t[i] {
+            return Order::Before;
+        }
+        if t[i] < s[i] {
+            return Order::After;
+        }
+        i += 1;
+    }
+    if i < t.len() {
+        return Order::Before;
+    }
+    Order::Same
+}
+
+// Where the rows of a place end: at the next row that is no deeper, or after the last.
+pub fn subtree_end(tree: &[u8], at: usize) -> usize
+    requires { ⌜ (length (now tree) ≡ 59394) × ((row-count (now tree) ≤ 256) × (at < row-count (now tree))) ⌝ }
+    ensures { λ r. ⌜ (r ≡ end-of-subtree (all-rows (now (tree .entry))) at) × (r ≤ row-count (now (tree .entry))) ⌝ }
+{
+    let n = count(tree);
+    let depth = depth_at(tree, at);
+    let mut i = at + 1;
+    while i < n {
+        if depth_at(tree, i) <= depth {
+            return i;
+        }
+        i += 1;
+    }
+    i
+}
+
+// Whether the scan for a child goes past a row: a deeper one, or a sibling whose name comes before.
+fn goes_past(tree: &[u8], i: usize, depth: u8, name: &[u8]) -> bool
+    requires { ⌜ (length (now tree) ≡ 59394) × (i < 256) ⌝ }
+    ensures { λ r. ⌜ r ≡ passes depth (now (name .entry)) (row-at (now (tree .entry)) i) ⌝ }
+{
+    let d = depth_at(tree, i);
+    if depth < d {
+        return true;
+    }
+    if d < depth {
+        return false;
+    }
+    match compare(name_at(tree, i), name) {
+        Order::Before => true,
+        Order::Same => false,
+        Order::After => false,
+    }
+}
+
+// Whether a row is that of a child.
+fn is_child(tree: &[u8], i: usize, depth: u8, name: &[u8]) -> bool
+    requires { ⌜ (length (now tree) ≡ 59394) × (i < 256) ⌝ }
+    ensures { λ r. ⌜ r ≡ is-child depth (now (name .entry)) (row-at (now (tree .entry)) i) ⌝ }
+{
+    if depth_at(tree, i) != depth {
+        return false;
+    }
+    syntax::same(name_at(tree, i), name)
+}
+
+// The child of a place, or where it would stand.
+pub fn find_child(tree: &[u8], at: usize, name: &[u8]) -> Child
+    requires { ⌜ (length (now tree) ≡ 59394) × ((row-count (now tree) ≤ 256) × ((at < row-count (now tree)) × (row-at (now tree) at .depth < 255))) ⌝ }
+    ensures { λ r. ⌜ r ≡ child-at (all-rows (now (tree .entry))) at (now (name .entry)) ⌝ }
+{
+    let n = count(tree);
+    let depth = depth_at(tree, at) + 1;
+    let mut i = at + 1;
+    while i < n {
+        if !goes_past(tree, i, depth, name) {
+            if is_child(tree, i, depth, name) {
+                return Child::Found(i);
+            }
+            return Child::Missing(i);
+        }
+        i += 1;
+    }
+    Child::Missing(i)
+}
