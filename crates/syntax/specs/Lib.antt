@@ -14,8 +14,13 @@ pub mod Setup
 pub mod SetupLaws
 pub mod Parts
 pub mod PartsLaws
+pub mod PathPartsLaws
+pub mod FieldAtLaws
 pub mod Parsed
+pub mod WordLaws
 pub mod ParsedLaws
 pub mod Reader
 pub mod ReaderLaws
+pub mod SetupFormLaws
+pub mod SetupLineLaws
 pub mod Compute

@@ -6,7 +6,8 @@ use borrow.Author.Tests.{not-true, not-false}
 use borrow.Author.Needs.{needs}
 use Rattle.syntax.specs.Parts.{span-text, number-of}
 use Rattle.syntax.specs.Parsed.{meaning}
-use Rattle.syntax.specs.ParsedLaws.{chgrp-form, first-nothing, second-nothing, path-and, gid-read, gid-not-read}
+use Rattle.syntax.specs.WordLaws.{chgrp-form, first-nothing, second-nothing, path-and}
+use Rattle.syntax.specs.ParsedLaws.{gid-read, gid-not-read}
 use Rattle.syntax.specs.declared.Command.the-variants.{Chgrp}
 use Rattle.syntax.proofs.commands.chgrp.Statement.{statement}
 use Rattle.syntax.proofs.commands.chgrp.Tie as tie

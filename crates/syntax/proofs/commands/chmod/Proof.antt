@@ -6,7 +6,7 @@ use borrow.Author.Needs.{needs}
 use Rattle.syntax.specs.Parts.{span-text, number-of}
 use Rattle.syntax.specs.Number.{mode}
 use Rattle.syntax.specs.Parsed.{meaning}
-use Rattle.syntax.specs.ParsedLaws.{not-read, chmod-form, first-nothing, second-nothing, path-and}
+use Rattle.syntax.specs.WordLaws.{not-read, chmod-form, first-nothing, second-nothing, path-and}
 use Rattle.syntax.specs.declared.Command.the-variants.{Chmod}
 use Rattle.syntax.proofs.commands.chmod.Statement.{statement}
 use Rattle.syntax.proofs.commands.chmod.Tie as tie

@@ -6,7 +6,8 @@ use borrow.Author.Tests.{not-true, not-false}
 use borrow.Author.Needs.{needs}
 use Rattle.syntax.specs.Parts.{span-text, number-of}
 use Rattle.syntax.specs.Parsed.{meaning}
-use Rattle.syntax.specs.ParsedLaws.{chown-form, first-nothing, second-nothing, path-and, uid-read, uid-not-read}
+use Rattle.syntax.specs.WordLaws.{chown-form, first-nothing, second-nothing, path-and}
+use Rattle.syntax.specs.ParsedLaws.{uid-read, uid-not-read}
 use Rattle.syntax.specs.declared.Command.the-variants.{Chown}
 use Rattle.syntax.proofs.commands.chown.Statement.{statement}
 use Rattle.syntax.proofs.commands.chown.Tie as tie

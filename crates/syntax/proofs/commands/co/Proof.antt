@@ -5,7 +5,7 @@ use borrow.Author.Tests.{not-true, not-false}
 use borrow.Author.Needs.{needs}
 use Rattle.syntax.specs.Parts.{span-text}
 use Rattle.syntax.specs.Parsed.{meaning, with-path}
-use Rattle.syntax.specs.ParsedLaws.{co-form, two-found, first-nothing, second-nothing}
+use Rattle.syntax.specs.WordLaws.{co-form, two-found, first-nothing, second-nothing}
 use Rattle.syntax.specs.declared.Command.the-variants.{Co}
 use Rattle.syntax.proofs.commands.co.Statement.{statement}
 use Rattle.syntax.proofs.commands.co.Tie as tie

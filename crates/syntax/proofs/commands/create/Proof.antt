@@ -6,7 +6,7 @@ use borrow.Author.Needs.{needs}
 use Rattle.syntax.specs.Parts.{span-text, part, number-of}
 use Rattle.syntax.specs.Field.{plain-mode}
 use Rattle.syntax.specs.Parsed.{meaning}
-use Rattle.syntax.specs.ParsedLaws.{not-read, create-form, first-nothing, second-nothing, path-and}
+use Rattle.syntax.specs.WordLaws.{not-read, create-form, first-nothing, second-nothing, path-and}
 use Rattle.syntax.specs.declared.Command.the-variants.{Create}
 use Rattle.syntax.proofs.commands.create.Statement.{statement}
 use Rattle.syntax.proofs.commands.create.Tie as tie

@@ -4,7 +4,8 @@ use denote.Ref.{now}
 use borrow.Author.Tests.{not-true, not-false}
 use borrow.Author.Needs.{needs}
 use Rattle.syntax.specs.Parts.{span-text, part, number-of}
-use Rattle.syntax.specs.ParsedLaws.{login-form, first-nothing, second-nothing, role-not-read, password-not-read, login-found}
+use Rattle.syntax.specs.WordLaws.{login-form, first-nothing, second-nothing}
+use Rattle.syntax.specs.ParsedLaws.{role-not-read, password-not-read, login-found}
 use Rattle.syntax.proofs.commands.login.Statement.{statement}
 use Rattle.syntax.proofs.commands.login.Tie as tie
 

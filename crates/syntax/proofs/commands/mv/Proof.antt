@@ -5,7 +5,7 @@ use borrow.Author.Tests.{not-true, not-false}
 use borrow.Author.Needs.{needs}
 use Rattle.syntax.specs.Parts.{span-text}
 use Rattle.syntax.specs.Parsed.{meaning, with-path}
-use Rattle.syntax.specs.ParsedLaws.{mv-form, two-found, first-nothing, second-nothing}
+use Rattle.syntax.specs.WordLaws.{mv-form, two-found, first-nothing, second-nothing}
 use Rattle.syntax.specs.declared.Command.the-variants.{Mv}
 use Rattle.syntax.proofs.commands.mv.Statement.{statement}
 use Rattle.syntax.proofs.commands.mv.Tie as tie

@@ -7,7 +7,7 @@ use Rattle.syntax.specs.Text.{bytes}
 use Rattle.syntax.specs.Form.{by-form}
 use Rattle.syntax.specs.Command.{forms}
 use Rattle.syntax.specs.Parts.{span-text}
-use Rattle.syntax.specs.ParsedLaws.{no-word-none, finds-none, logout-found}
+use Rattle.syntax.specs.WordLaws.{no-word-none, finds-none, logout-found}
 use Rattle.syntax.proofs.commands.no_arguments.Statement.{statement}
 use Rattle.syntax.proofs.commands.no_arguments.Tie as tie
 

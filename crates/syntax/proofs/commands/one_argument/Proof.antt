@@ -9,7 +9,7 @@ use Rattle.syntax.specs.Form.{by-form}
 use Rattle.syntax.specs.Command.{forms}
 use Rattle.syntax.specs.Parts.{span-text}
 use Rattle.syntax.specs.Parsed.{meaning, with-path, with-entry}
-use Rattle.syntax.specs.ParsedLaws.{no-word-one, unlike, read-form, rm-form, rmdir-form, commit-form, up-form, del-form, one-found, one-nothing, no-path, finds-none}
+use Rattle.syntax.specs.WordLaws.{no-word-one, unlike, read-form, rm-form, rmdir-form, commit-form, up-form, del-form, one-found, one-nothing, no-path, finds-none}
 use Rattle.syntax.specs.declared.Command.the-variants.{Read, Rm, Rmdir, Commit, Up, Del}
 use Rattle.syntax.proofs.commands.one_argument.Statement.{statement}
 use Rattle.syntax.proofs.commands.one_argument.Tie as tie

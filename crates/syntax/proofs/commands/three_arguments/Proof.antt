@@ -9,7 +9,8 @@ use Rattle.syntax.specs.Text.{bytes}
 use Rattle.syntax.specs.Form.{by-form}
 use Rattle.syntax.specs.Command.{forms}
 use Rattle.syntax.specs.Parts.{span-text, number-of}
-use Rattle.syntax.specs.ParsedLaws.{no-word-three, role-not-read, add-found, add-nothing, finds-none}
+use Rattle.syntax.specs.WordLaws.{no-word-three, finds-none}
+use Rattle.syntax.specs.ParsedLaws.{role-not-read, add-found, add-nothing}
 use Rattle.syntax.proofs.commands.three_arguments.Statement.{statement}
 use Rattle.syntax.proofs.commands.three_arguments.Tie as tie
 

@@ -5,7 +5,8 @@ use borrow.Author.Tests.{not-true, not-false}
 use borrow.Author.Needs.{needs}
 use Rattle.syntax.specs.Parts.{span-text, part}
 use Rattle.syntax.specs.Parsed.{meaning}
-use Rattle.syntax.specs.ParsedLaws.{write-form, first-nothing, second-nothing, path-and, content-read, content-not-read}
+use Rattle.syntax.specs.WordLaws.{write-form, first-nothing, second-nothing, path-and}
+use Rattle.syntax.specs.ParsedLaws.{content-read, content-not-read}
 use Rattle.syntax.specs.declared.Command.the-variants.{Write}
 use Rattle.syntax.proofs.commands.write.Statement.{statement}
 use Rattle.syntax.proofs.commands.write.Tie as tie

@@ -5,7 +5,8 @@ use denote.Ref.{now}
 use borrow.Author.Needs.{needs}
 use lib.Seq.{length-take-le}
 use Rattle.syntax.specs.Text.{bytes}
-use Rattle.syntax.specs.PartsLaws.{entry-long, entry-begins, entry-is-path, answers-false, answers-true}
+use Rattle.syntax.specs.PathPartsLaws.{entry-long, entry-begins, entry-is-path}
+use Rattle.syntax.specs.PartsLaws.{answers-false, answers-true}
 use Rattle.syntax.proofs.paths.is_entry_path.Statement.{statement}
 use Rattle.syntax.proofs.paths.is_entry_path.Tie as tie
 

@@ -11,7 +11,8 @@ use Rattle.syntax.specs.Text.{Text, bytes, newline, pieces}
 use Rattle.syntax.specs.Setup.{read-lines, setup}
 use Rattle.syntax.specs.Parts.{part}
 use Rattle.syntax.specs.Reader.{Held, reading-value}
-use Rattle.syntax.specs.ReaderLaws.{held-later, begins, ends-early, end-accepted, end-wrong, line-wrong, line-read, told-wrong, told-accepted}
+use Rattle.syntax.specs.ReaderLaws.{held-later}
+use Rattle.syntax.specs.SetupLineLaws.{begins, ends-early, end-accepted, end-wrong, line-wrong, line-read, told-wrong, told-accepted}
 use Rattle.syntax.proofs.reader.read_setup.Statement.{statement}
 use Rattle.syntax.proofs.reader.read_setup.Tie as tie
 

@@ -6,7 +6,8 @@ use Rattle.syntax.specs.PartsLaws.{answers-false, answers-true}
 use Rattle.syntax.specs.Text.{bytes}
 use Rattle.syntax.specs.Parts.{part, span-text}
 use Rattle.syntax.specs.Reader.{reading-value}
-use Rattle.syntax.specs.ReaderLaws.{unread, read-range, told-number, told-nothing, l-word, l-password, l-first, l-second, l-all}
+use Rattle.syntax.specs.ReaderLaws.{unread}
+use Rattle.syntax.specs.SetupFormLaws.{read-range, told-number, told-nothing, l-word, l-password, l-first, l-second, l-all}
 use borrow.Author.Needs.{needs}
 use Rattle.syntax.proofs.reader.three_argument_line.Statement.{statement}
 use Rattle.syntax.proofs.reader.three_argument_line.Tie as tie
