@@ -3,7 +3,7 @@
 -- `rows-of` are the rows of a list of pairs. `ClosureLaws` says that one pair more grows them so (`grown-rows-are`), and that a
 -- row tells dominance (`row-dominates-is`) and the service account (`row-account-is`).
 use mathlib.Core.List.{List, [], _∷_, map}
-use mathlib.Core.Bool.{Bool, true, false, cond}
+use mathlib.Core.Bool.{Bool, false, cond}
 use Prim.Native.Nat.{ℕ, zero, suc, _+_, _*_, _/_, _%_, _^_}
 use lib.Dec.{eqb}
 use lib.Bits.{bitOr}

@@ -1,8 +1,8 @@
 -- The abstract machine (document 01's shelf machine): the people's tree, sessions, and the entries apart, each with a role
 -- and with no owner, group or mode. `embed` says how its state stands in the store.
-use mathlib.Core.List.{List, []}
+use mathlib.Core.List.{[]}
 use mathlib.Core.Option.{Option, none, some}
-use mathlib.Core.Bool.{Bool, true, false, _&&_}
+use mathlib.Core.Bool.{Bool, true, _&&_}
 use Prim.Native.Nat.{ℕ, suc}
 use Rattle.accounts.specs.Dominance.{same-role, Bounded-role, dominates}
 use Rattle.syntax.specs.Text.{Text}
@@ -14,7 +14,7 @@ use Rattle.tree.specs.Node.{is-directory, Node}
 use Rattle.tree.specs.Walk.{Judge}
 use Rattle.tree.specs.Graft.{graft}
 use Rattle.repository.specs.Machine.{Sessions, Machine}
-use Rattle.repository.specs.Initial.{rep-node, directory-of, initial-tree, no-sessions}
+use Rattle.repository.specs.Initial.{rep-node, initial-tree, no-sessions}
 use Rattle.repository.specs.Store.{Store, entry-node}
 
 -- an entry of a role, or `/rep` itself, which is of none

@@ -1,7 +1,7 @@
 -- The three library calls on bytes: from the bytes at entry to what is returned and all bytes at exit.
 use mathlib.Core.List.{List, [], _∷_, _++_}
 use mathlib.Core.Option.{Option, none, some}
-use mathlib.Core.Bool.{Bool, true, false, cond}
+use mathlib.Core.Bool.{cond}
 use Prim.Native.Nat.{ℕ}
 use lib.Dec.{eqb, leb}
 use lib.ListN.{length, getElem?, drop}
@@ -16,7 +16,7 @@ use Rattle.repository.specs.declared.Answer.the-variants.{Done, Refused,
 use Rattle.repository.specs.declared.Answer.the-variants
 use Rattle.repository.specs.Store.{Store, store, initial-store}
 use Rattle.repository.specs.Calls.{least-room, perform}
-use Rattle.repository.specs.Encoding.{State, store-width, encode, decode}
+use Rattle.repository.specs.Encoding.{store-width, encode, decode}
 use Rattle.repository.specs.Listing.{listing}
 
 -- document 01's number for each cause

@@ -1,7 +1,7 @@
 -- Library calls on a machine: one command line of any bytes, and a list of them.
 use mathlib.Core.List.{List, [], _∷_}
 use mathlib.Core.Option.{Option, none, some}
-use mathlib.Core.Bool.{Bool, true, false}
+use mathlib.Core.Bool.{Bool, false}
 use Prim.Native.Nat.{ℕ}
 use lib.Dec.{leb}
 use Rattle.accounts.specs.Access.{is-root}

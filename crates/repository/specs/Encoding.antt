@@ -10,16 +10,15 @@
 -- | 6142 | 59394 | the tree |
 --
 -- `decode` answers the state whose encoding the bytes are, if it is well-formed; it is the only one (`encode-decode`).
-use mathlib.Core.Path.{_≡_, refl}
 use mathlib.Core.List.{List, [], _∷_, _++_}
 use mathlib.Core.Option.{Option, none, some}
-use mathlib.Core.Bool.{Bool, true, false, _&&_, cond}
+use mathlib.Core.Bool.{Bool, _&&_, cond}
 use Prim.Native.Nat.{ℕ, zero, suc, _-_, _*_}
 use lib.Dec.{eqb}
 use lib.ListN.{length, getD, take, drop, replicate}
 use Rattle.accounts.specs.declared.Pair.{Pair}
 use Rattle.accounts.specs.Dominance.{Bounded-role}
-use Rattle.syntax.specs.Text.{Text, same-text}
+use Rattle.syntax.specs.Text.{same-text}
 use Rattle.syntax.specs.Form.{_>>=_, _>>_, check}
 use Rattle.syntax.specs.Field.{bounded}
 use Rattle.syntax.specs.Setup.{Person, Grant, Setup, accounts, most-pairs, most-grants, is-setup}

@@ -22,12 +22,12 @@ use Rattle.syntax.specs.Setup.{Setup}
 use Rattle.syntax.specs.SetupLaws.{accepted-is-setup}
 use Rattle.tree.specs.declared.Kind.{Kind}
 use Rattle.tree.specs.declared.Kind.the-variants.{File, Directory}
-use Rattle.tree.specs.Result.{Result, done}
-use Rattle.tree.specs.ResultLaws.{not-done, present-some}
+use Rattle.tree.specs.Result.{done}
+use Rattle.tree.specs.ResultLaws.{present-some}
 use Rattle.tree.specs.Forest.{Place, place-at, map-place}
 use Rattle.tree.specs.Node.{Node}
 use Rattle.tree.specs.Walk.{Judge, by-modes, walk, parent-walk, unused}
-use Rattle.tree.specs.Agree.{Agree, Ensures, ensured, ensured-done, after-do, after-facts, after-check, after-guard, done-first}
+use Rattle.tree.specs.Agree.{Ensures, ensured, ensured-done, after-do, after-facts, after-check, after-guard, done-first}
 use Rattle.tree.specs.StepLaws.{was-unused, parent-walked}
 use Rattle.tree.specs.UpdateLaws.{at-child, walked-at}
 use Rattle.tree.specs.MapLaws.{map-here}

@@ -3,9 +3,7 @@
 -- `worked-example` goes from the bytes of the program's input to those of its output; `input` and `expected` may be replaced by
 -- any other two texts. The answers are those of the abstract machine too.
 use mathlib.Core.Path.{_≡_, refl}
-use mathlib.Core.List.{List, [], _∷_, map}
-use mathlib.Core.Option.{none}
-use Prim.Native.Nat.{ℕ}
+use mathlib.Core.List.{List, [], map}
 use Rattle.accounts.specs.Compute.{compute as compute-accounts}
 use Rattle.syntax.specs.Compute.{compute as compute-syntax}
 use Rattle.tree.specs.Compute.{compute as compute-tree}
@@ -16,9 +14,9 @@ use Rattle.repository.specs.Machine.{Machine, person-caller, known-calle
 use Rattle.repository.specs.Initial.{directory-of, top-node, rep-node, home-node, home-name, with-home, homes, initial-tree, no-sessions}
 use Rattle.repository.specs.Store.{store, entry-mode, entry-node, initial-store}
 use Rattle.repository.specs.Abstract.{abstract, dominated, role-passes, role-readable, role-writable, by-dominance, rep-entry, initial-abstract, stored, in-store, whole, embed}
-use Rattle.repository.specs.Calls.{least-room, Reply, ok, refusal, reply, after, perform, step, runs}
+use Rattle.repository.specs.Calls.{least-room, ok, reply, after, perform, step, runs}
 use Rattle.repository.specs.Listing.{kind-text, tag-fields, node-line, forest-lines, listing}
-use Rattle.repository.specs.Transcript.{Input, after-end, parts, command-lines, reply-line, lines-text, call-of, session-text, output, transcript}
+use Rattle.repository.specs.Transcript.{after-end, parts, command-lines, reply-line, lines-text, call-of, session-text, output, transcript}
 
 -- every definition that a run goes through
 unfoldable compute : Unit {0}

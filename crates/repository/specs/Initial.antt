@@ -1,11 +1,11 @@
 -- The initial state (document 01's fresh store): `/`, `/rep`, a home for each person, and no sessions.
-use mathlib.Core.List.{List, [], _++_}
+use mathlib.Core.List.{[], _++_}
 use mathlib.Core.Option.{Option, none, some}
 use Prim.Native.Nat.{ℕ, zero, suc}
 use lib.ListN.{replicate}
 use Rattle.accounts.specs.declared.Uid.{Uid}
 use Rattle.accounts.specs.declared.Gid.{Gid}
-use Rattle.syntax.specs.Text.{Text, bytes}
+use Rattle.syntax.specs.Text.{bytes}
 use Rattle.syntax.specs.Number.{decimal-text}
 use Rattle.syntax.specs.Path.{Name, rep}
 use Rattle.syntax.specs.Setup.{Person, Setup, accounts, person}

@@ -3,7 +3,6 @@
 -- `/` is less than every byte of a name, so byte order of paths is preorder with siblings in byte order.
 use mathlib.Core.List.{List, [], _∷_, _++_}
 use mathlib.Core.Option.{Option, none, some}
-use Prim.Native.Nat.{ℕ}
 use Rattle.syntax.specs.Text.{Text, bytes, comma, joined}
 use Rattle.syntax.specs.Number.{decimal-text, mode-text}
 use Rattle.syntax.specs.Path.{Path, root, _▹_, path-text, entry-text}

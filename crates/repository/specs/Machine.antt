@@ -4,7 +4,7 @@
 -- judge. The store and the abstract machine are two instances of this one text.
 use mathlib.Core.List.{List, [], _∷_}
 use mathlib.Core.Option.{Option, none, some}
-use mathlib.Core.Bool.{Bool, true, false, _&&_, _||_, not, cond}
+use mathlib.Core.Bool.{Bool, false, _&&_, _||_, not, cond}
 use Prim.Native.Nat.{ℕ, suc, _+_}
 use lib.Dec.{eqb, leb}
 use lib.ListN.{getD, set}
@@ -15,7 +15,7 @@ use Rattle.accounts.specs.Groups.{with-group}
 use Rattle.accounts.specs.Access.{is-root, same-uid}
 use Rattle.accounts.specs.Dominance.{same-role, Bounded-role, dominates}
 use Rattle.syntax.specs.Text.{Text, same-text}
-use Rattle.syntax.specs.Path.{Name, Path, root, _▹_, Entry-path, parent, last, depth, most-names}
+use Rattle.syntax.specs.Path.{Path, _▹_, Entry-path, parent, last, depth, most-names}
 use Rattle.syntax.specs.Command.{Repository-command, login, logout, add, co, commit, up, del, Command, shell, repository}
 use Rattle.syntax.specs.Setup.{Person, Grant, Setup, person}
 use Rattle.tree.specs.declared.Kind.{Kind}

@@ -1,5 +1,5 @@
 -- What demand 3 compares after a list of calls, and the stores that such lists reach.
-use mathlib.Core.Path.{_≡_, refl}
+use mathlib.Core.Path.{_≡_}
 use mathlib.Core.List.{List}
 use mathlib.Core.Option.{Option, some}
 use mathlib.Core.Bool.{Bool, true, not}

@@ -1,5 +1,4 @@
 -- The store: one tree, in which persons and accounts alike are judged by owners, groups and modes.
-use mathlib.Core.List.{List}
 use mathlib.Core.Option.{none}
 use Prim.Native.Nat.{ℕ, suc}
 use Rattle.accounts.specs.Dominance.{Bounded-role}

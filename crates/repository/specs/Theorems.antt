@@ -4,7 +4,7 @@
 use mathlib.Core.Path.{_≡_, refl}
 use mathlib.Core.List.{List, []}
 use mathlib.Core.Option.{some}
-use mathlib.Core.Bool.{Bool, true, false}
+use mathlib.Core.Bool.{true, false}
 use mathlib.Core.Logic.{_⊎_}
 use Prim.Native.Nat.{ℕ}
 use lib.Dec.{ltb}
@@ -30,7 +30,7 @@ use Rattle.repository.specs.Machine.{caller, run}
 use Rattle.repository.specs.Store.{Store, store, entry-node, initial-store}
 use Rattle.repository.specs.Abstract.{Entry, Abstract, abstract, dominated, initial-abstract, in-store, embed}
 use Rattle.repository.specs.Calls.{Call, after, step, runs}
-use Rattle.repository.specs.Encoding.{State, encode, well-formed, decode}
+use Rattle.repository.specs.Encoding.{encode, well-formed, decode}
 use Rattle.repository.specs.Bytes.{refused-by, run-result, run-call}
 use Rattle.repository.specs.BytesLaws
 use Rattle.repository.specs.Observed.{Compared, without-root, Reached, Reached-without-root}

@@ -1,13 +1,12 @@
 -- The program's output, from the bytes of its input: the answers to the commands, then the listing.
 use mathlib.Core.List.{List, [], _∷_, _++_, map}
-use mathlib.Core.Option.{Option, none, some}
-use mathlib.Core.Bool.{Bool, true, false, cond}
-use Prim.Native.Nat.{ℕ}
-use Rattle.syntax.specs.Text.{Text, bytes, comma, newline, same-text, pieces, joined}
+use mathlib.Core.Option.{none, some}
+use mathlib.Core.Bool.{cond}
+use Rattle.syntax.specs.Text.{Text, bytes, newline, same-text, pieces, joined}
 use Rattle.syntax.specs.Number.{decimal-text}
 use Rattle.syntax.specs.Setup.{Setup, Setup-answer, accepted, wrong-line, setup}
-use Rattle.repository.specs.Store.{Store, store, initial-store}
-use Rattle.repository.specs.Calls.{Call, least-room, Reply, ok, refusal, Ran, runs}
+use Rattle.repository.specs.Store.{store, initial-store}
+use Rattle.repository.specs.Calls.{Call, least-room, Reply, ok, refusal, runs}
 use Rattle.repository.specs.Listing.{listing}
 
 -- the pieces of the input between its bytes 10: those of the setup, and those of the commands

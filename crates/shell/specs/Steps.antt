@@ -2,15 +2,14 @@
 --
 -- The tree is that in which persons walk. Nodes that exist elsewhere count towards the 256 too: none in the store, which is one
 -- tree, and the entries in the abstract machine.
-use mathlib.Core.List.{List, [], _∷_}
-use mathlib.Core.Option.{Option, none, some}
-use mathlib.Core.Bool.{Bool, true, false, _&&_, _||_, not, cond}
+use mathlib.Core.Option.{none, some}
+use mathlib.Core.Bool.{Bool, _&&_, _||_, not, cond}
 use Prim.Native.Nat.{ℕ, _+_}
 use lib.Dec.{leb}
 use Rattle.accounts.specs.declared.Uid.{Uid}
 use Rattle.accounts.specs.declared.Gid.{Gid}
 use Rattle.accounts.specs.declared.Right.{Right}
-use Rattle.accounts.specs.declared.Right.the-variants.{R, W, X}
+use Rattle.accounts.specs.declared.Right.the-variants.{R, W}
 use Rattle.accounts.specs.Groups.{member}
 use Rattle.accounts.specs.Access.{is-root, same-uid}
 use Rattle.syntax.specs.Text.{Text, comma, joined}

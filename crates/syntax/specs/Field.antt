@@ -1,6 +1,5 @@
 -- The readers of a command line's fields.
 use mathlib.Core.Path.{_≡_, refl}
-use mathlib.Core.List.{List, []}
 use mathlib.Core.Option.{Option, none, some}
 use mathlib.Core.Bool.{Bool, true, false, _&&_, not}
 use Prim.Native.Nat.{ℕ}
@@ -8,7 +7,6 @@ use lib.Dec.{eqb, leb, ltb}
 use lib.ListN.{length}
 use Rattle.accounts.specs.declared.Uid.{Uid}
 use Rattle.accounts.specs.declared.Gid.{Gid}
-use Rattle.accounts.specs.declared.Role.{Role}
 use Rattle.accounts.specs.Dominance.{Bounded-role}
 use Rattle.syntax.specs.Text.{Text, every}
 use Rattle.syntax.specs.Number.{decimal, between, mode, set-gid}

@@ -1,9 +1,9 @@
 -- Laws of the readers of numbers, modes and fields: all that each answers is in range. Content fits its bytes.
-use mathlib.Core.Path.{_≡_, refl}
+use mathlib.Core.Path.{_≡_, refl, sym}
 use mathlib.Core.List.{[], _∷_}
 use mathlib.Core.Option.{some}
 use mathlib.Core.Bool.{Bool, true, false, _&&_, _||_, not}
-use Prim.Native.Nat.{ℕ, suc, _+_, _-_, _*_, _/_, _≤_, _<_}
+use Prim.Native.Nat.{ℕ, suc, _+_, _-_, _*_, _/_, _≤_, _<_, _%_}
 use native.Mathlib.Omega.{arith}
 use borrow.Author.Tests.{eqb-true, eq-eqb, ne-eqb, ltb-true, lt-ltb, leb-true, not-true}
 use lib.Dec.{eqb, leb, ltb}
@@ -126,3 +126,12 @@ content-fits c h =
       omega (arith, leb-true (length c) 64 (i .1)),
       every-implies content-byte (λ b. not (eqb b 0)) (λ b t. rw (ne-eqb b 0 (λ e. omega (arith, content-byte-from b t)))) c (i .0),
     )
+
+-- a number that is read is in range, and fits a byte
+pub read-range : (low high n : ℕ) (t : Text) → some n ≡ between low high t → (low ≤ n) × (n ≤ high)
+read-range low high n t e =
+    let i : _ = and-both (leb low n) (leb n high) (between-gives low high t n (sym e)) in
+    (leb-true low n (i .0), leb-true n high (i .1))
+
+pub read-byte : (low high n : ℕ) (t : Text) → some n ≡ between low high t → high < 256 → n % 256 ≡ n
+read-byte low high n t e h = omega (arith, read-range low high n t e .1)

@@ -28,6 +28,12 @@ checked false r b e = no-answer e
 pub answered : {A : Type 0} {a b : A} → some a ≡ some b → b ≡ a
 answered e = cc
 
+-- an answer of which nothing comes
+pub then-none : {A B : Type 0} (m : Option A) (f : A → Option B) → ((a : A) → f a ≡ none) → (m >>= f) ≡ none
+unfolding _>>=_
+then-none none f h = refl
+then-none (some a) f h = h a
+
 -- two tests that pass pass together
 pub both : {a b : Bool} → a ≡ true → b ≡ true → (a && b) ≡ true
 both h k = rw (h, k)

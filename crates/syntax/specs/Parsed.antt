@@ -4,11 +4,7 @@
 -- `parse` and its helpers also say that every part has.
 use mathlib.Core.List.{List, [], _∷_}
 use mathlib.Core.Option.{Option, none, some}
-use mathlib.Core.Bool.{Bool, true, false}
-use Prim.Native.Nat.{ℕ}
 use Rattle.accounts.specs.declared.Uid.{Uid}
-use Rattle.accounts.specs.declared.Gid.{Gid}
-use Rattle.accounts.specs.declared.Role.{Role}
 use Rattle.syntax.specs.declared.Span.{Span}
 use Rattle.syntax.specs.declared.Command.{Command as Parts}
 use Rattle.syntax.specs.declared.Command.the-variants.{Create, Mkdir, Read, Write, Rm, Rmdir, Mv, Chmod, Chgrp, Chown, Login, Logout, Add, Co, Commit, Up, Del}

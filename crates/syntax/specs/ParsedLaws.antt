@@ -19,26 +19,20 @@ use Rattle.syntax.specs.declared.Parsed.the-variants.{Line as Is-line, N
 use Rattle.syntax.specs.Text.{Text, bytes, same-text, comma, pieces}
 use Rattle.syntax.specs.Number.{decimal, between, mode, set-gid, is-mode}
 use Rattle.syntax.specs.Form.{_>>=_, _>>_, check, by-form}
-use Rattle.syntax.specs.FormLaws.{no-answer, answered}
+use Rattle.syntax.specs.FormLaws.{no-answer, answered, then-none}
 use Rattle.syntax.specs.Path.{path, entry-path, is-name}
 use Rattle.syntax.specs.Field.{uid, gid, role, bounded, bounded-by, plain-mode, password, is-content, content}
-use Rattle.syntax.specs.FieldLaws.{between-gives, mode-gives}
+use Rattle.syntax.specs.FieldLaws.{between-gives, mode-gives, read-byte}
 use Rattle.syntax.specs.Command.{add, Command, repository, forms, line-of, line}
 use Rattle.syntax.specs.Setup.{is-some}
 use Rattle.syntax.specs.Parts.{part, span-text, field-at}
 use Rattle.syntax.specs.Parsed.{with-entry, meaning, found, line-with, parsed, command-of}
-use Rattle.syntax.specs.WordLaws.{is-none, the-some, then-none, same-word, finds-nothing, login-form, add-form, some-of-three, two-found}
+use Rattle.syntax.specs.WordLaws.{is-none, the-some, same-word, finds-nothing, login-form, add-form, some-of-three, two-found}
 use Rattle.syntax.specs.FieldAtLaws.{field-is, field-goes-on, last-piece, next-piece}
-
--- the value of a number that was read
-in-byte : (high n : ℕ) (t : Text) → high < 256 → some n ≡ between 0 high t → n % 256 ≡ n
-in-byte high n t h e =
-    let i : _ = and-both (leb 0 n) (leb n high) (between-gives 0 high t n (sym e)) in
-    omega (arith, leb-true n high (i .1))
 
 pub gid-read : (n : ℕ) (t : Text) → some n ≡ between 0 24 t → gid t ≡ some (record { 0 = n % 256 })
 unfolding gid _>>=_
-gid-read n t e = rw (← e, in-byte 24 n t (omega arith) e)
+gid-read n t e = rw (← e, read-byte 0 24 n t e (omega arith))
 
 pub gid-not-read : (t : Text) → none ≡ between 0 24 t → is-some (gid t) ≡ false
 unfolding gid _>>=_ is-some
@@ -46,7 +40,7 @@ gid-not-read t e = rw (← e)
 
 pub uid-read : (n : ℕ) (t : Text) → some n ≡ between 0 23 t → uid t ≡ some (record { 0 = n % 256 })
 unfolding uid _>>=_
-uid-read n t e = rw (← e, in-byte 23 n t (omega arith) e)
+uid-read n t e = rw (← e, read-byte 0 23 n t e (omega arith))
 
 pub uid-not-read : (t : Text) → none ≡ between 0 23 t → is-some (uid t) ≡ false
 unfolding uid _>>=_ is-some
@@ -77,7 +71,7 @@ unfolding _>>=_
 role-read n t e =
     let same : role t ≡ bounded n = rw (role-between t, ← e) in
     let i : _ = and-both (leb 0 n) (leb n 7) (between-gives 0 7 t n (sym e)) in
-    (rw (in-byte 7 n t (omega arith) e) same, ap is-some same ∙ (bounded-some n ∙ lt-ltb n 8 (omega (arith, leb-true n 7 (i .1)))))
+    (rw (read-byte 0 7 n t e (omega arith)) same, ap is-some same ∙ (bounded-some n ∙ lt-ltb n 8 (omega (arith, leb-true n 7 (i .1)))))
 
 pub role-not-read : (t : Text) → none ≡ between 0 7 t → is-some (role t) ≡ false
 unfolding _>>=_ is-some

@@ -1,6 +1,7 @@
 -- Laws of parts of texts: the pieces of a text and of a text from a place on, and tests and comparisons from a place on.
 use mathlib.Core.Path.{_≡_, refl, sym, ap, ap₂, _∙_}
 use mathlib.Core.List.{List, [], _∷_}
+use mathlib.Core.Option.{Option, none, some}
 use mathlib.Core.Bool.{Bool, true, false, _&&_, not}
 use Prim.Native.Nat.{ℕ, suc, _+_, _-_, _≤_, _<_}
 use native.Mathlib.Omega.{arith}
@@ -11,6 +12,8 @@ use lib.ListN.{length, take, drop, getD, length-drop, drop-of-length-le}
 use lib.Seq.{drop-cons, drop-drop, take-length}
 use Rattle.accounts.specs.Cases.{case}
 use Rattle.syntax.specs.Text.{Text, same-text, every, prefix-first, pieces, joined}
+use Rattle.syntax.specs.Form.{_>>=_}
+use Rattle.syntax.specs.Setup.{is-some}
 use Rattle.syntax.specs.Parts.{part, piece-length}
 
 -- what a call answered, from a test of its answer turned round
@@ -141,3 +144,9 @@ joined-pieces b [] = refl
 joined-pieces b (c ∷ t) = case (eqb c b)
     (λ e. rw e (joined-empty b (pieces b t) (pieces-some b t) ∙ ap₂ _∷_ (sym (eqb-true c b e)) (joined-pieces b t)))
     (λ e. rw e (joined-prefixed b c (pieces b t) (pieces-some b t) ∙ ap (λ (r : Text). c ∷ r) (joined-pieces b t)))
+
+-- an answer made of another is some where that is
+pub some-of-one : {A X : Type 0} (m : Option A) (x : A → X) → is-some (m >>= λ a. some (x a)) ≡ is-some m
+unfolding _>>=_ is-some
+some-of-one none x = refl
+some-of-one (some a) x = refl

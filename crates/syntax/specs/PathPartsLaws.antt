@@ -2,7 +2,7 @@
 -- and what the readers of names give of a path (`names-of-path`).
 use mathlib.Core.Path.{_≡_, refl, sym, ap, _∙_}
 use mathlib.Core.List.{List, [], _∷_, _++_}
-use mathlib.Core.Option.{Option, none, some}
+use mathlib.Core.Option.{none, some}
 use mathlib.Core.Bool.{Bool, true, false, _&&_, and-false}
 use Prim.Native.Nat.{ℕ, zero, suc, _+_, _≤_, _<_}
 use native.Mathlib.Omega.{arith}
@@ -21,7 +21,7 @@ use Rattle.syntax.specs.FormLaws.{checked, answered}
 use Rattle.syntax.specs.declared.NextName.{NextName}
 use Rattle.syntax.specs.declared.NextName.the-variants
 use Rattle.syntax.specs.Parts.{part, piece-length, next-name}
-use Rattle.syntax.specs.PartsLaws.{piece-end-le, pieces-first-from, pieces-only-from, pieces-some, joined-pieces}
+use Rattle.syntax.specs.PartsLaws.{piece-end-le, pieces-first-from, pieces-only-from, pieces-some, joined-pieces, some-of-one}
 
 -- whether names still to be read, after some, are names of a path
 unfoldable pub names-left : ℕ → List Text → Bool
@@ -107,16 +107,10 @@ path-is-names t h e =
     let all : _ = check-some (every is-name ns && (leb 1 (length ns) && leb (length ns) most-names)) (extended root ns) in
     rw (path-names t h e, many, all, le-leb 1 (length ns) (pieces-some 47 (drop 1 t)))
 
--- a value made of an answer
-some-after : {A B : Type 0} (m : Option A) (f : A → B) → is-some (m >>= λ a. some (f a)) ≡ is-some m
-unfolding _>>=_ is-some
-some-after none f = refl
-some-after (some a) f = refl
-
 entry-goes-on : (p : Path) (m n : Name) (ns : List Name) → is-some (entry-at (extended (p ▹ m ▹ n) ns)) ≡ is-some (without-rep (p ▹ m))
 unfolding extended entry-at without-rep
-entry-goes-on p m n [] = some-after (without-rep (p ▹ m)) (λ f. record { folder = f; name = n })
-entry-goes-on p m n (k ∷ ns) = entry-goes-on (p ▹ m) n k ns ∙ some-after (without-rep (p ▹ m)) (λ q. q ▹ n)
+entry-goes-on p m n [] = some-of-one (without-rep (p ▹ m)) (λ f. record { folder = f; name = n })
+entry-goes-on p m n (k ∷ ns) = entry-goes-on (p ▹ m) n k ns ∙ some-of-one (without-rep (p ▹ m)) (λ q. q ▹ n)
 
 -- two names or more are an entry path where the first is `rep`
 entry-first : (m n : Name) (ns : List Name) → is-some (entry-at (extended root (m ∷ (n ∷ ns)))) ≡ same-text m rep

@@ -3,12 +3,10 @@ use mathlib.Core.Path.{_≡_, refl, sym, ap, _∙_}
 use mathlib.Core.List.{List, [], _∷_}
 use mathlib.Core.Option.{Option, none, some}
 use mathlib.Core.Bool.{true, false}
-use Prim.Native.Nat.{ℕ, _%_, _≤_, _<_}
+use Prim.Native.Nat.{ℕ, _%_, _≤_}
 use native.Mathlib.Omega.{arith}
-use borrow.Author.Tests.{leb-true}
-use lib.Dec.{leb}
 use lib.ListN.{length}
-use Rattle.accounts.specs.Cases.{case, and-both, contra}
+use Rattle.accounts.specs.Cases.{case, contra}
 use Rattle.syntax.specs.declared.Number.{Number}
 use Rattle.syntax.specs.declared.Number.the-variants.{Value, Nothing}
 use Rattle.syntax.specs.Text.{Text, bytes, same-text}
@@ -16,20 +14,12 @@ use Rattle.syntax.specs.TextLaws.{same-text-sound}
 use Rattle.syntax.specs.Number.{between}
 use Rattle.syntax.specs.Form.{_>>=_, _>>_, check, none-of, one-of, two-of, three-of, by-form}
 use Rattle.syntax.specs.Field.{password}
-use Rattle.syntax.specs.FieldLaws.{between-gives}
+use Rattle.syntax.specs.FieldLaws.{read-byte}
 use Rattle.syntax.specs.Path.{is-name}
 use Rattle.syntax.specs.Setup.{p-line, g-line, r-line, l-line, person-uid, person-or-root, person-gid, plain-role, setup-form, setup-forms, setup-line-of, Reading, accept}
 use Rattle.syntax.specs.Parts.{number-of}
 use Rattle.syntax.specs.Reader.{fields-accepted}
-
--- a number that is read is in range, and fits a byte
-pub read-range : (low high n : ℕ) (t : Text) → some n ≡ between low high t → (low ≤ n) × (n ≤ high)
-read-range low high n t e =
-    let i : _ = and-both (leb low n) (leb n high) (between-gives low high t n (sym e)) in
-    (leb-true low n (i .0), leb-true n high (i .1))
-
-pub read-byte : (low high n : ℕ) (t : Text) → some n ≡ between low high t → high < 256 → n % 256 ≡ n
-read-byte low high n t e h = omega (arith, read-range low high n t e .1)
+use Rattle.syntax.specs.FormLaws.{then-none}
 
 -- what the code's reader of numbers told
 pub told-number : (r : Number) (n low high : ℕ) (t : Text) → r ≡ Value n → number-of r ≡ between low high t → some n ≡ between low high t
@@ -40,21 +30,15 @@ pub told-nothing : (r : Number) (low high : ℕ) (t : Text) → r ≡ Nothing �
 unfolding number-of
 told-nothing r low high t e h = sym (ap number-of e) ∙ h
 
--- nothing comes of a reader that answers nothing, whatever is read before
-bind-none : {A B : Type 0} (m : Option A) (f : A → Option B) → ((a : A) → f a ≡ none) → (m >>= f) ≡ none
-unfolding _>>=_
-bind-none none f h = refl
-bind-none (some a) f h = h a
-
 -- forms with a wrong number of arguments
 module _ {A B X : Type 0} (read : Text → Option A) (read′ : Text → Option B) (x : A → B → X) where
   two-short : (a : Text) → two-of read read′ x (a ∷ []) ≡ none
   unfolding two-of one-of
-  two-short a = bind-none (read a) (λ v. none) (λ v. refl)
+  two-short a = then-none (read a) (λ v. none) (λ v. refl)
 
   two-long : (a b c : Text) (more : List Text) → two-of read read′ x (a ∷ (b ∷ (c ∷ more))) ≡ none
   unfolding two-of one-of none-of
-  two-long a b c more = bind-none (read a) _ (λ v. bind-none (read′ b) _ (λ u. refl))
+  two-long a b c more = then-none (read a) _ (λ v. then-none (read′ b) _ (λ u. refl))
 
   -- with an argument of no form
   two-first : (a b : Text) → read a ≡ none → two-of read read′ x (a ∷ (b ∷ [])) ≡ none
@@ -63,20 +47,20 @@ module _ {A B X : Type 0} (read : Text → Option A) (read′ : Text → Option 
 
   two-second : (a b : Text) → read′ b ≡ none → two-of read read′ x (a ∷ (b ∷ [])) ≡ none
   unfolding two-of one-of _>>=_
-  two-second a b e = bind-none (read a) _ (λ v. rw e)
+  two-second a b e = then-none (read a) _ (λ v. rw e)
 
 module _ {A B C X : Type 0} (read : Text → Option A) (read′ : Text → Option B) (read″ : Text → Option C) (x : A → B → C → X) where
   three-short : (a b : Text) → three-of read read′ read″ x (a ∷ (b ∷ [])) ≡ none
   unfolding three-of
-  three-short a b = bind-none (read a) _ (λ v. two-short read′ read″ (x v) b)
+  three-short a b = then-none (read a) _ (λ v. two-short read′ read″ (x v) b)
 
   three-shorter : (a : Text) → three-of read read′ read″ x (a ∷ []) ≡ none
   unfolding three-of two-of
-  three-shorter a = bind-none (read a) _ (λ v. refl)
+  three-shorter a = then-none (read a) _ (λ v. refl)
 
   three-long : (a b c d : Text) (more : List Text) → three-of read read′ read″ x (a ∷ (b ∷ (c ∷ (d ∷ more)))) ≡ none
   unfolding three-of
-  three-long a b c d more = bind-none (read a) _ (λ v. two-long read′ read″ (x v) b c d more)
+  three-long a b c d more = then-none (read a) _ (λ v. two-long read′ read″ (x v) b c d more)
 
   three-first : (a b c : Text) → read a ≡ none → three-of read read′ read″ x (a ∷ (b ∷ (c ∷ []))) ≡ none
   unfolding three-of _>>=_
@@ -84,11 +68,11 @@ module _ {A B C X : Type 0} (read : Text → Option A) (read′ : Text → Optio
 
   three-second : (a b c : Text) → read′ b ≡ none → three-of read read′ read″ x (a ∷ (b ∷ (c ∷ []))) ≡ none
   unfolding three-of
-  three-second a b c e = bind-none (read a) _ (λ v. two-first read′ read″ (x v) b c e)
+  three-second a b c e = then-none (read a) _ (λ v. two-first read′ read″ (x v) b c e)
 
   three-third : (a b c : Text) → read″ c ≡ none → three-of read read′ read″ x (a ∷ (b ∷ (c ∷ []))) ≡ none
   unfolding three-of
-  three-third a b c e = bind-none (read a) _ (λ v. two-second read′ read″ (x v) b c e)
+  three-third a b c e = then-none (read a) _ (λ v. two-second read′ read″ (x v) b c e)
 
 -- a line is none where the form of its word answers nothing
 lines-none : (w : Text) (s : List Text) (d : Reading) →

@@ -28,6 +28,8 @@ use Rattle.syntax.specs.Command.{create, mkdir, read, write, rm, rmdir, 
 use Rattle.syntax.specs.Setup.{is-some}
 use Rattle.syntax.specs.Parts.{span-text}
 use Rattle.syntax.specs.Parsed.{with-path, meaning, found}
+use Rattle.syntax.specs.FormLaws.{then-none}
+use Rattle.syntax.specs.PartsLaws.{some-of-one}
 
 -- what is no answer is none
 pub is-none : {A : Type 0} (m : Option A) → is-some m ≡ false → m ≡ none
@@ -44,12 +46,6 @@ the-some (some a) e = (a, refl)
 pub not-read : {A : Type 0} (m : Option A) → none ≡ m → is-some m ≡ false
 unfolding is-some
 not-read m e = rw (← e)
-
--- an answer of which nothing comes
-pub then-none : {A B : Type 0} (m : Option A) (f : A → Option B) → ((a : A) → f a ≡ none) → (m >>= f) ≡ none
-unfolding _>>=_
-then-none none f h = refl
-then-none (some a) f h = h a
 
 -- forms refuse another number of arguments
 none-refuses : {X : Type 0} (x : X) (ts : List Text) → (length ts ≡ 0 → ⊥) → none-of x ts ≡ none
@@ -255,11 +251,6 @@ unfolding forms form by-form bytes same-text three-of two-of one-of none-of
 add-form s s′ s″ = refl
 
 -- an answer made of others is some where they are
-some-of-one : {A X : Type 0} (m : Option A) (x : A → X) → is-some (m >>= λ a. some (x a)) ≡ is-some m
-unfolding _>>=_ is-some
-some-of-one none x = refl
-some-of-one (some a) x = refl
-
 some-of-two : {A B X : Type 0} (m : Option A) (n : Option B) (x : A → B → X) →
     is-some (m >>= λ a. n >>= λ b. some (x a b)) ≡ (is-some m && is-some n)
 unfolding _>>=_ is-some

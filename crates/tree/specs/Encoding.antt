@@ -6,12 +6,12 @@
 -- `decode-tree` answers the tree whose encoding the bytes are, if it is well-formed.
 use mathlib.Core.List.{List, [], _∷_, _++_}
 use mathlib.Core.Option.{Option, none, some}
-use mathlib.Core.Bool.{Bool, true, false, _&&_, cond}
+use mathlib.Core.Bool.{_&&_, cond}
 use Prim.Native.Nat.{ℕ, zero, suc, _-_, _*_}
 use lib.Dec.{eqb}
 use lib.ListN.{length, getD, take, drop, replicate}
 use Rattle.syntax.specs.Text.{Text, same-text}
-use Rattle.syntax.specs.Path.{Entry-path, entry-path, entry-text}
+use Rattle.syntax.specs.Path.{entry-path, entry-text}
 use Rattle.syntax.specs.Form.{_>>=_, _>>_, check}
 use Rattle.tree.specs.declared.Kind.{Kind}
 use Rattle.tree.specs.declared.Kind.the-variants.{File, Directory}

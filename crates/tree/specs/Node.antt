@@ -1,6 +1,5 @@
 -- A node of the file tree: kind, owner, group, mode, revision, tag, content.
-use mathlib.Core.List.{List, []}
-use mathlib.Core.Option.{Option, none, some}
+use mathlib.Core.Option.{Option, some}
 use mathlib.Core.Bool.{Bool, true, false}
 use Prim.Native.Nat.{ℕ}
 use Rattle.accounts.specs.declared.Uid.{Uid}

@@ -2,13 +2,11 @@
 use mathlib.Core.Path.{_≡_, refl, sym, _∙_, ap}
 use mathlib.Core.List.{List, [], _∷_, _++_, append-assoc}
 use mathlib.Core.Option.{Option, none, some}
-use mathlib.Core.Bool.{true, _&&_, not}
-use Prim.Native.Nat.{ℕ, zero, suc, _+_, _-_, _/_, _%_, _≤_}
+use mathlib.Core.Bool.{true, _&&_}
+use Prim.Native.Nat.{ℕ, _+_, _≤_}
 use native.Mathlib.Omega.{arith}
-use lib.Dec.{eqb, leb, ltb}
-use lib.ListN.{length, getD, replicate, length-append, length-replicate}
-use lib.Seq.{take-at, drop-at, getD-at}
-use borrow.Author.Tests.{not-true}
+use lib.Dec.{leb, ltb}
+use lib.ListN.{length, replicate, length-append}
 use Rattle.accounts.specs.Cases.{and-both}
 use Rattle.syntax.specs.Text.{Text, bytes, same-text, every, pieces}
 use Rattle.syntax.specs.TextLaws.{lacks}

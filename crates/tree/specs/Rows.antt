@@ -3,7 +3,7 @@
 -- `rows` lists them; `tree-of` reads a tree off any rows, if they form one tree.
 use mathlib.Core.List.{List, [], _∷_, _++_}
 use mathlib.Core.Option.{Option, none, some}
-use mathlib.Core.Bool.{Bool, true, false, _&&_, cond}
+use mathlib.Core.Bool.{cond}
 use Prim.Native.Nat.{ℕ, suc}
 use lib.Dec.{eqb}
 use Rattle.syntax.specs.Path.{Name}

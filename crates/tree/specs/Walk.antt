@@ -2,9 +2,7 @@
 --
 -- `walk` goes by the path's last name: the walk to its parent, then one step. `walk-is-literal` (in WalkLaws) says that this
 -- is document 01's walk: for each name x on the directory (5), then the name there (3), and if not the last a directory (4).
-use mathlib.Core.Option.{Option}
-use mathlib.Core.Bool.{Bool, true, false, _&&_, _||_, not}
-use Prim.Native.Nat.{ℕ}
+use mathlib.Core.Bool.{Bool, _&&_, _||_, not}
 use Rattle.accounts.specs.declared.Right.the-variants.{R, W, X}
 use Rattle.accounts.specs.declared.Account.{Account}
 use Rattle.syntax.specs.Path.{Name, Path, root, _▹_, parent}

@@ -1,8 +1,7 @@
 -- A well-formed tree (document 01's sound): siblings differ and stand in byte order, only directories have children and
 -- they have no content, no path passes 6 names, at most 256 nodes, and every value is in range.
-use mathlib.Core.List.{List, []}
 use mathlib.Core.Option.{Option, none, some}
-use mathlib.Core.Bool.{Bool, true, false, _&&_, _||_, not}
+use mathlib.Core.Bool.{Bool, true, _&&_, _||_, not}
 use Prim.Native.Nat.{ℕ, suc}
 use lib.Dec.{eqb, leb, ltb}
 use lib.ListN.{length}

@@ -10,12 +10,12 @@ use Rattle.accounts.specs.declared.Account.{Account}
 use Rattle.accounts.specs.Cases.{case, and-both, contra}
 use Rattle.syntax.specs.Text.{same-text, precedes}
 use Rattle.syntax.specs.TextLaws.{precedes-trans}
-use Rattle.syntax.specs.Path.{Name, Path, root, _▹_, parent, depth, is-name, most-names}
+use Rattle.syntax.specs.Path.{Name, Path, root, _▹_, depth, is-name, most-names}
 use Rattle.syntax.specs.FormLaws.{no-answer, answered}
 use Rattle.tree.specs.Result.{done}
 use Rattle.tree.specs.Forest.{Forest, nil, node, Place, get, is-empty, leaf, size, height, place-at}
 use Rattle.tree.specs.Node.{is-directory, Node}
-use Rattle.tree.specs.Walk.{Judge, by-modes, enter, walk, parent-walk}
+use Rattle.tree.specs.Walk.{Judge, by-modes, enter, walk}
 use Rattle.tree.specs.StepLaws.{entered}
 use Rattle.tree.specs.JudgeLaws.{kind-by-modes}
 use Rattle.tree.specs.WellFormed.{most-nodes, nodes, is-node, leads, is-forest, is-place, is-tree}

@@ -1,6 +1,5 @@
 -- `syntax::reader::after_grant` meets its contract: one lemma for each return.
 use denote.Ref.{now}
-use native.Mathlib.Omega.{arith}
 use mathlib.Core.Logic.{⊎-elim}
 use Rattle.syntax.specs.Parts.{span-text}
 use Rattle.syntax.specs.ReaderLaws.{unread, late-grant, grant-to-none, root-known, person-known, grants-full, grant-read}

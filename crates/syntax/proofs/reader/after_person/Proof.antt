@@ -1,6 +1,5 @@
 -- `syntax::reader::after_person` meets its contract: one lemma for each return.
 use denote.Ref.{now}
-use native.Mathlib.Omega.{arith}
 use Rattle.syntax.specs.ReaderLaws.{unread, late-person, named-twice, person-read}
 use borrow.Author.Needs.{needs}
 use Rattle.syntax.proofs.reader.after_person.Statement.{statement}

@@ -1,5 +1,5 @@
 -- `syntax::reader::three_argument_line` meets its contract: one lemma for each return.
-use mathlib.Core.Path.{sym, _∙_}
+use mathlib.Core.Path.{_∙_}
 use native.Mathlib.Omega.{arith}
 use denote.Ref.{now}
 use Rattle.syntax.specs.PartsLaws.{answers-false, answers-true}
@@ -7,10 +7,11 @@ use Rattle.syntax.specs.Text.{bytes}
 use Rattle.syntax.specs.Parts.{part, span-text}
 use Rattle.syntax.specs.Reader.{reading-value}
 use Rattle.syntax.specs.ReaderLaws.{unread}
-use Rattle.syntax.specs.SetupFormLaws.{read-range, told-number, told-nothing, l-word, l-password, l-first, l-second, l-all}
+use Rattle.syntax.specs.SetupFormLaws.{told-number, told-nothing, l-word, l-password, l-first, l-second, l-all}
 use borrow.Author.Needs.{needs}
 use Rattle.syntax.proofs.reader.three_argument_line.Statement.{statement}
 use Rattle.syntax.proofs.reader.three_argument_line.Tie as tie
+use Rattle.syntax.specs.FieldLaws.{read-range}
 
 sub-same : tie.Need-sub-same
 sub-same c = search needs

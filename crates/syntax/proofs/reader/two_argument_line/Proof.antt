@@ -6,10 +6,11 @@ use Rattle.syntax.specs.Text.{bytes}
 use Rattle.syntax.specs.Parts.{part, span-text}
 use Rattle.syntax.specs.Reader.{reading-value}
 use Rattle.syntax.specs.ReaderLaws.{unread}
-use Rattle.syntax.specs.SetupFormLaws.{read-range, told-number, told-nothing, r-first, r-second, r-both, other-first, other-second, p-both, g-both, other-word}
+use Rattle.syntax.specs.SetupFormLaws.{told-number, told-nothing, r-first, r-second, r-both, other-first, other-second, p-both, g-both, other-word}
 use borrow.Author.Needs.{needs}
 use Rattle.syntax.proofs.reader.two_argument_line.Statement.{statement}
 use Rattle.syntax.proofs.reader.two_argument_line.Tie as tie
+use Rattle.syntax.specs.FieldLaws.{read-range}
 
 sub-same : tie.Need-sub-same
 sub-same c = search needs
