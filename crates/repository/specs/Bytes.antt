@@ -7,10 +7,9 @@ use lib.Dec.{eqb, leb}
 use lib.ListN.{length, getElem?, drop}
 use Rattle.syntax.specs.Text.{Text}
 use Rattle.syntax.specs.Setup.{Setup, Setup-answer, accepted, wrong-line, setup}
+use Rattle.tree.specs.Causes.{number}
 use Rattle.tree.specs.Result.{Result, refused, done, _>>=_, _>>_, require, present}
 use Rattle.shell.specs.Caller.{Outcome}
-use Rattle.repository.specs.declared.Cause.{Cause}
-use Rattle.repository.specs.declared.Cause.the-variants.{NoForm, UnknownCaller, Missing, NotDirectory, Access, Exists, WrongKind, NotEmpty, Reserved, Full, IntoItself, NoSession, NoGrant, Stale, Untagged, RevisionsSpent, Unsound, TooDeep, ShortAnswer}
 use Rattle.repository.specs.declared.Answer.{Answer}
 use Rattle.repository.specs.declared.Answer.the-variants.{Done, Refused, WrongLine}
 use Rattle.repository.specs.declared.Answer.the-variants
@@ -18,28 +17,6 @@ use Rattle.repository.specs.Store.{Store, store, initial-store}
 use Rattle.repository.specs.Calls.{least-room, perform}
 use Rattle.repository.specs.Encoding.{store-width, encode, decode}
 use Rattle.repository.specs.Listing.{listing}
-
--- document 01's number for each cause
-unfoldable pub number : Cause → ℕ
-number NoForm = 1
-number UnknownCaller = 2
-number Missing = 3
-number NotDirectory = 4
-number Access = 5
-number Exists = 6
-number WrongKind = 7
-number NotEmpty = 8
-number Reserved = 9
-number Full = 10
-number IntoItself = 11
-number NoSession = 12
-number NoGrant = 13
-number Stale = 14
-number Untagged = 15
-number RevisionsSpent = 16
-number Unsound = 18
-number TooDeep = 19
-number ShortAnswer = 20
 
 -- what an answer tells: document 01's number, 0 where the call is done, and the values beside it
 pub record Told : Type 0 where

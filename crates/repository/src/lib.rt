@@ -1,27 +1,6 @@
 // The pattern repository: setup, commands and listing on a lent store.
 
-// Why a call was refused; document 01 gives each cause a number.
-pub enum Cause {
-    NoForm,
-    UnknownCaller,
-    Missing,
-    NotDirectory,
-    Access,
-    Exists,
-    WrongKind,
-    NotEmpty,
-    Reserved,
-    Full,
-    IntoItself,
-    NoSession,
-    NoGrant,
-    Stale,
-    Untagged,
-    RevisionsSpent,
-    Unsound,
-    TooDeep,
-    ShortAnswer,
-}
+use tree::Cause;
 
 // What a call answers.
 pub enum Answer {

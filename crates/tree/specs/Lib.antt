@@ -1,3 +1,4 @@
+pub mod Causes
 pub mod Result
 pub mod ResultLaws
 pub mod Agree

@@ -22,6 +22,29 @@ pub enum Kind {
     Directory,
 }
 
+// Why a call was refused; document 01 gives each cause a number.
+pub enum Cause {
+    NoForm,
+    UnknownCaller,
+    Missing,
+    NotDirectory,
+    Access,
+    Exists,
+    WrongKind,
+    NotEmpty,
+    Reserved,
+    Full,
+    IntoItself,
+    NoSession,
+    NoGrant,
+    Stale,
+    Untagged,
+    RevisionsSpent,
+    Unsound,
+    TooDeep,
+    ShortAnswer,
+}
+
 // How a text stands to another in byte order.
 pub enum Order {
     Before,
