@@ -13,16 +13,16 @@
 use mathlib.Core.List.{List, [], _∷_, _++_}
 use mathlib.Core.Option.{Option, none, some}
 use mathlib.Core.Bool.{Bool, _&&_, cond}
-use Prim.Native.Nat.{ℕ, zero, suc, _-_, _*_}
+use Prim.Native.Nat.{ℕ, zero, suc}
 use lib.Dec.{eqb}
-use lib.ListN.{length, getD, take, drop, replicate}
+use lib.ListN.{length, getD, drop, replicate}
 use Rattle.accounts.specs.declared.Pair.{Pair}
 use Rattle.accounts.specs.Dominance.{Bounded-role}
 use Rattle.syntax.specs.Text.{same-text}
 use Rattle.syntax.specs.Form.{_>>=_, _>>_, check}
 use Rattle.syntax.specs.Field.{bounded}
 use Rattle.syntax.specs.Setup.{Person, Grant, Setup, accounts, most-pairs, most-grants, is-setup}
-use Rattle.tree.specs.Fields.{two-bytes, number-at, padded, text-at}
+use Rattle.tree.specs.Fields.{two-bytes, number-at, padded, text-at, all-bytes, all-from, table-bytes, table-from}
 use Rattle.tree.specs.Encoding.{encode-tree, decode-tree}
 use Rattle.tree.specs.WellFormed.{is-tree}
 use Rattle.repository.specs.Machine.{Sessions}
@@ -65,22 +65,6 @@ grant-bytes g = g .uid .0 ∷ g .role .0 ∷ padded 8 (g .password)
 
 unfoldable pub grant-of : List ℕ → Grant
 grant-of b = record { uid = record { 0 = getD b 0 0 }; role = record { 0 = getD b 1 0 }; password = text-at 2 8 b }
-
--- the bytes of some values one after another, and k values read back, each from so many bytes
-unfoldable pub all-bytes : {A : Type 0} → (A → List ℕ) → List A → List ℕ
-all-bytes f [] = []
-all-bytes f (a ∷ l) = f a ++ all-bytes f l
-
-unfoldable pub all-from : {A : Type 0} → ℕ → (List ℕ → A) → ℕ → List ℕ → List A
-all-from width f zero b = []
-all-from width f (suc k) b = f (take width b) ∷ all-from width f k (drop width b)
-
--- how many there are, the values, and zeros in place of those that are not there
-unfoldable pub table-bytes : {A : Type 0} → ℕ → ℕ → (A → List ℕ) → List A → List ℕ
-table-bytes width most f l = length l ∷ (all-bytes f l ++ replicate ((most - length l) * width) 0)
-
-unfoldable pub table-from : {A : Type 0} → ℕ → (List ℕ → A) → List ℕ → List A
-table-from width f b = all-from width f (getD b 0 0) (drop 1 b)
 
 unfoldable pub header-bytes : Setup → Sessions → List ℕ
 header-bytes u sessions =

@@ -20,11 +20,11 @@ use Rattle.syntax.specs.PathLaws.{name-fits}
 use Rattle.syntax.specs.Field.{bounded, bounded-by}
 use Rattle.syntax.specs.Setup.{Person, Grant, Setup, accounts, most-pairs, most-grants, person, is-some, is-person, is-slot, is-pair, is-grant, is-setup}
 use Rattle.syntax.specs.SetupLaws.{apart}
-use Rattle.tree.specs.Fields.{two-bytes, number-at, padded, text-at}
+use Rattle.tree.specs.Fields.{two-bytes, number-at, padded, text-at, all-bytes, all-from, table-bytes, table-from}
 use Rattle.tree.specs.FieldsLaws.{length-two-bytes, number-at-bytes, length-padded, text-at-padded}
+use Rattle.tree.specs.TableLaws.{length-all-bytes, length-table, all-from-bytes, table-from-bytes}
 use Rattle.repository.specs.Machine.{Sessions}
-use Rattle.repository.specs.Encoding.{header-width, slot-bytes, slot-of, session-byte, session-of, pair-bytes, pair-of, grant-bytes, grant-of, all-bytes, all-from, table-bytes, table-from, header-bytes, setup-of, sessions-of}
-use Rattle.repository.specs.TableLaws.{length-all-bytes, length-table, all-from-bytes, table-from-bytes}
+use Rattle.repository.specs.Encoding.{header-width, slot-bytes, slot-of, session-byte, session-of, pair-bytes, pair-of, grant-bytes, grant-of, header-bytes, setup-of, sessions-of}
 
 -- ---- one value
 

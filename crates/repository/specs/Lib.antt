@@ -6,7 +6,6 @@ pub mod Calls
 pub mod Listing
 pub mod Transcript
 pub mod Encoding
-pub mod TableLaws
 pub mod HeaderLaws
 pub mod EncodingLaws
 pub mod Bytes

@@ -7,15 +7,15 @@
 use mathlib.Core.List.{List, [], _∷_, _++_}
 use mathlib.Core.Option.{Option, none, some}
 use mathlib.Core.Bool.{_&&_, cond}
-use Prim.Native.Nat.{ℕ, zero, suc, _-_, _*_}
+use Prim.Native.Nat.{ℕ, _-_, _*_}
 use lib.Dec.{eqb}
-use lib.ListN.{length, getD, take, drop, replicate}
+use lib.ListN.{length, getD, drop, replicate}
 use Rattle.syntax.specs.Text.{Text, same-text}
 use Rattle.syntax.specs.Path.{entry-path, entry-text}
 use Rattle.syntax.specs.Form.{_>>=_, _>>_, check}
 use Rattle.tree.specs.declared.Kind.{Kind}
 use Rattle.tree.specs.declared.Kind.the-variants.{File, Directory}
-use Rattle.tree.specs.Fields.{two-bytes, number-at, padded, text-at}
+use Rattle.tree.specs.Fields.{two-bytes, number-at, padded, text-at, all-bytes, all-from}
 use Rattle.tree.specs.Forest.{Place}
 use Rattle.tree.specs.Node.{Tag, Node}
 use Rattle.tree.specs.Rows.{Row, rows, tree-of}
@@ -69,21 +69,13 @@ row-of b = record {
   };
 }
 
-unfoldable pub all-rows-bytes : List (Row Node) → List ℕ
-all-rows-bytes [] = []
-all-rows-bytes (r ∷ rs) = row-bytes r ++ all-rows-bytes rs
-
-unfoldable pub rows-from : ℕ → List ℕ → List (Row Node)
-rows-from zero b = []
-rows-from (suc k) b = row-of (take row-width b) ∷ rows-from k (drop row-width b)
-
 unfoldable pub encode-tree : Place Node → List ℕ
 encode-tree t =
     let rs = rows t in
-    two-bytes (length rs) ++ (all-rows-bytes rs ++ replicate ((most-nodes - length rs) * row-width) 0)
+    two-bytes (length rs) ++ (all-bytes row-bytes rs ++ replicate ((most-nodes - length rs) * row-width) 0)
 
 unfoldable pub decode-tree : List ℕ → Option (Place Node)
 decode-tree b = do
-  t ← tree-of (rows-from (number-at 0 b) (drop 2 b))
+  t ← tree-of (all-from row-width row-of (number-at 0 b) (drop 2 b))
   check (is-tree t && same-text (encode-tree t) b)
   some t

@@ -1,14 +1,13 @@
 -- The bytes of a tree: a well-formed tree is read back from its bytes, bytes that are read are those of the tree read, and
 -- there are always as many.
-use mathlib.Core.Path.{_≡_, refl, sym, _∙_, ap, ap₂}
-use mathlib.Core.List.{List, [], _∷_, _++_, append-assoc}
+use mathlib.Core.Path.{_≡_, refl, sym, _∙_, ap}
+use mathlib.Core.List.{List, [], _++_}
 use mathlib.Core.Option.{some}
 use mathlib.Core.Bool.{Bool, true, _&&_, _||_}
 use Prim.Native.Nat.{ℕ, suc, _-_, _*_, _≤_}
 use native.Mathlib.Omega.{arith}
 use lib.Dec.{leb}
-use lib.ListN.{length, drop, replicate, length-append, length-replicate}
-use lib.Seq.{take-at, drop-at}
+use lib.ListN.{length, drop, replicate}
 use borrow.Author.Tests.{leb-true, le-leb}
 use Rattle.accounts.specs.Cases.{and-both}
 use Rattle.syntax.specs.Text.{every, same-text}
@@ -22,9 +21,10 @@ use Rattle.tree.specs.Node.{is-directory, Node}
 use Rattle.tree.specs.Rows.{Row, flatten, rows, tree-of}
 use Rattle.tree.specs.RowLaws.{tree-of-rows, length-rows}
 use Rattle.tree.specs.WellFormed.{most-nodes, nodes, is-node, leads, is-forest, is-tree}
-use Rattle.tree.specs.Fields.{two-bytes, number-at}
-use Rattle.tree.specs.Encoding.{row-width, tree-width, row-bytes, all-rows-bytes, rows-from, encode-tree, decode-tree}
+use Rattle.tree.specs.Fields.{two-bytes, number-at, all-bytes, all-from}
+use Rattle.tree.specs.Encoding.{row-width, tree-width, row-bytes, row-of, encode-tree, decode-tree}
 use Rattle.tree.specs.FieldsLaws.{number-at-bytes}
+use Rattle.tree.specs.TableLaws.{length-filled, all-from-bytes}
 use Rattle.tree.specs.RowBytesLaws.{length-row-bytes, row-of-bytes}
 
 -- whether a row's node is in range and its name fits its bytes
@@ -70,30 +70,13 @@ tree-fits t h =
     let l = and-both (leb (height (t .below)) most-names) (leb (nodes t) most-nodes) (i .1) in
     (rw (fits-of 0 [] (t .here) (a .0) (omega arith, refl)) (forest-fits 1 (t .below) (a .1)), rw (length-rows t) (leb-true (nodes t) most-nodes (l .1)))
 
--- ---- all rows
+-- a row that fits takes its width
+length-fitting : (r : Row Node) → fits r ≡ true → length (row-bytes r) ≡ row-width
+length-fitting r h = let w = fits-parts r h in length-row-bytes r (w .0) (w .1)
 
--- rows that fit take their widths
-length-all-rows : (rs : List (Row Node)) → every fits rs ≡ true → length (all-rows-bytes rs) ≡ length rs * row-width
-unfolding all-rows-bytes every row-width
-length-all-rows [] h = refl
-length-all-rows (r ∷ rs) h =
-    let i = and-both (fits r) (every fits rs) h in
-    let w = fits-parts r (i .0) in
-    let a = length-row-bytes r (w .0) (w .1) in
-    let b = length-all-rows rs (i .1) in
-    length-append (row-bytes r) (all-rows-bytes rs) ∙ omega arith
-
--- and are read back from them
-rows-from-bytes : (rs : List (Row Node)) (Q : List ℕ) → every fits rs ≡ true → rows-from (length rs) (all-rows-bytes rs ++ Q) ≡ rs
-unfolding all-rows-bytes every rows-from
-rows-from-bytes [] Q h = refl
-rows-from-bytes (r ∷ rs) Q h =
-    let i = and-both (fits r) (every fits rs) h in
-    let w = fits-parts r (i .0) in
-    let l = length-row-bytes r (w .0) (w .1) in
-    let B = all-rows-bytes rs ++ Q in
-    rw (append-assoc (row-bytes r) (all-rows-bytes rs) Q, take-at (row-bytes r) B row-width l, drop-at (row-bytes r) B row-width l)
-    (ap₂ _∷_ (row-of-bytes r (w .0) (w .1)) (rows-from-bytes rs Q (i .1)))
+-- and is read back from its bytes
+fitting-back : (r : Row Node) → fits r ≡ true → row-of (row-bytes r) ≡ r
+fitting-back r h = let w = fits-parts r h in row-of-bytes r (w .0) (w .1)
 
 -- ---- trees
 
@@ -107,22 +90,16 @@ pub length-encode-tree : (t : Place Node) → is-tree t ≡ true → length (enc
 unfolding encode-tree two-bytes tree-width row-width most-nodes
 length-encode-tree t h =
     let w = tree-fits t h in
-    let rs = rows t in
-    let Z : List ℕ = replicate ((most-nodes - length rs) * row-width) 0 in
-    let a = length-append (all-rows-bytes rs) Z in
-    let b = length-all-rows rs (w .0) in
-    let z = length-replicate {A = ℕ} ((most-nodes - length rs) * row-width) 0 in
-    let few = w .1 in
-    omega arith
+    ap (λ (n : ℕ). suc (suc n)) (length-filled row-width fits row-bytes length-fitting most-nodes (rows t) (w .0) (w .1))
 
 -- the rows of a well-formed tree are read from its encoding
-pub rows-of-encoded : (t : Place Node) → is-tree t ≡ true → rows-from (number-at 0 (encode-tree t)) (drop 2 (encode-tree t)) ≡ rows t
+pub rows-of-encoded : (t : Place Node) → is-tree t ≡ true → all-from row-width row-of (number-at 0 (encode-tree t)) (drop 2 (encode-tree t)) ≡ rows t
 unfolding encode-tree two-bytes
 rows-of-encoded t h =
     let rs = rows t in
     let Z : List ℕ = replicate ((most-nodes - length rs) * row-width) 0 in
-    ap (λ n. rows-from n (all-rows-bytes rs ++ Z)) (number-at-bytes [] (all-rows-bytes rs ++ Z) 0 (length rs) refl)
-    ∙ rows-from-bytes rs Z (tree-fits t h .0)
+    ap (λ n. all-from row-width row-of n (all-bytes row-bytes rs ++ Z)) (number-at-bytes [] (all-bytes row-bytes rs ++ Z) 0 (length rs) refl)
+    ∙ all-from-bytes row-width fits row-bytes length-fitting row-of fitting-back rs Z (tree-fits t h .0)
 
 -- a well-formed tree is read back from its encoding
 pub decode-encode : (t : Place Node) → is-tree t ≡ true → decode-tree (encode-tree t) ≡ some t
@@ -133,7 +110,7 @@ decode-encode t h = rw (rows-of-encoded t h, tree-of-rows t) (rw (h, same-text-r
 pub encode-decode : (b : List ℕ) (t : Place Node) → decode-tree b ≡ some t → (encode-tree t ≡ b) × (is-tree t ≡ true)
 unfolding decode-tree
 encode-decode b t e =
-    let i = both-read (tree-of (rows-from (number-at 0 b) (drop 2 b))) (λ t. check (is-tree t && same-text (encode-tree t) b) >> some t) t e in
+    let i = both-read (tree-of (all-from row-width row-of (number-at 0 b) (drop 2 b))) (λ t. check (is-tree t && same-text (encode-tree t) b) >> some t) t e in
     let j = checked (is-tree (i .0) && same-text (encode-tree (i .0)) b) (some (i .0)) t (i .2) in
     let k = and-both (is-tree (i .0)) (same-text (encode-tree (i .0)) b) (j .0) in
     let q : t ≡ i .0 = answered (j .1) in

@@ -26,6 +26,7 @@ pub mod RowEdits
 pub mod RowScan
 pub mod Fields
 pub mod FieldsLaws
+pub mod TableLaws
 pub mod Encoding
 pub mod RowBytesLaws
 pub mod EncodingLaws

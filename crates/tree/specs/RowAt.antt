@@ -10,8 +10,8 @@ use Rattle.tree.specs.declared.Child.{Child}
 use Rattle.tree.specs.declared.Child.the-variants.{Found, Missing}
 use Rattle.tree.specs.Node.{Node}
 use Rattle.tree.specs.Rows.{Row}
-use Rattle.tree.specs.Fields.{number-at, text-at}
-use Rattle.tree.specs.Encoding.{row-width, row-of, rows-from}
+use Rattle.tree.specs.Fields.{number-at, text-at, all-from}
+use Rattle.tree.specs.Encoding.{row-width, row-of}
 use Rattle.tree.specs.RowScan.{span, first-passes, deeper, passes, is-child}
 
 unfoldable pub row-count : List ℕ → ℕ
@@ -25,7 +25,7 @@ unfoldable pub row-at : List ℕ → ℕ → Row Node
 row-at b i = row-of (row-bytes-at b i)
 
 unfoldable pub all-rows : List ℕ → List (Row Node)
-all-rows b = rows-from (row-count b) (drop 2 b)
+all-rows b = all-from row-width row-of (row-count b) (drop 2 b)
 
 -- the tag's path as text and its revision, of which `row-of` makes the tag
 unfoldable pub tag-text-at : List ℕ → ℕ → Text

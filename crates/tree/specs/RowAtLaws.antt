@@ -31,7 +31,8 @@ use Rattle.tree.specs.Node.{Node}
 use Rattle.tree.specs.Rows.{Row, rows}
 use Rattle.tree.specs.WellFormed.{is-tree}
 use Rattle.tree.specs.Fields.{number-at, unpadded, text-at}
-use Rattle.tree.specs.Encoding.{row-width, kind-of, row-of, rows-from, encode-tree}
+use Rattle.tree.specs.TableLaws.{length-all-from, all-from-at}
+use Rattle.tree.specs.Encoding.{row-width, kind-of, row-of, encode-tree}
 use Rattle.tree.specs.EncodingLaws.{rows-of-encoded}
 use Rattle.tree.specs.RowScan.{span, first-passes, deeper, passes, is-child, first-at, span-go, span-stop, span-end}
 use Rattle.tree.specs.RowAt.{row-count, row-bytes-at, row-at, all-rows, order-of, first-depth, depth-of, end-of-subtree, child-at}
@@ -113,32 +114,17 @@ text-part s at w r e h = sym (take-take r w (drop at s) h) ∙ rw e (take-unpadd
 
 -- ---- all rows
 
--- as many rows are read as are asked for
-length-rows-from : (n : ℕ) (b : List ℕ) → length (rows-from n b) ≡ n
-unfolding rows-from
-length-rows-from zero b = refl
-length-rows-from (suc n) b = ap suc (length-rows-from n (drop row-width b))
-
--- each from the bytes at its index
-row-in-rows-from : (n i : ℕ) (b : List ℕ) (z : Row Node) → i < n → getD (rows-from n b) i z ≡ row-of (take 232 (drop (232 * i) b))
-unfolding rows-from row-width
-row-in-rows-from zero i b z h = let x : ⊥ = omega arith in absurd x
-row-in-rows-from (suc n) zero b z h = refl
-row-in-rows-from (suc n) (suc i) b z h =
-    let q : 232 + 232 * i ≡ 232 * suc i = omega arith in
-    row-in-rows-from n i (drop 232 b) z (omega arith)
-    ∙ ap (λ (l : List ℕ). row-of (take 232 l)) (drop-drop (232 * i) 232 b ∙ ap (λ (k : ℕ). drop k b) q)
-
 module _ (b : List ℕ) where
   -- there are as many rows as the count says
   pub length-all-rows : length (all-rows b) ≡ row-count b
   unfolding all-rows
-  length-all-rows = length-rows-from (row-count b) (drop 2 b)
+  length-all-rows = length-all-from row-width row-of (row-count b) (drop 2 b)
 
   -- the row at an index is that of the bytes there
   pub row-in-rows : (i : ℕ) (z : Row Node) → i < row-count b → getD (all-rows b) i z ≡ row-at b i
-  unfolding all-rows row-at row-bytes-at row-width
-  row-in-rows i z h = row-in-rows-from (row-count b) i (drop 2 b) z h ∙ ap (λ (l : List ℕ). row-of (take 232 l)) (drop-drop (232 * i) 2 b)
+  unfolding all-rows row-at row-bytes-at
+  row-in-rows i z h =
+      all-from-at row-width row-of (row-count b) i (drop 2 b) z h ∙ ap (λ (l : List ℕ). row-of (take row-width l)) (drop-drop (row-width * i) 2 b)
 
   -- and its depth is that row's
   pub depth-of-row : (i : ℕ) → i < row-count b → depth-of (all-rows b) i ≡ row-at b i .depth
