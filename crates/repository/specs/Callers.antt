@@ -24,7 +24,8 @@ use Rattle.tree.specs.Node.{allows}
 use Rattle.tree.specs.Result.{done, present}
 use Rattle.tree.specs.ResultLaws.{present-some, bind-done}
 use Rattle.tree.specs.JudgeLaws.{allows-is}
-use Rattle.shell.specs.Caller.{Caller, root-caller, owns}
+use Rattle.shell.specs.declared.Caller.{Caller}
+use Rattle.shell.specs.Caller.{root-caller, owns}
 use Rattle.repository.specs.Machine.{person-caller, known-caller, caller}
 use Rattle.repository.specs.Initial.{directory-of, top-node, rep-node}
 use Rattle.repository.specs.Judges.{top-allows}

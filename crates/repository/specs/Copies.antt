@@ -25,7 +25,8 @@ use Rattle.tree.specs.WellFormed.{is-node, leads, is-forest, is-place}
 use Rattle.tree.specs.JudgeLaws.{kind-by-modes}
 use Rattle.tree.specs.NodeLaws.{last-revision-is, node-ranges, node-of-ranges, node-of-tag, node-of-any-content, kind-of-set-tag, kind-of-set-content}
 use Rattle.tree.specs.WellFormedLaws.{place-parts, place-of-parts, forest-parts, forest-of-parts, leads-node, leads-before}
-use Rattle.shell.specs.Caller.{Caller, new-node}
+use Rattle.shell.specs.declared.Caller.{Caller}
+use Rattle.shell.specs.Caller.{new-node}
 use Rattle.shell.specs.Keeping.{is-caller, new-node-fits}
 use Rattle.repository.specs.Machine.{below-rep, copy-mode, copy-node, copied, copy-children, copy}
 use Rattle.repository.specs.Store.{entry-mode, entry-node, store}

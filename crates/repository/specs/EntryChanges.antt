@@ -32,7 +32,8 @@ use Rattle.tree.specs.StepLaws.{was-unused, parent-walked}
 use Rattle.tree.specs.UpdateLaws.{at-child, walked-at}
 use Rattle.tree.specs.MapLaws.{map-here}
 use Rattle.tree.specs.ChangeAtLaws.{Holds, holds-alter, holds-put, holds-drop, place-map, place-inside}
-use Rattle.shell.specs.Caller.{Caller, Outcome}
+use Rattle.shell.specs.declared.Caller.{Caller}
+use Rattle.shell.specs.Caller.{Outcome}
 use Rattle.shell.specs.Steps.{room, run-shell}
 use Rattle.repository.specs.Machine.{Sessions, caller, below-rep, log-in, log-out, session, file-entry, check-out, working, original, commit-file, update-file, delete-entry, run-repository, run}
 use Rattle.repository.specs.Initial.{directory-of, rep-node}

@@ -36,7 +36,8 @@ use Rattle.tree.specs.UpdateLaws.{leaf-height}
 use Rattle.tree.specs.NodeLaws.{last-revision-is, node-ranges, node-of-revision, node-of-tag, node-of-content, kind-of-set-revision, kind-of-set-tag, kind-of-set-content}
 use Rattle.tree.specs.WellFormedLaws.{place-node, leaf-place, entered-directory, walked-place, walked-depth}
 use Rattle.tree.specs.ChangeLaws.{keep-alter, keep-alter-all, keep-put, keep-drop}
-use Rattle.shell.specs.Caller.{Caller, Outcome}
+use Rattle.shell.specs.declared.Caller.{Caller}
+use Rattle.shell.specs.Caller.{Outcome}
 use Rattle.shell.specs.Keeping.{is-caller, room-found, fit-most, room-keeps, run-shell-keeps}
 use Rattle.repository.specs.Machine.{below-rep, copy, Working, log-in, log-out, file-entry, check-out, working, original, commit-file, update-file, delete-entry, run-repository, caller, run}
 use Rattle.repository.specs.Initial.{no-sessions}

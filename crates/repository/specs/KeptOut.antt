@@ -24,7 +24,7 @@ use Rattle.tree.specs.StepLaws.{entered, walked, parent-walked}
 use Rattle.tree.specs.UpdateLaws.{at-top, at-child}
 use Rattle.tree.specs.PathLaws.{walk-outside}
 use Rattle.tree.specs.Graft.{graft, get-graft}
-use Rattle.shell.specs.Caller.{Caller}
+use Rattle.shell.specs.declared.Caller.{Caller}
 use Rattle.shell.specs.Steps.{room, make, show, overwrite, unlink, move, change-mode, change-group, change-owner, run-shell}
 use Rattle.repository.specs.Machine.{caller, run}
 use Rattle.repository.specs.Store.{Store, store}

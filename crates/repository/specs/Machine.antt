@@ -25,7 +25,8 @@ use Rattle.tree.specs.Forest.{Forest, nil, node, Place, is-empty, update, alter
 use Rattle.tree.specs.Node.{is-directory, Tag, Node, allows, set-tag, set-content}
 use Rattle.tree.specs.Walk.{Judge, by-modes, unused, walk, parent-walk}
 use Rattle.tree.specs.WellFormed.{last-revision}
-use Rattle.shell.specs.Caller.{Caller, root-caller, owns, new-node, Outcome}
+use Rattle.shell.specs.declared.Caller.{Caller}
+use Rattle.shell.specs.Caller.{root-caller, owns, new-node, Outcome}
 use Rattle.shell.specs.Steps.{room, fit, run-shell}
 
 abbrev pub Sessions : Type 0

@@ -24,7 +24,8 @@ use Rattle.tree.specs.Walk.{by-modes, unused, walk, parent-walk}
 use Rattle.tree.specs.Agree.{Ensures, ensured, after-do, after-facts, after-check, after-guard}
 use Rattle.tree.specs.JudgeLaws.{kind-by-modes, writable-by-modes}
 use Rattle.tree.specs.PathLaws.{alter-keeps}
-use Rattle.shell.specs.Caller.{Caller, owns}
+use Rattle.shell.specs.declared.Caller.{Caller}
+use Rattle.shell.specs.Caller.{owns}
 use Rattle.shell.specs.Privacy.{Private, Stays, private-foreign, private-outside, put-private, drop-private, room-private, run-shell-private}
 use Rattle.repository.specs.Machine.{below-rep, session, log-in, log-out, file-entry, check-out, working, original, commit-file, update-file, delete-entry, run-repository, run}
 use Rattle.repository.specs.Store.{Store, store}

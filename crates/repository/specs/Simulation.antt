@@ -28,7 +28,8 @@ use Rattle.tree.specs.ForestLaws.{empty-map, size-map, put-map, drop-map, alter
 use Rattle.tree.specs.PlaceLaws.{leaf-here, leaf-size, update-put-here, update-drop-here, update-child-here}
 use Rattle.tree.specs.MapLaws.{map-nil, map-node, map-here, map-below, unused-map, walk-map, parent-walk-map}
 use Rattle.tree.specs.Graft.{graft, Outside, nodes-graft, update-inside, walk-inside, parent-walk-inside, Seen, seen-here}
-use Rattle.shell.specs.Caller.{Caller, owns, Outcome}
+use Rattle.shell.specs.declared.Caller.{Caller}
+use Rattle.shell.specs.Caller.{owns, Outcome}
 use Rattle.shell.specs.Steps.{room, fit, run-shell}
 use Rattle.shell.specs.Hiding.{Kept-out, Beside, Alike, update-beside, walk-alike, owned-outside, file-outside, room-alike, fit-alike, run-shell-alike}
 use Rattle.repository.specs.Machine.{Sessions, caller, below-rep, copied, copy-children, copy, log-in, log-out, session, file-entry, check-out, working, original, commit-file, update-file, delete-entry, run-repository, run}

@@ -23,7 +23,8 @@ use Rattle.tree.specs.Agree.{Ensures}
 use Rattle.tree.specs.Forest.{Place, place-at}
 use Rattle.tree.specs.Node.{Node}
 use Rattle.tree.specs.WellFormed.{is-tree}
-use Rattle.shell.specs.Caller.{Caller, Outcome}
+use Rattle.shell.specs.declared.Caller.{Caller}
+use Rattle.shell.specs.Caller.{Outcome}
 use Rattle.shell.specs.Steps.{run-shell}
 use Rattle.shell.specs.Privacy.{Private, Stays, read-through}
 use Rattle.repository.specs.Machine.{caller, run}

@@ -3,7 +3,6 @@ use mathlib.Core.List.{[]}
 use mathlib.Core.Option.{Option, none}
 use mathlib.Core.Bool.{Bool, _||_, cond}
 use Prim.Native.Nat.{ℕ}
-use Rattle.accounts.specs.declared.Gid.{Gid}
 use Rattle.accounts.specs.Groups.{no-groups, with-group}
 use Rattle.accounts.specs.declared.Account.{Account}
 use Rattle.accounts.specs.Access.{is-root, same-uid}
@@ -11,11 +10,7 @@ use Rattle.syntax.specs.Text.{Text}
 use Rattle.syntax.specs.Number.{set-gid}
 use Rattle.tree.specs.declared.Kind.{Kind}
 use Rattle.tree.specs.Node.{Node}
-
--- an account with its primary group; the account's groups hold the primary one
-pub record Caller : Type 0 where
-  pub account : Account
-  pub primary : Gid
+use Rattle.shell.specs.declared.Caller.{Caller}
 
 unfoldable pub root-caller : Caller
 root-caller = record {

@@ -26,7 +26,8 @@ use Rattle.tree.specs.WellFormed.{nodes}
 use Rattle.tree.specs.Agree.{Agree, both, bind, check, guard}
 use Rattle.tree.specs.JudgeLaws.{passes-by-modes}
 use Rattle.tree.specs.Graft.{graft, Outside, Seen, Passed, update-outside, outside-here, outside-rep, seen-here, seen-alike, seen-names, seen-outside, unused-graft, walk-graft, parent-walk-graft}
-use Rattle.shell.specs.Caller.{Caller, owns, Outcome}
+use Rattle.shell.specs.declared.Caller.{Caller}
+use Rattle.shell.specs.Caller.{owns, Outcome}
 use Rattle.shell.specs.Steps.{text-of, room, fit, make, show, overwrite, unlink, move, change-mode, change-group, change-owner, run-shell}
 
 -- a caller without rights at `/rep`, who neither writes in `/` nor owns one of the two

@@ -30,7 +30,8 @@ use Rattle.tree.specs.UpdateLaws.{leaf-height}
 use Rattle.tree.specs.NodeLaws.{node-ranges, plain-node, node-of-owner, node-of-group, node-of-mode, node-of-content, kind-of-set-owner, kind-of-set-group, kind-of-set-mode, kind-of-set-content}
 use Rattle.tree.specs.WellFormedLaws.{most-nodes-is, place-node, leaf-place, entered-directory, walked-place}
 use Rattle.tree.specs.ChangeLaws.{keep-alter, keep-put, keep-drop, keep-move}
-use Rattle.shell.specs.Caller.{Caller, new-node, Outcome}
+use Rattle.shell.specs.declared.Caller.{Caller}
+use Rattle.shell.specs.Caller.{new-node, Outcome}
 use Rattle.shell.specs.Steps.{room, fit, make, show, overwrite, unlink, move, change-mode, change-group, change-owner, run-shell}
 
 -- a caller whose account and primary group are in range

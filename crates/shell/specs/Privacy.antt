@@ -30,7 +30,8 @@ use Rattle.tree.specs.JudgeLaws.{allows-is, kind-by-modes, passes-by-modes}
 use Rattle.tree.specs.StepLaws.{was-unused, parent-walked}
 use Rattle.tree.specs.UpdateLaws.{at-child, walked-at}
 use Rattle.tree.specs.PathLaws.{alter-keeps, put-keeps, drop-empty-keeps, move-keeps, walk-outside, walk-shut}
-use Rattle.shell.specs.Caller.{Caller, owns}
+use Rattle.shell.specs.declared.Caller.{Caller}
+use Rattle.shell.specs.Caller.{owns}
 use Rattle.shell.specs.Steps.{room, make, show, overwrite, unlink, move, change-mode, change-group, change-owner, run-shell}
 
 -- a directory of mode 0700, for an account that is neither its owner nor root

@@ -23,7 +23,8 @@ use Rattle.tree.specs.Forest.{Place, is-empty, update, alter, put, drop, leaf, 
 use Rattle.tree.specs.Node.{is-directory, same-kind, Node, allows, set-owner, set-group, set-mode, set-content}
 use Rattle.tree.specs.Walk.{by-modes, unused, walk, parent-walk}
 use Rattle.tree.specs.WellFormed.{most-nodes, nodes}
-use Rattle.shell.specs.Caller.{Caller, owns, new-node, Outcome}
+use Rattle.shell.specs.declared.Caller.{Caller}
+use Rattle.shell.specs.Caller.{owns, new-node, Outcome}
 
 -- a file's content, or a directory's names in byte order parted by commas
 unfoldable pub text-of : Place Node → Text
