@@ -35,7 +35,8 @@ use Rattle.tree.specs.ChangeAtLaws.{Holds, holds-alter, holds-put, holds-drop, 
 use Rattle.shell.specs.declared.Caller.{Caller}
 use Rattle.shell.specs.Caller.{Outcome}
 use Rattle.shell.specs.Steps.{room, run-shell}
-use Rattle.repository.specs.Machine.{Sessions, caller, below-rep, log-in, log-out, session, file-entry, check-out, working, original, commit-file, update-file, delete-entry, run-repository, run}
+use Rattle.copying.specs.Copying.{below-rep}
+use Rattle.repository.specs.Machine.{Sessions, caller, log-in, log-out, session, file-entry, check-out, working, original, commit-file, update-file, delete-entry, run-repository, run}
 use Rattle.repository.specs.Initial.{directory-of, rep-node}
 use Rattle.repository.specs.Store.{Store, entry-mode, entry-node, store}
 use Rattle.repository.specs.Abstract.{Entry, Abstract, dominated, role-readable, by-dominance, abstract, stored, in-store, whole, embed}

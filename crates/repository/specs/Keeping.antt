@@ -39,7 +39,9 @@ use Rattle.tree.specs.ChangeLaws.{keep-alter, keep-alter-all, keep-put, keep-dr
 use Rattle.shell.specs.declared.Caller.{Caller}
 use Rattle.shell.specs.Caller.{Outcome}
 use Rattle.shell.specs.Keeping.{is-caller, room-found, fit-most, room-keeps, run-shell-keeps}
-use Rattle.repository.specs.Machine.{below-rep, copy, Working, log-in, log-out, file-entry, check-out, working, original, commit-file, update-file, delete-entry, run-repository, caller, run}
+use Rattle.copying.specs.Copying.{below-rep, copy}
+use Rattle.copying.specs.CopyLaws.{copy-is-place}
+use Rattle.repository.specs.Machine.{source, Working, log-in, log-out, file-entry, check-out, working, original, commit-file, update-file, delete-entry, run-repository, caller, run}
 use Rattle.repository.specs.Initial.{no-sessions}
 use Rattle.repository.specs.Store.{Store, entry-node, store, initial-store}
 use Rattle.repository.specs.Calls.{Call, after, perform, step, runs}
@@ -47,7 +49,7 @@ use Rattle.repository.specs.Observed.{Reached}
 use Rattle.repository.specs.Callers.{caller-in-range}
 use Rattle.repository.specs.Encoding.{encode, well-formed, decode}
 use Rattle.repository.specs.EncodingLaws.{parts, decode-encode}
-use Rattle.repository.specs.Copies.{entry-fits, copy-is-place}
+use Rattle.repository.specs.Entries.{entry-fits}
 use Rattle.repository.specs.InitialLaws.{initial-is-tree}
 
 -- a state with its parts well-formed is well-formed
@@ -127,7 +129,7 @@ module _ (u : Setup) (g : is-setup u ≡ true) (s : Store) (w : well-formed (rec
       after-check 19 _ λ l.
       after-check 10 _ λ fits.
       let j = by-modes (service (u .pairs) z) in
-      let x = copy store c j (f .here) e d in
+      let x = copy c (source store j) (f .here) e d in
       changed none _ (room-keeps c 0 (s .tree) p f x tree i r
       (copy-is-place c o (service (u .pairs) z) (f .here) e d (node-at (by-modes (c .account)) (parent p) f (room-found c 0 (s .tree) p f r .0))
       k (walked-place j (s .tree) (entry-location e) d tree a) (walked-depth j (s .tree) (entry-location e) d tree a))

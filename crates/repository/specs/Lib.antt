@@ -13,7 +13,7 @@ pub mod BytesLaws
 pub mod Observed
 pub mod Judges
 pub mod Callers
-pub mod Copies
+pub mod Entries
 pub mod InitialLaws
 pub mod Keeping
 pub mod Simulation

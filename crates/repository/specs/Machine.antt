@@ -15,19 +15,19 @@ use Rattle.accounts.specs.Groups.{with-group}
 use Rattle.accounts.specs.Access.{is-root, same-uid}
 use Rattle.accounts.specs.Dominance.{same-role, Bounded-role, dominates}
 use Rattle.syntax.specs.Text.{Text, same-text}
-use Rattle.syntax.specs.Path.{Path, _▹_, Entry-path, parent, last, depth, most-names}
+use Rattle.syntax.specs.Path.{Path, Entry-path, parent, last, depth, most-names}
 use Rattle.syntax.specs.Command.{Repository-command, login, logout, add, co, commit, up, del, Command, shell, repository}
 use Rattle.syntax.specs.Setup.{Person, Grant, Setup, person}
 use Rattle.tree.specs.declared.Kind.{Kind}
-use Rattle.tree.specs.declared.Kind.the-variants.{File, Directory}
 use Rattle.tree.specs.Result.{Result, done, _>>=_, _>>_, require, present}
-use Rattle.tree.specs.Forest.{Forest, nil, node, Place, is-empty, update, alter, put, drop, leaf, size, height}
+use Rattle.tree.specs.Forest.{Place, is-empty, update, alter, put, drop, leaf, size, height}
 use Rattle.tree.specs.Node.{is-directory, Tag, Node, allows, set-tag, set-content}
 use Rattle.tree.specs.Walk.{Judge, by-modes, unused, walk, parent-walk}
 use Rattle.tree.specs.WellFormed.{last-revision}
 use Rattle.shell.specs.declared.Caller.{Caller}
-use Rattle.shell.specs.Caller.{root-caller, owns, new-node, Outcome}
+use Rattle.shell.specs.Caller.{root-caller, owns, Outcome}
 use Rattle.shell.specs.Steps.{room, fit, run-shell}
+use Rattle.copying.specs.Copying.{below-rep, Source, copy}
 
 abbrev pub Sessions : Type 0
 Sessions = List (Option Bounded-role)
@@ -73,35 +73,9 @@ unfoldable pub granted : List Grant → Uid → Bounded-role → Text → Bool
 granted [] u z w = false
 granted (g ∷ gs) u z w = (same-uid (g .uid) u && (same-role (g .role) (z .role) && same-text (g .password) w)) || granted gs u z w
 
--- the path of an entry below `/rep`
-unfoldable pub below-rep : Entry-path → Path
-below-rep e = e .folder ▹ e .name
-
--- copies belong to the person, 0600 or 0700
-unfoldable pub copy-mode : Kind → ℕ
-copy-mode File = 384
-copy-mode Directory = 448
-
--- a copy, in a directory of the person's, of what stands at an entry path
-unfoldable pub copy-node : Caller → Node → Kind → Text → Tag → Node
-copy-node c parent kind content tag = set-content content (set-tag tag (new-node c parent kind (copy-mode kind)))
-
--- Copies of all that an account may read; a node that it may not read is skipped with all below.
-module _ {S A : Type 0} (M : Machine S A) (c : Caller) (j : Judge A) where
-  unfoldable pub copied : Node → Entry-path → A → Node
-  copied parent e a = copy-node c parent (j .kind a) (M .content a) (record { path = e; revision = M .revision a })
-
-  unfoldable pub copy-children : Node → Path → Forest A → Forest Node
-  copy-children parent folder nil = nil
-  copy-children parent folder (node n a cs rest) =
-      let x = copied parent (record { folder = folder; name = n }) a in
-      let others = copy-children parent folder rest in
-      cond (j .readable a) (node n x (copy-children x (folder ▹ n) cs) others) others
-
-  unfoldable pub copy : Node → Entry-path → Place A → Place Node
-  copy parent e d =
-      let x = copied parent e (d .here) in
-      record { here = x; below = copy-children x (below-rep e) (d .below) }
+-- what copies are made of, as a judge sees it
+abbrev pub source : {S A : Type 0} → Machine S A → Judge A → Source A
+source M j = record { kind = j .kind; readable = j .readable; revision = M .revision; content = M .content }
 
 -- a working file and its tag
 pub record Working : Type 0 where
@@ -161,7 +135,7 @@ module _ {S A : Type 0} (M : Machine S A) (u : Setup) (s : S) (c : Caller) where
     f ← room c (M .elsewhere s) (M .workspace s) d
     a ← account-walks z (below-rep e)
     require (M .judge u z .readable (a .here)) 5
-    let copies = copy M c (M .judge u z) (f .here) e a
+    let copies = copy c (source M (M .judge u z)) (f .here) e a
     require (leb (depth d + height (copies .below)) most-names) 19
     require (fits (suc (size (copies .below)))) 10
     ok (M .on-workspace (update (parent d) (put (last d) copies)) s)

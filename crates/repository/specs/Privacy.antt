@@ -27,7 +27,8 @@ use Rattle.tree.specs.PathLaws.{alter-keeps}
 use Rattle.shell.specs.declared.Caller.{Caller}
 use Rattle.shell.specs.Caller.{owns}
 use Rattle.shell.specs.Privacy.{Private, Stays, private-foreign, private-outside, put-private, drop-private, room-private, run-shell-private}
-use Rattle.repository.specs.Machine.{below-rep, session, log-in, log-out, file-entry, check-out, working, original, commit-file, update-file, delete-entry, run-repository, run}
+use Rattle.copying.specs.Copying.{below-rep}
+use Rattle.repository.specs.Machine.{session, log-in, log-out, file-entry, check-out, working, original, commit-file, update-file, delete-entry, run-repository, run}
 use Rattle.repository.specs.Store.{Store, store}
 
 -- a person's private directory is private for every service account too

@@ -38,7 +38,7 @@ use Rattle.repository.specs.Abstract.{Entry, Abstract, dominated, role-p
 use Rattle.repository.specs.Encoding.{well-formed}
 use Rattle.repository.specs.EncodingLaws.{parts}
 use Rattle.repository.specs.Judges.{passes-law, readable-law, writable-law}
-use Rattle.repository.specs.Copies.{entry-fits}
+use Rattle.repository.specs.Entries.{entry-fits}
 use Rattle.repository.specs.InitialLaws.{initial-few}
 use Rattle.repository.specs.Keeping.{formed, initial-well-formed}
 use Rattle.repository.specs.Simulation.{Kept, Tie, entries-tie, put-entry, rep-stands, account-walk}

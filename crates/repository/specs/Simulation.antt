@@ -32,7 +32,8 @@ use Rattle.shell.specs.declared.Caller.{Caller}
 use Rattle.shell.specs.Caller.{owns, Outcome}
 use Rattle.shell.specs.Steps.{room, fit, run-shell}
 use Rattle.shell.specs.Hiding.{Kept-out, Beside, Alike, update-beside, walk-alike, owned-outside, file-outside, room-alike, fit-alike, run-shell-alike}
-use Rattle.repository.specs.Machine.{Sessions, caller, below-rep, copied, copy-children, copy, log-in, log-out, session, file-entry, check-out, working, original, commit-file, update-file, delete-entry, run-repository, run}
+use Rattle.copying.specs.Copying.{below-rep, copied, copy-children, copy}
+use Rattle.repository.specs.Machine.{Sessions, caller, source, log-in, log-out, session, file-entry, check-out, working, original, commit-file, update-file, delete-entry, run-repository, run}
 use Rattle.repository.specs.Initial.{directory-of, top-node, rep-node}
 use Rattle.repository.specs.Store.{Store, store}
 use Rattle.repository.specs.Abstract.{Entry, Abstract, abstract, rep-entry, in-store, whole, embed}
@@ -159,22 +160,22 @@ module _ (u : Setup) (z : Bounded-role) where
   -- ---- copies
 
   module _ (c : Caller) where
-    copied-law : (parent : Node) (e : Entry-path) (a : Entry) → copied store c (store .judge u z) parent e (in-store a) ≡ copied abstract c (abstract .judge u z) parent e a
+    copied-law : (parent : Node) (e : Entry-path) (a : Entry) → copied c (source store (store .judge u z)) parent e (in-store a) ≡ copied c (source abstract (abstract .judge u z)) parent e a
     unfolding copied
     copied-law parent e a = rw (kind-law u z a, content-law a, revision-law a)
 
     children-law : (parent : Node) (folder : Path) (F : Forest Entry)
-        → copy-children store c (store .judge u z) parent folder (map-forest in-store F) ≡ copy-children abstract c (abstract .judge u z) parent folder F
+        → copy-children c (source store (store .judge u z)) parent folder (map-forest in-store F) ≡ copy-children c (source abstract (abstract .judge u z)) parent folder F
     unfolding copy-children
     children-law parent folder nil = rw (map-nil in-store)
     children-law parent folder (node n a cs rest) =
         let e : Entry-path = record { folder = folder; name = n } in
         rw (map-node in-store n a cs rest) (
-        rw (readable-law u z a, copied-law parent e a, children-law (copied abstract c (abstract .judge u z) parent e a) (folder ▹ n) cs, children-law parent folder rest))
+        rw (readable-law u z a, copied-law parent e a, children-law (copied c (source abstract (abstract .judge u z)) parent e a) (folder ▹ n) cs, children-law parent folder rest))
 
     -- what is copied from the store is what is copied apart
     copy-law : (parent : Node) (e : Entry-path) (d : Place Entry)
-        → copy store c (store .judge u z) parent e (map-place in-store d) ≡ copy abstract c (abstract .judge u z) parent e d
+        → copy c (source store (store .judge u z)) parent e (map-place in-store d) ≡ copy c (source abstract (abstract .judge u z)) parent e d
     unfolding copy
     copy-law parent e d = rw (map-here in-store d, map-below in-store d) (rw (copied-law parent e (d .here)) (rw (children-law _ (below-rep e) (d .below))))
 

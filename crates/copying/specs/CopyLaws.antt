@@ -1,20 +1,14 @@
--- New entries are in range, and the copy of a well-formed place is a well-formed place.
+-- The copy of a well-formed place is a well-formed place.
 use mathlib.Core.Path.{_≡_, refl, sym, _∙_, ap}
-use mathlib.Core.List.{[]}
 use mathlib.Core.Bool.{Bool, true, false, _||_, not}
 use Prim.Native.Nat.{_+_, _≤_}
 use native.Mathlib.Omega.{arith}
-use borrow.Author.Tests.{ltb-true, lt-ltb}
 use Rattle.accounts.specs.Cases.{case}
 use Rattle.accounts.specs.declared.Account.{Account}
-use Rattle.accounts.specs.Dominance.{Bounded-role}
-use Rattle.accounts.specs.Service.{service-uid, service-gid}
 use Rattle.syntax.specs.Text.{Text, precedes}
-use Rattle.syntax.specs.FormLaws.{no-answer}
 use Rattle.syntax.specs.Number.{set-gid, is-mode}
 use Rattle.syntax.specs.Path.{Name, Path, _▹_, Entry-path, parent, depth, in-rep, entry-location, is-path, is-entry-path}
 use Rattle.syntax.specs.PathLaws.{path-more}
-use Rattle.syntax.specs.Field.{is-content}
 use Rattle.tree.specs.declared.Kind.{Kind}
 use Rattle.tree.specs.declared.Kind.the-variants.{File, Directory}
 use Rattle.tree.specs.Forest.{Forest, nil, node, Place, is-empty, height}
@@ -23,49 +17,22 @@ use Rattle.tree.specs.Node.{is-directory, Tag, Node, set-tag}
 use Rattle.tree.specs.Walk.{by-modes}
 use Rattle.tree.specs.WellFormed.{is-node, leads, is-forest, is-place}
 use Rattle.tree.specs.JudgeLaws.{kind-by-modes}
-use Rattle.tree.specs.NodeLaws.{last-revision-is, node-ranges, node-of-ranges, node-of-tag, node-of-any-content, kind-of-set-tag, kind-of-set-content}
+use Rattle.tree.specs.NodeLaws.{node-ranges, node-of-tag, node-of-any-content, kind-of-set-tag, kind-of-set-content}
 use Rattle.tree.specs.WellFormedLaws.{place-parts, place-of-parts, forest-parts, forest-of-parts, leads-node, leads-before}
 use Rattle.shell.specs.declared.Caller.{Caller}
 use Rattle.shell.specs.Caller.{new-node}
 use Rattle.shell.specs.Keeping.{is-caller, new-node-fits}
-use Rattle.repository.specs.Machine.{below-rep, copy-mode, copy-node, copied, copy-children, copy}
-use Rattle.repository.specs.Store.{entry-mode, entry-node, store}
-
--- ---- nodes
+use Rattle.copying.specs.Copying.{below-rep, nodes-by, copy-mode, copy-node, copied, copy-children, copy}
 
 copy-mode-fits : (k : Kind) → (is-mode (copy-mode k) ≡ true) × (set-gid (copy-mode k) ≡ false)
 unfolding copy-mode is-mode set-gid
 copy-mode-fits File = (refl, refl)
 copy-mode-fits Directory = (refl, refl)
 
-entry-mode-fits : (k : Kind) → (is-mode (entry-mode k) ≡ true) × (set-gid (entry-mode k) ≡ false)
-unfolding entry-mode is-mode set-gid
-entry-mode-fits File = (refl, refl)
-entry-mode-fits Directory = (refl, refl)
-
 -- where there is no set-gid it is on directories only
-without-gid : (b g : Bool) → g ≡ false → (b || not g) ≡ true
+pub without-gid : (b g : Bool) → g ≡ false → (b || not g) ≡ true
 without-gid true g h = refl
 without-gid false g h = ap not h
-
--- a new entry with content in range is in range
-pub entry-fits : (k : Kind) (z : Bounded-role) (c : Text) → is-content c ≡ true → (is-directory k ≡ true → c ≡ []) → is-node (entry-node k z 1 c) ≡ true
-unfolding entry-node service-uid service-gid
-entry-fits k z c a b =
-    let l = ltb-true (z .role .0) 8 (z .bound) in
-    let i = entry-mode-fits k in
-    node-of-ranges (entry-node k z 1 c) (record {
-      owner = lt-ltb (16 + z .role .0) 24 (omega arith);
-      group = lt-ltb (16 + z .role .0) 25 (omega arith);
-      mode = i .0;
-      gid = without-gid (is-directory k) (set-gid (entry-mode k)) (i .1);
-      revision = rw last-revision-is;
-      tag = λ t e. no-answer e;
-      content = a;
-      bare = b;
-    })
-
--- ---- copies
 
 module _ (c : Caller) (o : is-caller c ≡ true) where
   copy-kind : (parent : Node) (k : Kind) (content : Text) (tag : Tag) → copy-node c parent k content tag .kind ≡ k
@@ -86,20 +53,20 @@ module _ (c : Caller) (o : is-caller c ≡ true) where
 
   module _ (a : Account) where
     copied-fits : (parent : Node) (e : Entry-path) (x : Node) → is-node parent ≡ true → is-node x ≡ true → is-entry-path e ≡ true
-        → is-node (copied store c (by-modes a) parent e x) ≡ true
+        → is-node (copied c (nodes-by (by-modes a)) parent e x) ≡ true
     unfolding copied
     copied-fits parent e x h i k = rw (kind-by-modes a x) (copy-fits parent x e h i k)
 
-    copied-kind : (parent : Node) (e : Entry-path) (x : Node) → copied store c (by-modes a) parent e x .kind ≡ x .kind
+    copied-kind : (parent : Node) (e : Entry-path) (x : Node) → copied c (nodes-by (by-modes a)) parent e x .kind ≡ x .kind
     unfolding copied
     copied-kind parent e x = copy-kind parent (by-modes a .kind x) (x .content) (record { path = e; revision = x .revision }) ∙ kind-by-modes a x
 
-    no-copies : (parent : Node) (folder : Path) (F : Forest Node) → is-empty F ≡ true → is-empty (copy-children store c (by-modes a) parent folder F) ≡ true
+    no-copies : (parent : Node) (folder : Path) (F : Forest Node) → is-empty F ≡ true → is-empty (copy-children c (nodes-by (by-modes a)) parent folder F) ≡ true
     unfolding copy-children
     no-copies parent folder F h = let q = empty-is-nil F h in rw q (rw q at h)
 
     copies-lead : (m : Name) (parent : Node) (folder : Path) (F : Forest Node) → is-forest F ≡ true → leads m F ≡ true
-        → leads m (copy-children store c (by-modes a) parent folder F) ≡ true
+        → leads m (copy-children c (nodes-by (by-modes a)) parent folder F) ≡ true
     unfolding copy-children
     copies-lead m parent folder nil h b = b
     copies-lead m parent folder (node n x cs rest) h b =
@@ -111,18 +78,18 @@ module _ (c : Caller) (o : is-caller c ≡ true) where
 
     -- a copied place, if the copies below are well-formed
     copied-place : (parent : Node) (e : Entry-path) (d : Place Node) → is-node parent ≡ true → is-entry-path e ≡ true → is-place d ≡ true
-        → is-forest (copy store c (by-modes a) parent e d .below) ≡ true → is-place (copy store c (by-modes a) parent e d) ≡ true
+        → is-forest (copy c (nodes-by (by-modes a)) parent e d .below) ≡ true → is-place (copy c (nodes-by (by-modes a)) parent e d) ≡ true
     unfolding copy
     copied-place parent e d h k w f =
         let v = place-parts d w in
-        place-of-parts (copy store c (by-modes a) parent e d) (record {
+        place-of-parts (copy c (nodes-by (by-modes a)) parent e d) (record {
           own = copied-fits parent e (d .here) h (v .own) k;
-          childless = λ b. no-copies (copied store c (by-modes a) parent e (d .here)) (below-rep e) (d .below) (v .childless (ap is-directory (sym (copied-kind parent e (d .here))) ∙ b));
+          childless = λ b. no-copies (copied c (nodes-by (by-modes a)) parent e (d .here)) (below-rep e) (d .below) (v .childless (ap is-directory (sym (copied-kind parent e (d .here))) ∙ b));
           forest = f;
         })
 
     copies-fit : (parent : Node) (folder : Path) (F : Forest Node) → is-node parent ≡ true → is-path (in-rep folder) ≡ true
-        → depth (in-rep folder) + height F ≤ 6 → is-forest F ≡ true → is-forest (copy-children store c (by-modes a) parent folder F) ≡ true
+        → depth (in-rep folder) + height F ≤ 6 → is-forest F ≡ true → is-forest (copy-children c (nodes-by (by-modes a)) parent folder F) ≡ true
     unfolding copy-children copy in-rep depth below-rep is-entry-path entry-location
     copies-fit parent folder nil h k l f = f
     copies-fit parent folder (node n x cs rest) h k l f =
@@ -132,10 +99,10 @@ module _ (c : Caller) (o : is-caller c ≡ true) where
         let w = place-parts d (v .first) in
         let b = height-node n x cs rest in
         let i = path-more (in-rep folder) n k (v .name) (omega arith) in
-        let y = copied store c (by-modes a) parent e x in
+        let y = copied c (nodes-by (by-modes a)) parent e x in
         let others = copies-fit parent folder rest h k (omega arith) (v .others) in
         case (by-modes a .readable x)
-        (λ t. rw t (forest-of-parts n (copy store c (by-modes a) parent e d) (copy-children store c (by-modes a) parent folder rest) (record {
+        (λ t. rw t (forest-of-parts n (copy c (nodes-by (by-modes a)) parent e d) (copy-children c (nodes-by (by-modes a)) parent folder rest) (record {
           name = v .name;
           first = copied-place parent e d h i (v .first) (copies-fit y (folder ▹ n) cs (copied-fits parent e x h (w .own) i) i (omega arith) (w .forest));
           leading = copies-lead n parent folder rest (v .others) (v .leading);
@@ -145,9 +112,9 @@ module _ (c : Caller) (o : is-caller c ≡ true) where
 
     -- the copy of a well-formed place that lies at an entry path is well-formed
     pub copy-is-place : (parent : Node) (e : Entry-path) (d : Place Node) → is-node parent ≡ true → is-entry-path e ≡ true → is-place d ≡ true
-        → depth (entry-location e) + height (d .below) ≤ 6 → is-place (copy store c (by-modes a) parent e d) ≡ true
+        → depth (entry-location e) + height (d .below) ≤ 6 → is-place (copy c (nodes-by (by-modes a)) parent e d) ≡ true
     unfolding copy below-rep is-entry-path entry-location in-rep
     copy-is-place parent e d h k w l =
         let v = place-parts d w in
         copied-place parent e d h k w
-        (copies-fit (copied store c (by-modes a) parent e (d .here)) (below-rep e) (d .below) (copied-fits parent e (d .here) h (v .own) k) k l (v .forest))
+        (copies-fit (copied c (nodes-by (by-modes a)) parent e (d .here)) (below-rep e) (d .below) (copied-fits parent e (d .here) h (v .own) k) k l (v .forest))

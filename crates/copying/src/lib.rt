@@ -1,0 +1,1 @@
+// Copies of what may be read, for `co`.
