@@ -2,8 +2,8 @@
 // command line `no,1` where it has no listed form and `form` where it has one.
 ghost use Prim.Native.Nat.{_≤_};
 ghost use lib.ListN.{length};
+use commands::Parsed;
 use libc::STDOUT_FILENO;
-use syntax::Parsed;
 
 // Where the setup ends: after the first line that is `end`, or where the text ends.
 fn setup_end(text: &[u8]) -> usize
@@ -25,7 +25,7 @@ fn setup_end(text: &[u8]) -> usize
 
 // What syntax says of one command line.
 fn judge(line: &[u8]) {
-    match syntax::parse(line) {
+    match commands::parse(line) {
         Parsed::NoForm => io::write_all(STDOUT_FILENO, b"no,1\n"),
         Parsed::Line {
             caller: _,
@@ -48,7 +48,7 @@ fn judge_lines(text: &[u8]) {
 // What syntax says of a whole input.
 fn judge_input(input: &[u8]) {
     let end = setup_end(input);
-    let read = syntax::read_setup(&input[..end]);
+    let read = setup::read_setup(&input[..end]);
     if read.wrong != 0 {
         io::write_all(STDOUT_FILENO, b"no,17,");
         io::print_decimal(STDOUT_FILENO, read.wrong as u64);

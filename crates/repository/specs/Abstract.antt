@@ -6,7 +6,7 @@ use mathlib.Core.Bool.{Bool, true, _&&_}
 use Prim.Native.Nat.{ℕ, suc}
 use Rattle.accounts.specs.Dominance.{same-role, Bounded-role, dominates}
 use Rattle.syntax.specs.Text.{Text}
-use Rattle.syntax.specs.Setup.{Setup}
+use Rattle.setup.specs.Setup.{Setup}
 use Rattle.tree.specs.declared.Kind.{Kind}
 use Rattle.tree.specs.declared.Kind.the-variants.{Directory}
 use Rattle.tree.specs.Forest.{Place, leaf, size, map-place}

@@ -6,7 +6,7 @@ use Prim.Native.Nat.{ℕ}
 use lib.Dec.{eqb, leb}
 use lib.ListN.{length, getElem?, drop}
 use Rattle.syntax.specs.Text.{Text}
-use Rattle.syntax.specs.Setup.{Setup, Setup-answer, accepted, wrong-line, setup}
+use Rattle.setup.specs.Setup.{Setup, Setup-answer, accepted, wrong-line, setup}
 use Rattle.tree.specs.Causes.{number}
 use Rattle.tree.specs.Result.{Result, refused, done, _>>=_, _>>_, require, present}
 use Rattle.shell.specs.Caller.{Outcome}

@@ -19,7 +19,8 @@ use Rattle.accounts.specs.Access.{is-root, same-uid, grants, may-other, grants-
 use Rattle.accounts.specs.Service.{all-services}
 use Rattle.syntax.specs.Text.{every}
 use Rattle.syntax.specs.TextLaws.{every-getD}
-use Rattle.syntax.specs.Setup.{Person, Setup, accounts, person, is-some, is-person, is-slot, is-setup}
+use Rattle.syntax.specs.Form.{is-some}
+use Rattle.setup.specs.Setup.{Person, Setup, accounts, person, is-person, is-slot, is-setup}
 use Rattle.tree.specs.Node.{allows}
 use Rattle.tree.specs.Result.{done, present}
 use Rattle.tree.specs.ResultLaws.{present-some, bind-done}

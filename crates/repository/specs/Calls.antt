@@ -6,8 +6,8 @@ use Prim.Native.Nat.{ℕ}
 use lib.Dec.{leb}
 use Rattle.accounts.specs.Access.{is-root}
 use Rattle.syntax.specs.Text.{Text}
-use Rattle.syntax.specs.Command.{Line, line}
-use Rattle.syntax.specs.Setup.{Setup}
+use Rattle.commands.specs.Command.{Line, line}
+use Rattle.setup.specs.Setup.{Setup}
 use Rattle.tree.specs.Result.{Result, refused, done, _>>=_, _>>_, require, present}
 use Rattle.shell.specs.Caller.{Outcome}
 use Rattle.repository.specs.Machine.{Machine, caller, run}

@@ -21,7 +21,7 @@ use Rattle.accounts.specs.Dominance.{Bounded-role}
 use Rattle.syntax.specs.Text.{same-text}
 use Rattle.syntax.specs.Form.{_>>=_, _>>_, check}
 use Rattle.syntax.specs.Field.{bounded}
-use Rattle.syntax.specs.Setup.{Person, Grant, Setup, accounts, most-pairs, most-grants, is-setup}
+use Rattle.setup.specs.Setup.{Person, Grant, Setup, accounts, most-pairs, most-grants, is-setup}
 use Rattle.tree.specs.Fields.{two-bytes, number-at, padded, text-at, all-bytes, all-from, table-bytes, table-from}
 use Rattle.tree.specs.Encoding.{encode-tree, decode-tree}
 use Rattle.tree.specs.WellFormed.{is-tree}

@@ -15,7 +15,7 @@ use Rattle.syntax.specs.Text.{same-text}
 use Rattle.syntax.specs.TextLaws.{same-text-refl, same-text-sound}
 use Rattle.syntax.specs.Form.{_>>=_, _>>_, check}
 use Rattle.syntax.specs.FormLaws.{both-read, checked, answered}
-use Rattle.syntax.specs.Setup.{accounts, is-setup}
+use Rattle.setup.specs.Setup.{accounts, is-setup}
 use Rattle.tree.specs.WellFormed.{is-tree}
 use Rattle.tree.specs.Encoding.{encode-tree, decode-tree}
 use Rattle.tree.specs.EncodingLaws.{tree-width-is, length-encode-tree, decode-encode as decode-encode-tree}

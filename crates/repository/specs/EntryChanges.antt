@@ -17,9 +17,9 @@ use Rattle.syntax.specs.Text.{Text}
 use Rattle.syntax.specs.Path.{Path, _▹_, Entry-path, parent, last, same-path, in-rep, entry-location}
 use Rattle.syntax.specs.WithinLaws.{same-path-sound}
 use Rattle.syntax.specs.FormLaws.{answered}
-use Rattle.syntax.specs.Command.{login, logout, add, co, commit, up, del, Command, shell, repository}
-use Rattle.syntax.specs.Setup.{Setup}
-use Rattle.syntax.specs.SetupLaws.{accepted-is-setup}
+use Rattle.commands.specs.Command.{login, logout, add, co, commit, up, del, Command, shell, repository}
+use Rattle.setup.specs.Setup.{Setup}
+use Rattle.setup.specs.SetupLaws.{accepted-is-setup}
 use Rattle.tree.specs.declared.Kind.{Kind}
 use Rattle.tree.specs.declared.Kind.the-variants.{File, Directory}
 use Rattle.tree.specs.Result.{done}

@@ -6,11 +6,13 @@ use mathlib.Core.Path.{_≡_, refl}
 use mathlib.Core.List.{List, [], map}
 use Rattle.accounts.specs.Compute.{compute as compute-accounts}
 use Rattle.syntax.specs.Compute.{compute as compute-syntax}
+use Rattle.commands.specs.Compute.{compute as compute-commands}
+use Rattle.setup.specs.Compute.{compute as compute-setup}
 use Rattle.tree.specs.Compute.{compute as compute-tree}
 use Rattle.shell.specs.Compute.{compute as compute-shell}
 use Rattle.copying.specs.Compute.{compute as compute-copying}
 use Rattle.syntax.specs.Text.{Text, bytes, pieces, newline, joined}
-use Rattle.syntax.specs.Setup.{Setup, Setup-answer, accepted, wrong-line, setup}
+use Rattle.setup.specs.Setup.{Setup, Setup-answer, accepted, wrong-line, setup}
 use Rattle.repository.specs.Machine.{Machine, person-caller, known-caller, caller, granted, log-in, log-out, session, file-entry, check-out, working, original, commit-file, update-file, delete-entry, run-repository, run}
 use Rattle.repository.specs.Initial.{directory-of, top-node, rep-node, home-node, home-name, with-home, homes, initial-tree, no-sessions}
 use Rattle.repository.specs.Store.{store, entry-mode, entry-node, initial-store}
@@ -21,7 +23,7 @@ use Rattle.repository.specs.Transcript.{after-end, parts, command-lines,
 
 -- every definition that a run goes through
 unfoldable compute : Unit {0}
-unfolding compute-accounts compute-syntax compute-tree compute-shell compute-copying person-caller known-caller caller granted log-in log-out session file-entry check-out working original commit-file update-file delete-entry run-repository run directory-of top-node rep-node home-node home-name with-home homes initial-tree no-sessions entry-mode entry-node initial-store dominated role-passes role-readable role-writable by-dominance rep-entry initial-abstract stored in-store whole embed least-room reply after perform step runs kind-text tag-fields node-line forest-lines listing after-end parts command-lines reply-line lines-text call-of session-text output transcript
+unfolding compute-accounts compute-syntax compute-commands compute-setup compute-tree compute-shell compute-copying person-caller known-caller caller granted log-in log-out session file-entry check-out working original commit-file update-file delete-entry run-repository run directory-of top-node rep-node home-node home-name with-home homes initial-tree no-sessions entry-mode entry-node initial-store dominated role-passes role-readable role-writable by-dominance rep-entry initial-abstract stored in-store whole embed least-room reply after perform step runs kind-text tag-fields node-line forest-lines listing after-end parts command-lines reply-line lines-text call-of session-text output transcript
 compute = tt
 
 -- the answers of a machine to the commands of the program's input

@@ -18,8 +18,9 @@ use Rattle.syntax.specs.TextLaws.{lacks}
 use Rattle.syntax.specs.Path.{is-name}
 use Rattle.syntax.specs.PathLaws.{name-fits}
 use Rattle.syntax.specs.Field.{bounded, bounded-by}
-use Rattle.syntax.specs.Setup.{Person, Grant, Setup, accounts, most-pairs, most-grants, person, is-some, is-person, is-slot, is-pair, is-grant, is-setup}
-use Rattle.syntax.specs.SetupLaws.{apart}
+use Rattle.syntax.specs.Form.{is-some}
+use Rattle.setup.specs.Setup.{Person, Grant, Setup, accounts, most-pairs, most-grants, person, is-person, is-slot, is-pair, is-grant, is-setup}
+use Rattle.setup.specs.SetupLaws.{apart}
 use Rattle.tree.specs.Fields.{two-bytes, number-at, padded, text-at, all-bytes, all-from, table-bytes, table-from}
 use Rattle.tree.specs.FieldsLaws.{length-two-bytes, number-at-bytes, length-padded, text-at-padded}
 use Rattle.tree.specs.TableLaws.{length-all-bytes, length-table, all-from-bytes, table-from-bytes}

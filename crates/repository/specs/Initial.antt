@@ -8,7 +8,7 @@ use Rattle.accounts.specs.declared.Gid.{Gid}
 use Rattle.syntax.specs.Text.{bytes}
 use Rattle.syntax.specs.Number.{decimal-text}
 use Rattle.syntax.specs.Path.{Name, rep}
-use Rattle.syntax.specs.Setup.{Person, Setup, accounts, person}
+use Rattle.setup.specs.Setup.{Person, Setup, accounts, person}
 use Rattle.tree.specs.declared.Kind.the-variants.{Directory}
 use Rattle.tree.specs.Forest.{Forest, nil, node, Place, insert, leaf}
 use Rattle.tree.specs.Node.{Node}

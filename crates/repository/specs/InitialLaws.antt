@@ -12,7 +12,7 @@ use Rattle.accounts.specs.Cases.{and-both}
 use Rattle.syntax.specs.Text.{bytes, same-text, every}
 use Rattle.syntax.specs.Number.{is-mode, digits-before, decimal-text}
 use Rattle.syntax.specs.Path.{Name, rep, name-byte, is-name}
-use Rattle.syntax.specs.Setup.{Person, Setup, accounts, person, is-setup}
+use Rattle.setup.specs.Setup.{Person, Setup, accounts, person, is-setup}
 use Rattle.tree.specs.declared.Kind.the-variants.{Directory}
 use Rattle.tree.specs.Forest.{Forest, nil, node, Place, get, insert, leaf, size}
 use Rattle.tree.specs.ForestLaws.{get-nil, insert-nil, get-insert-other, size-insert}

@@ -15,7 +15,7 @@ use Rattle.accounts.specs.Access.{is-root, same-uid, grants, may-owner, may-gro
 use Rattle.accounts.specs.Dominance.{same-role, same-role-is, Bounded-role, dominates, dominates-self}
 use Rattle.accounts.specs.Service.{service-uid, service-gid, all-services, service, service-not-root, service-own, same-service, member-service, member-all}
 use Rattle.syntax.specs.Text.{Text}
-use Rattle.syntax.specs.Setup.{Setup}
+use Rattle.setup.specs.Setup.{Setup}
 use Rattle.tree.specs.declared.Kind.{Kind}
 use Rattle.tree.specs.declared.Kind.the-variants.{File, Directory}
 use Rattle.tree.specs.Node.{is-directory, allows, set-content}

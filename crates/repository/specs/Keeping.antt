@@ -18,10 +18,10 @@ use Rattle.accounts.specs.Service.{service}
 use Rattle.syntax.specs.Text.{Text}
 use Rattle.syntax.specs.Path.{Path, _▹_, Entry-path, parent, depth, in-rep, entry-location, is-path, is-entry-path, most-names}
 use Rattle.syntax.specs.PathLaws.{entry-parts}
-use Rattle.syntax.specs.Command.{line, Repository-command, login, logout, add, co, commit, up, del, Command, shell, repository, is-repository-command, is-command, is-line}
-use Rattle.syntax.specs.CommandLaws.{line-is-line}
-use Rattle.syntax.specs.Setup.{Setup, accounts, is-setup}
-use Rattle.syntax.specs.SetupLaws.{accepted-is-setup}
+use Rattle.commands.specs.Command.{line, Repository-command, login, logout, add, co, commit, up, del, Command, shell, repository, is-repository-command, is-command, is-line}
+use Rattle.commands.specs.CommandLaws.{line-is-line}
+use Rattle.setup.specs.Setup.{Setup, accounts, is-setup}
+use Rattle.setup.specs.SetupLaws.{accepted-is-setup}
 use Rattle.tree.specs.Result.{Result, done}
 use Rattle.tree.specs.ResultLaws.{present-some}
 use Rattle.tree.specs.Forest.{Place, update, alter, leaf, size, height}

@@ -9,9 +9,9 @@ use Rattle.accounts.specs.declared.Right.the-variants.{X}
 use Rattle.accounts.specs.Access.{is-root}
 use Rattle.accounts.specs.Cases.{case, and-both, contra}
 use Rattle.syntax.specs.Path.{Name, Path, root, _▹_, parent, same-path, within, rep}
-use Rattle.syntax.specs.Command.{Shell-command, create, mkdir, read, write, rm, rmdir, mv, chmod, chgrp, chown, shell}
-use Rattle.syntax.specs.Setup.{Setup}
-use Rattle.syntax.specs.SetupLaws.{accepted-is-setup}
+use Rattle.commands.specs.Command.{Shell-command, create, mkdir, read, write, rm, rmdir, mv, chmod, chgrp, chown, shell}
+use Rattle.setup.specs.Setup.{Setup}
+use Rattle.setup.specs.SetupLaws.{accepted-is-setup}
 use Rattle.tree.specs.declared.Kind.{Kind}
 use Rattle.tree.specs.declared.Kind.the-variants.{File, Directory}
 use Rattle.tree.specs.Result.{Result, refused, done, _>>=_}

@@ -11,9 +11,9 @@ use Rattle.accounts.specs.Cases.{and-both}
 use Rattle.accounts.specs.Access.{is-root}
 use Rattle.syntax.specs.Text.{Text, bytes, same-text, every}
 use Rattle.syntax.specs.Path.{root, rep, in-rep}
-use Rattle.syntax.specs.Command.{Line, line}
-use Rattle.syntax.specs.Setup.{Person, Setup, accounts, person, is-setup, accepted, setup}
-use Rattle.syntax.specs.SetupLaws.{accepted-is-setup}
+use Rattle.commands.specs.Command.{Line, line}
+use Rattle.setup.specs.Setup.{Person, Setup, accounts, person, is-setup, accepted, setup}
+use Rattle.setup.specs.SetupLaws.{accepted-is-setup}
 use Rattle.tree.specs.Result.{Result, present}
 use Rattle.tree.specs.ResultLaws.{present-some}
 use Rattle.tree.specs.Forest.{Forest, nil, Place, get, leaf, map-place}

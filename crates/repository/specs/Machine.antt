@@ -16,8 +16,8 @@ use Rattle.accounts.specs.Access.{is-root, same-uid}
 use Rattle.accounts.specs.Dominance.{same-role, Bounded-role, dominates}
 use Rattle.syntax.specs.Text.{Text, same-text}
 use Rattle.syntax.specs.Path.{Path, Entry-path, parent, last, depth, most-names}
-use Rattle.syntax.specs.Command.{Repository-command, login, logout, add, co, commit, up, del, Command, shell, repository}
-use Rattle.syntax.specs.Setup.{Person, Grant, Setup, person}
+use Rattle.commands.specs.Command.{Repository-command, login, logout, add, co, commit, up, del, Command, shell, repository}
+use Rattle.setup.specs.Setup.{Person, Grant, Setup, person}
 use Rattle.tree.specs.declared.Kind.{Kind}
 use Rattle.tree.specs.Result.{Result, done, _>>=_, _>>_, require, present}
 use Rattle.tree.specs.Forest.{Place, is-empty, update, alter, put, drop, leaf, size, height}

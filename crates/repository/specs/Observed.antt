@@ -5,7 +5,7 @@ use mathlib.Core.Option.{Option, some}
 use mathlib.Core.Bool.{Bool, true, not}
 use Rattle.syntax.specs.Text.{Text, every}
 use Rattle.syntax.specs.Path.{root, _▹_, rep}
-use Rattle.syntax.specs.Setup.{Setup, accepted, setup}
+use Rattle.setup.specs.Setup.{Setup, accepted, setup}
 use Rattle.tree.specs.Forest.{Place, get, update, leaf, map-place}
 use Rattle.tree.specs.Node.{Node}
 use Rattle.repository.specs.Store.{Store, store, initial-store}

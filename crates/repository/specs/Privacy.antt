@@ -15,8 +15,8 @@ use Rattle.accounts.specs.Access.{same-uid}
 use Rattle.accounts.specs.Dominance.{Bounded-role}
 use Rattle.accounts.specs.Service.{service-uid, service, service-not-root, service-own}
 use Rattle.syntax.specs.Path.{Path, _▹_, Entry-path, parent, last, within, in-rep}
-use Rattle.syntax.specs.Command.{Repository-command, login, logout, add, co, commit, up, del, Command, shell, repository}
-use Rattle.syntax.specs.Setup.{Setup}
+use Rattle.commands.specs.Command.{Repository-command, login, logout, add, co, commit, up, del, Command, shell, repository}
+use Rattle.setup.specs.Setup.{Setup}
 use Rattle.tree.specs.Result.{present}
 use Rattle.tree.specs.Forest.{Place, place-at}
 use Rattle.tree.specs.Node.{is-directory, Node}

@@ -15,8 +15,8 @@ use Rattle.accounts.specs.Dominance.{Bounded-role, Listed, Dominates, self, dow
 use Rattle.syntax.specs.Text.{bytes, every}
 use Rattle.syntax.specs.Path.{Name, Path, root, _▹_, depth, rep, in-rep, name-byte, is-name}
 use Rattle.syntax.specs.Field.{content-limit, is-content}
-use Rattle.syntax.specs.Setup.{Setup, is-pair, is-setup}
-use Rattle.syntax.specs.SetupLaws.{apart}
+use Rattle.setup.specs.Setup.{Setup, is-pair, is-setup}
+use Rattle.setup.specs.SetupLaws.{apart}
 use Rattle.tree.specs.declared.Kind.{Kind}
 use Rattle.tree.specs.declared.Kind.the-variants.{File}
 use Rattle.tree.specs.Result.{done}

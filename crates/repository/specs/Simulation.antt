@@ -13,8 +13,8 @@ use Rattle.accounts.specs.Dominance.{Bounded-role}
 use Rattle.accounts.specs.Service.{service}
 use Rattle.syntax.specs.Text.{Text}
 use Rattle.syntax.specs.Path.{Name, Path, _▹_, Entry-path, parent, rep, in-rep}
-use Rattle.syntax.specs.Command.{Shell-command, Repository-command, login, logout, add, co, commit, up, del, Command, shell, repository}
-use Rattle.syntax.specs.Setup.{Setup, is-setup}
+use Rattle.commands.specs.Command.{Shell-command, Repository-command, login, logout, add, co, commit, up, del, Command, shell, repository}
+use Rattle.setup.specs.Setup.{Setup, is-setup}
 use Rattle.tree.specs.declared.Kind.{Kind}
 use Rattle.tree.specs.Result.{done, present}
 use Rattle.tree.specs.Forest.{Forest, nil, node, Place, get, update, put, leaf, size, map-forest, map-place}

@@ -5,7 +5,7 @@ use Rattle.accounts.specs.Dominance.{Bounded-role}
 use Rattle.accounts.specs.Service.{service-uid, service-gid, service}
 use Rattle.syntax.specs.Text.{Text}
 use Rattle.syntax.specs.Path.{in-rep}
-use Rattle.syntax.specs.Setup.{Setup}
+use Rattle.setup.specs.Setup.{Setup}
 use Rattle.tree.specs.declared.Kind.{Kind}
 use Rattle.tree.specs.declared.Kind.the-variants.{File, Directory}
 use Rattle.tree.specs.Forest.{Place}

@@ -14,9 +14,9 @@ use Rattle.accounts.specs.Access.{is-root}
 use Rattle.accounts.specs.Dominance.{Bounded-role}
 use Rattle.syntax.specs.Text.{Text, every}
 use Rattle.syntax.specs.Path.{Path, Entry-path, same-path, within}
-use Rattle.syntax.specs.Command.{Shell-command, read, Command, shell}
-use Rattle.syntax.specs.Setup.{Setup, accepted, setup, is-setup}
-use Rattle.syntax.specs.SetupLaws.{accepted-is-setup}
+use Rattle.commands.specs.Command.{Shell-command, read, Command, shell}
+use Rattle.setup.specs.Setup.{Setup, accepted, setup, is-setup}
+use Rattle.setup.specs.SetupLaws.{accepted-is-setup}
 use Rattle.tree.specs.declared.Kind.{Kind}
 use Rattle.tree.specs.Result.{refused, done}
 use Rattle.tree.specs.Agree.{Ensures}

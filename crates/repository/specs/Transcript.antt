@@ -4,7 +4,7 @@ use mathlib.Core.Option.{none, some}
 use mathlib.Core.Bool.{cond}
 use Rattle.syntax.specs.Text.{Text, bytes, newline, same-text, pieces, joined}
 use Rattle.syntax.specs.Number.{decimal-text}
-use Rattle.syntax.specs.Setup.{Setup, Setup-answer, accepted, wrong-line, setup}
+use Rattle.setup.specs.Setup.{Setup, Setup-answer, accepted, wrong-line, setup}
 use Rattle.repository.specs.Store.{store, initial-store}
 use Rattle.repository.specs.Calls.{Call, least-room, Reply, ok, refusal, runs}
 use Rattle.repository.specs.Listing.{listing}

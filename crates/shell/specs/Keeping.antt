@@ -14,7 +14,7 @@ use Rattle.syntax.specs.Number.{set-gid, is-mode}
 use Rattle.syntax.specs.Path.{Path, root, _▹_, parent, last, depth, is-top, reserved, is-path, most-names}
 use Rattle.syntax.specs.PathLaws.{path-depth, last-is-name, parent-depth, not-reserved}
 use Rattle.syntax.specs.Field.{is-content}
-use Rattle.syntax.specs.Command.{Shell-command, create, mkdir, read, write, rm, rmdir, mv, chmod, chgrp, chown, is-shell-command}
+use Rattle.commands.specs.Command.{Shell-command, create, mkdir, read, write, rm, rmdir, mv, chmod, chgrp, chown, is-shell-command}
 use Rattle.tree.specs.declared.Kind.{Kind}
 use Rattle.tree.specs.declared.Kind.the-variants.{File, Directory}
 use Rattle.tree.specs.Result.{Result, done}

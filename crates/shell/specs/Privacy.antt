@@ -16,7 +16,7 @@ use Rattle.accounts.specs.Access.{is-root, same-uid, may-group, may-other, gran
 use Rattle.accounts.specs.Cases.{case, contra}
 use Rattle.syntax.specs.Text.{Text}
 use Rattle.syntax.specs.Path.{Name, Path, root, _▹_, parent, last, same-path, within, reserved}
-use Rattle.syntax.specs.Command.{Shell-command, create, mkdir, read, write, rm, rmdir, mv, chmod, chgrp, chown}
+use Rattle.commands.specs.Command.{Shell-command, create, mkdir, read, write, rm, rmdir, mv, chmod, chgrp, chown}
 use Rattle.tree.specs.declared.Kind.{Kind}
 use Rattle.tree.specs.declared.Kind.the-variants.{File, Directory}
 use Rattle.tree.specs.Result.{refused, done}

@@ -15,7 +15,7 @@ use Rattle.accounts.specs.Access.{is-root, same-uid}
 use Rattle.syntax.specs.Text.{Text, comma, joined}
 use Rattle.syntax.specs.Number.{set-gid}
 use Rattle.syntax.specs.Path.{Path, parent, last, depth, is-top, within, reserved, most-names}
-use Rattle.syntax.specs.Command.{Shell-command, create, mkdir, read, write, rm, rmdir, mv, chmod, chgrp, chown}
+use Rattle.commands.specs.Command.{Shell-command, create, mkdir, read, write, rm, rmdir, mv, chmod, chgrp, chown}
 use Rattle.tree.specs.declared.Kind.{Kind}
 use Rattle.tree.specs.declared.Kind.the-variants.{File, Directory}
 use Rattle.tree.specs.Result.{Result, done, _>>=_, _>>_, require}

@@ -20,6 +20,10 @@ unfoldable pub check : Bool → Option (Unit {0})
 check true = some tt
 check false = none
 
+unfoldable pub is-some : {A : Type 0} → Option A → Bool
+is-some none = false
+is-some (some a) = true
+
 pub record Form (X : Type 0) : Type 0 where
   pub word : Text
   pub arguments : List Text → Option X

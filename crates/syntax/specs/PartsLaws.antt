@@ -12,8 +12,7 @@ use lib.ListN.{length, take, drop, getD, length-drop, drop-of-length-le}
 use lib.Seq.{drop-cons, drop-drop, take-length}
 use Rattle.accounts.specs.Cases.{case}
 use Rattle.syntax.specs.Text.{Text, same-text, every, prefix-first, pieces, joined}
-use Rattle.syntax.specs.Form.{_>>=_}
-use Rattle.syntax.specs.Setup.{is-some}
+use Rattle.syntax.specs.Form.{_>>=_, is-some}
 use Rattle.syntax.specs.Parts.{part, piece-length}
 
 -- what a call answered, from a test of its answer turned round

@@ -12,9 +12,8 @@ use lib.Dec.{eqb, leb, ltb}
 use lib.ListN.{length, take, drop, getD, length-append, length-drop, take-append-drop, drop-of-length-le}
 use Rattle.accounts.specs.Cases.{case, and-both, contra}
 use Rattle.syntax.specs.Text.{Text, bytes, same-text, every, prefix-first, pieces, joined}
-use Rattle.syntax.specs.Form.{_>>=_, _>>_, check}
+use Rattle.syntax.specs.Form.{_>>=_, _>>_, check, is-some}
 use Rattle.syntax.specs.Path.{Name, Path, root, _▹_, rep, is-name, most-names, extended, names-from-top, path, without-rep, entry-at, entry-path}
-use Rattle.syntax.specs.Setup.{is-some}
 use Rattle.syntax.specs.TextLaws.{same-text-refl, same-text-sound}
 use Rattle.syntax.specs.PathLaws.{name-length}
 use Rattle.syntax.specs.FormLaws.{checked, answered}

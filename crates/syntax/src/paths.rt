@@ -1,6 +1,6 @@
 // Paths: their form, and their names one after another.
 ghost use mathlib.Core.Path.{_≡_};
-ghost use Rattle.syntax.specs.Setup.{is-some};
+ghost use Rattle.syntax.specs.Form.{is-some};
 ghost use Rattle.syntax.specs.Path.{path, entry-path};
 ghost use Rattle.syntax.specs.Parts.{next-name};
 use crate::Names;

@@ -10,6 +10,7 @@ ghost use Rattle.syntax.specs.Field.{content-byte, is-content};
 ghost use Rattle.syntax.specs.Parts.{of-class, piece-length, field-at};
 use crate::Class;
 use crate::Field;
+use crate::Span;
 
 // Whether a byte lies from low to high.
 fn within(b: u8, low: u8, high: u8) -> bool
@@ -112,6 +113,18 @@ pub fn field_at(line: &[u8], at: usize) -> Field
         start: at,
         end,
         last: end == line.len(),
+    }
+}
+
+impl Field {
+    // The part that a field is.
+    pub fn span(self) -> Span
+        ensures { λ r. ⌜ (r .start ≡ self .start) × (r .end ≡ self .end) ⌝ }
+    {
+        Span {
+            start: self.start,
+            end: self.end,
+        }
     }
 }
 

@@ -9,7 +9,7 @@ use Rattle.forms.proofs.judge_lines.Reads as judge-lines-reads
 use Rattle.forms.proofs.setup_end.Reads as setup-end-reads
 use Rattle.io.proofs.print_decimal.Reads as print-decimal-reads
 use Rattle.io.proofs.write_all.Reads as write-all-reads
-use Rattle.syntax.proofs.read_setup.Reads as read-setup-reads
+use Rattle.setup.proofs.read_setup.Reads as read-setup-reads
 
 -- src/main.rt:50:9
 setup-end-requires : tie.Need-setup-end-requires

@@ -1,0 +1,105 @@
+-- Command lines: `uid,command,arguments`, the 17 forms of document 01.
+use mathlib.Core.List.{List, [], _∷_}
+use mathlib.Core.Option.{Option, none, some}
+use mathlib.Core.Bool.{Bool, true, _&&_}
+use Prim.Native.Nat.{ℕ}
+use lib.Dec.{ltb}
+use Rattle.accounts.specs.declared.Uid.{Uid}
+use Rattle.accounts.specs.declared.Gid.{Gid}
+use Rattle.accounts.specs.Dominance.{Bounded-role}
+use Rattle.syntax.specs.Text.{Text, bytes, comma, pieces}
+use Rattle.syntax.specs.Number.{mode, is-mode}
+use Rattle.syntax.specs.Form.{_>>=_, Form, none-of, one-of, two-of, three-of, by-form}
+use Rattle.syntax.specs.Path.{Path, Entry-path, is-name, is-path, is-entry-path, path, entry-path}
+use Rattle.syntax.specs.Field.{uid, gid, role, plain-mode, password, is-content, content}
+
+pub data Shell-command : Type 0 where
+  create mkdir : Path → ℕ → Shell-command
+  read : Path → Shell-command
+  write : Path → Text → Shell-command
+  rm rmdir : Path → Shell-command
+  mv : Path → Path → Shell-command
+  chmod : Path → ℕ → Shell-command
+  chgrp : Path → Gid → Shell-command
+  chown : Path → Uid → Shell-command
+
+pub data Repository-command : Type 0 where
+  login : Bounded-role → Text → Repository-command
+  logout : Repository-command
+  add : Path → Entry-path → Bounded-role → Repository-command
+  co : Entry-path → Path → Repository-command
+  commit up : Path → Repository-command
+  del : Entry-path → Repository-command
+
+pub data Command : Type 0 where
+  shell : Shell-command → Command
+  repository : Repository-command → Command
+
+pub record Line : Type 0 where
+  pub caller : Uid
+  pub command : Command
+
+-- a form of a shell or repository command
+unfoldable pub form : Text → (List Text → Option Command) → Form Command
+form w read-arguments = record { word = w; arguments = read-arguments }
+
+unfoldable pub forms : List (Form Command)
+forms =
+    form (bytes "create") (two-of path plain-mode (λ p m. shell (create p m))) ∷
+    form (bytes "mkdir") (two-of path mode (λ p m. shell (mkdir p m))) ∷
+    form (bytes "read") (one-of path (λ p. shell (read p))) ∷
+    form (bytes "write") (two-of path content (λ p c. shell (write p c))) ∷
+    form (bytes "rm") (one-of path (λ p. shell (rm p))) ∷
+    form (bytes "rmdir") (one-of path (λ p. shell (rmdir p))) ∷
+    form (bytes "mv") (two-of path path (λ a b. shell (mv a b))) ∷
+    form (bytes "chmod") (two-of path mode (λ p m. shell (chmod p m))) ∷
+    form (bytes "chgrp") (two-of path gid (λ p g. shell (chgrp p g))) ∷
+    form (bytes "chown") (two-of path uid (λ p u. shell (chown p u))) ∷
+    form (bytes "login") (two-of role password (λ r w. repository (login r w))) ∷
+    form (bytes "logout") (none-of (repository logout)) ∷
+    form (bytes "add") (three-of path entry-path role (λ w e r. repository (add w e r))) ∷
+    form (bytes "co") (two-of entry-path path (λ e d. repository (co e d))) ∷
+    form (bytes "commit") (one-of path (λ w. repository (commit w))) ∷
+    form (bytes "up") (one-of path (λ w. repository (up w))) ∷
+    form (bytes "del") (one-of entry-path (λ e. repository (del e))) ∷ []
+
+-- the caller, the word and the arguments
+unfoldable pub line-of : List Text → Option Line
+line-of [] = none
+line-of (u ∷ []) = none
+line-of (u ∷ (w ∷ arguments)) = do
+  caller ← uid u
+  command ← by-form forms w arguments
+  some (record { caller = caller; command = command })
+
+unfoldable pub line : Text → Option Line
+line t = line-of (pieces comma t)
+
+-- what a line of a listed form has: every value in range
+unfoldable pub is-shell-command : Shell-command → Bool
+is-shell-command (create p m) = is-path p && ltb m 512
+is-shell-command (mkdir p m) = is-path p && is-mode m
+is-shell-command (read p) = is-path p
+is-shell-command (write p c) = is-path p && is-content c
+is-shell-command (rm p) = is-path p
+is-shell-command (rmdir p) = is-path p
+is-shell-command (mv a b) = is-path a && is-path b
+is-shell-command (chmod p m) = is-path p && is-mode m
+is-shell-command (chgrp p g) = is-path p && ltb (g .0) 25
+is-shell-command (chown p u) = is-path p && ltb (u .0) 24
+
+unfoldable pub is-repository-command : Repository-command → Bool
+is-repository-command (login r w) = is-name w
+is-repository-command logout = true
+is-repository-command (add w e r) = is-path w && is-entry-path e
+is-repository-command (co e d) = is-entry-path e && is-path d
+is-repository-command (commit w) = is-path w
+is-repository-command (up w) = is-path w
+is-repository-command (del e) = is-entry-path e
+
+unfoldable pub is-command : Command → Bool
+is-command (shell c) = is-shell-command c
+is-command (repository c) = is-repository-command c
+
+unfoldable pub is-line : Line → Bool
+is-line l = ltb (l .caller .0) 24 && is-command (l .command)

@@ -1,0 +1,46 @@
+// The setup: what it holds, and the reader of its text.
+mod reader;
+
+use accounts::Gid;
+use accounts::Groups;
+use accounts::Pair;
+use accounts::Role;
+use accounts::Uid;
+pub use reader::read_setup;
+use syntax::Span;
+
+// A person's primary group and further groups; an account whose primary group is 0 is no person's.
+pub struct Person {
+    pub primary: Gid,
+    pub further: Groups,
+}
+
+// A login grant, whose password is a part of the setup text.
+pub struct Grant {
+    pub uid: Uid,
+    pub role: Role,
+    pub password: Span,
+}
+
+// A setup: the persons by account number, and the first pairs and grants as their lines stand.
+pub struct Setup {
+    pub persons: [Person; 16],
+    pub pairs: [Pair; 28],
+    pub paired: usize,
+    pub grants: [Grant; 32],
+    pub granted: usize,
+}
+
+// What has been read of a setup: the kind of the last line (p, g, r, l are 0 to 3), and whether that line fits.
+pub struct Reading {
+    pub kind: u8,
+    pub setup: Setup,
+    pub fits: bool,
+}
+
+// A setup that was read: 0 and the setup, or the number of the first wrong line, from 1. Beside a wrong line the setup is what
+// had been read till then, and nothing is promised of it.
+pub struct SetupRead {
+    pub setup: Setup,
+    pub wrong: usize,
+}
