@@ -32,4 +32,6 @@ pub mod RowBytesLaws
 pub mod EncodingLaws
 pub mod RowAt
 pub mod RowAtLaws
+pub mod RowBelow
+pub mod RowBelowLaws
 pub mod Compute

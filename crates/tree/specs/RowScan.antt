@@ -79,7 +79,7 @@ module _ {A : Type 0} where
       rw (lt-ltb k j h, every-append (deeper k) (flatten (suc j) cs) (flatten j rest), flatten-deeper k (suc j) cs (omega arith)) (flatten-deeper k j rest h)
 
   -- rows that end at a depth begin with none below it
-  ends-deeper : (k : ℕ) (B : List (Row A)) → ends k B ≡ true → first-passes (deeper k) B ≡ false
+  pub ends-deeper : (k : ℕ) (B : List (Row A)) → ends k B ≡ true → first-passes (deeper k) B ≡ false
   unfolding ends first-passes deeper
   ends-deeper k [] h = refl
   ends-deeper k (r ∷ rs) h = le-ltb k (r .depth) (leb-true (r .depth) k h)

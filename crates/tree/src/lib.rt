@@ -1,7 +1,11 @@
 // The file tree as rows in preorder in a lent buffer of 59,394 bytes; docs/FORMAT.md has the layout.
+mod below;
 mod rows;
 mod scan;
 
+pub use below::child_names;
+pub use below::has_children;
+pub use below::height_below;
 pub use rows::content_at;
 pub use rows::count;
 pub use rows::depth_at;
