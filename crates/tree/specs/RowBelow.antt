@@ -55,3 +55,7 @@ next-place (n ∷ ns) = suc (length (joined comma (n ∷ ns)))
 pub record Named (a : List ℕ) (ns : List Text) (b : List ℕ) (place : ℕ) : Type 0 where
   pub holds : b ≡ joined comma ns ++ drop (length (joined comma ns)) a
   pub next : place ≡ next-place ns
+
+-- names written behind any others before
+abbrev pub Adds : List Text → List ℕ → ℕ → List ℕ → ℕ → Type 0
+Adds ms b place c next = (a : List ℕ) → (ns : List Text) → Named a ns b place → Named a (ns ++ ms) c next

@@ -1,20 +1,22 @@
 -- What the rows below a row tell is what the tree has there, and what the loops of the code go by.
 --
 -- In order:
---   rows below, by index: below-go to below-end;
---   texts written over a buffer: over-add to named-more;
+--   the rows below by index, the greatest depth among them and their names, row by row: below-go to row-name-fits;
+--   names written over a buffer: over-paste to named-length;
+--   the three answers by index: children-by-next to child-text-from;
+--   on siblings' rows: first-deeper to names-flatten;
 --   on the rows of a tree: has-children-of-tree, height-of-tree, child-text-of-tree.
 use mathlib.Core.Path.{_≡_, refl, sym, _∙_, ap}
-use mathlib.Core.List.{List, [], _∷_, _++_, append-assoc, append-nil}
+use mathlib.Core.List.{List, [], _∷_, _++_, append-assoc}
 use mathlib.Core.Option.{some}
-use mathlib.Core.Bool.{Bool, true, false, cond, not}
-use Prim.Native.Nat.{ℕ, zero, suc, _+_, _-_, _≤_, _<_}
+use mathlib.Core.Bool.{true, false, not}
+use Prim.Native.Nat.{ℕ, suc, _+_, _-_, _≤_, _<_}
 use native.Mathlib.Omega.{arith}
 use native.Mathlib.Numerals.{add-one}
 use lib.Dec.{eqb, ltb}
 use lib.ListN.{length, set, take, drop, length-append, length-take}
 use lib.Seq.{drop-cons, take-at, take-length, take-append-seam, drop-append-add, set-split, drop-drop, paste}
-use borrow.Author.Tests.{lt-ltb, le-ltb, le-leb, lt-leb, eq-eqb, ne-eqb}
+use borrow.Author.Tests.{lt-ltb, le-ltb, le-leb, eq-eqb, ne-eqb}
 use Rattle.accounts.specs.Cases.{case}
 use Rattle.syntax.specs.Text.{Text, comma, joined}
 use Rattle.syntax.specs.Path.{Path, depth}
@@ -27,7 +29,7 @@ use Rattle.tree.specs.WellFormed.{is-tree}
 use Rattle.tree.specs.Fields.{unpadded, text-at}
 use Rattle.tree.specs.Encoding.{row-of, encode-tree}
 use Rattle.tree.specs.RowContext.{place-rows, ends, index-of, Around, around}
-use Rattle.tree.specs.RowScan.{span, first-passes, deeper, first-at, span-go, span-end, ends-deeper, rows-from-place, rows-from-children, subtree-span}
+use Rattle.tree.specs.RowScan.{span, first-passes, deeper, first-at, span-end, ends-deeper, rows-from-place, rows-from-children, subtree-span}
 use Rattle.tree.specs.RowAt.{row-count, row-bytes-at, row-at, all-rows, first-depth, depth-of}
 use Rattle.tree.specs.RowAtLaws.{length-all-rows, row-in-rows, depth-of-row, scan-stop, scan-end, all-rows-of-tree}
 use Rattle.tree.specs.RowBelow.{front-below, rows-below, has-children, deepest, height-in, names-at, child-text, over, next-place, Named}
@@ -36,19 +38,19 @@ use Rattle.tree.specs.RowBelow.{front-below, rows-below, has-children, d
 
 module _ (b : List ℕ) (k i : ℕ) where
   -- a deeper row lies below
-  pub below-go : i < row-count b → k < row-at b i .depth → front-below k (drop i (all-rows b)) ≡ row-at b i ∷ front-below k (drop (suc i) (all-rows b))
+  below-go : i < row-count b → k < row-at b i .depth → front-below k (drop i (all-rows b)) ≡ row-at b i ∷ front-below k (drop (suc i) (all-rows b))
   unfolding front-below span deeper
   below-go h l =
       let q = drop-cons (all-rows b) i (row-at b i) (omega (arith, length-all-rows b)) ∙ ap (λ (r : Row Node). r ∷ drop (suc i) (all-rows b)) (row-in-rows b i (row-at b i) h) in
       rw q (rw (lt-ltb k (row-at b i .depth) l))
 
   -- one that is not ends them
-  pub below-stop : i < row-count b → row-at b i .depth ≤ k → front-below k (drop i (all-rows b)) ≡ []
+  below-stop : i < row-count b → row-at b i .depth ≤ k → front-below k (drop i (all-rows b)) ≡ []
   unfolding front-below deeper
   below-stop h l = rw (scan-stop b (deeper k) i h (le-ltb k (row-at b i .depth) l))
 
   -- and so does the end
-  pub below-end : row-count b ≤ i → front-below k (drop i (all-rows b)) ≡ []
+  below-end : row-count b ≤ i → front-below k (drop i (all-rows b)) ≡ []
   unfolding front-below
   below-end h = rw (scan-end b (deeper k) i h)
 
@@ -114,9 +116,9 @@ unpadded-fits [] = omega arith
 unpadded-fits (x ∷ l) = let i = unpadded-fits l in case (eqb x 0) (λ e. rw e (omega arith)) (λ e. rw e (omega arith))
 
 -- a name has at most 8 bytes
-pub name-fits : (b : List ℕ) (i : ℕ) → length (row-at b i .name) ≤ 8
+pub row-name-fits : (b : List ℕ) (i : ℕ) → length (row-at b i .name) ≤ 8
 unfolding row-at row-of text-at
-name-fits b i =
+row-name-fits b i =
     let l = drop 8 (row-bytes-at b i) in
     omega (arith, unpadded-fits (take 8 l), length-take 8 l)
 
@@ -143,6 +145,7 @@ over-more s t a =
       length-append s t,
     ) (sym (append-assoc s t (drop (length s + length t) a)))
 
+-- what is joined, part by part
 regroup-joined : (n : Text) (c : ℕ) (t m : Text) → n ++ (c ∷ ((t ++ (c ∷ [])) ++ m)) ≡ ((n ++ (c ∷ t)) ++ (c ∷ [])) ++ m
 regroup-joined n c t m = simp append-assoc
 
@@ -236,14 +239,10 @@ pub larger-second : (a b : ℕ) → a ≤ b → larger a b ≡ b
 unfolding larger
 larger-second a b h = rw (le-leb a b h)
 
-pub larger-first : (a b : ℕ) → b < a → larger a b ≡ a
-unfolding larger
-larger-first a b h = rw (lt-leb a b h)
-
-larger-with-zero : (m k : ℕ) → k ≤ m → larger m (k + 0) ≡ m
-larger-with-zero m k h =
-    let w = larger-bounds m (k + 0) in
-    let l : larger m (k + 0) ≤ m = larger-least m (k + 0) m (omega arith) (omega arith) in
+pub larger-first : (a b : ℕ) → b ≤ a → larger a b ≡ a
+larger-first a b h =
+    let least = larger-least a b a (omega arith) h in
+    let bound = larger-bounds a b in
     omega arith
 
 -- the greatest depth of rows made of two parts
@@ -275,7 +274,7 @@ larger-steps m k c r h =
 -- siblings' rows go as far down as the forest is high
 deepest-flatten : (m k : ℕ) (F : Forest Node) → k ≤ m → deepest m (flatten (suc k) F) ≡ larger m (k + height F)
 unfolding deepest flatten height
-deepest-flatten m k nil h = sym (larger-with-zero m k h)
+deepest-flatten m k nil h = sym (larger-first m (k + 0) (omega arith))
 deepest-flatten m k (node n x cs rest) h =
     let a = larger m (suc k) in
     let b = larger a (suc k + height cs) in
@@ -304,10 +303,12 @@ names-flatten k (node n x cs rest) =
 -- ---- the rows below a place of a tree
 
 module _ {t : Place Node} {p : Path} {d : Place Node} (c : Around t p d) where
+  -- its row stands at the depth of its path
   depth-of-place : depth-of (rows t) (index-of t p) ≡ depth p
   unfolding depth-of first-depth place-rows
   depth-of-place = rw (rows-from-place c)
 
+  -- the rows below are those of its children
   rows-below-place : rows-below (rows t) (index-of t p) ≡ flatten (suc (depth p)) (d .below)
   unfolding rows-below front-below
   rows-below-place =
@@ -319,6 +320,7 @@ module _ {t : Place Node} {p : Path} {d : Place Node} (c : Around t p d) where
   unfolding has-children
   place-has-children = rw (depth-of-place, rows-from-children c) (first-deeper (depth p) (d .below) (c .post) (c .stops))
 
+  -- they go as far down as the forest is high
   height-of-place : height-in (rows t) (index-of t p) ≡ height (d .below)
   unfolding height-in
   height-of-place =
@@ -327,6 +329,7 @@ module _ {t : Place Node} {p : Path} {d : Place Node} (c : Around t p d) where
       let w = larger-second (depth p) (depth p + height (d .below)) (omega arith) in
       omega arith)
 
+  -- those one level down have the children's names
   child-text-of-place : child-text (rows t) (index-of t p) ≡ joined comma (names (d .below))
   unfolding child-text
   child-text-of-place = rw (depth-of-place, rows-below-place, names-flatten (suc (depth p)) (d .below))

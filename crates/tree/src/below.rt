@@ -1,12 +1,11 @@
 // What lies below a row: whether anything does, how far down it goes, and the names of the children.
 ghost use mathlib.Core.Path.{_≡_};
-ghost use mathlib.Core.List.{List, [], _∷_, _++_};
-ghost use Prim.Native.Nat.{ℕ, _+_, _-_, _≤_, _<_};
+ghost use mathlib.Core.List.{[], _∷_, _++_};
+ghost use Prim.Native.Nat.{_+_, _-_, _≤_, _<_};
 ghost use lib.ListN.{length, drop};
-ghost use Rattle.syntax.specs.Text.{Text};
 ghost use Rattle.tree.specs.Forest.{larger};
 ghost use Rattle.tree.specs.RowAt.{row-count, row-at, all-rows};
-ghost use Rattle.tree.specs.RowBelow.{has-children, height-in, names-at, child-text, over, Named};
+ghost use Rattle.tree.specs.RowBelow.{has-children, height-in, names-at, child-text, over, Adds};
 use crate::rows::count;
 use crate::rows::depth_at;
 use crate::rows::name_at;
@@ -66,7 +65,7 @@ fn write_over(buffer: &mut [u8], place: usize, text: &[u8])
 // Adds a name to those written, with a comma before it unless it is the first; tells where the next would stand.
 fn add_name(answer: &mut [u8], place: usize, name: &[u8]) -> usize
     requires { ⌜ (place + length (now name) ≤ length (now answer)) × (length (now name) ≤ 8) ⌝ }
-    ensures { λ r. ⌜ ((a : List ℕ) → (ns : List Text) → Named a ns (now (answer .entry)) place → Named a (ns ++ (now (name .entry) ∷ [])) (now (answer .exit)) r) × (r ≤ place + 9) ⌝ }
+    ensures { λ r. ⌜ Adds (now (name .entry) ∷ []) (now (answer .entry)) place (now (answer .exit)) r × (r ≤ place + 9) ⌝ }
 {
     if place == 0 {
         write_over(answer, 0, name);
@@ -80,7 +79,7 @@ fn add_name(answer: &mut [u8], place: usize, name: &[u8]) -> usize
 // Adds the name of a row to those written if the row lies at a depth.
 fn add_child(tree: &[u8], i: usize, depth: usize, answer: &mut [u8], place: usize) -> usize
     requires { ⌜ (length (now tree) ≡ 59394) × ((i < 256) × (place + 8 ≤ length (now answer))) ⌝ }
-    ensures { λ r. ⌜ ((a : List ℕ) → (ns : List Text) → Named a ns (now (answer .entry)) place → Named a (ns ++ names-at depth (row-at (now (tree .entry)) i ∷ [])) (now (answer .exit)) r) × (r ≤ place + 9) ⌝ }
+    ensures { λ r. ⌜ Adds (names-at depth (row-at (now (tree .entry)) i ∷ [])) (now (answer .entry)) place (now (answer .exit)) r × (r ≤ place + 9) ⌝ }
 {
     if depth_at(tree, i) as usize != depth {
         return place;
@@ -101,7 +100,7 @@ fn bytes_before(place: usize) -> usize
 // Writes the names of the children, parted by commas, over the answer, and tells how many bytes they take.
 pub fn child_names(tree: &[u8], at: usize, answer: &mut [u8]) -> usize
     requires { ⌜ (length (now tree) ≡ 59394) × ((row-count (now tree) ≤ 256) × ((at < row-count (now tree)) × (2304 ≤ length (now answer)))) ⌝ }
-    ensures { λ r. ⌜ (r ≡ length (child-text (all-rows (now (tree .entry))) at)) × (now (answer .exit) ≡ child-text (all-rows (now (tree .entry))) at ++ drop (length (child-text (all-rows (now (tree .entry))) at)) (now (answer .entry))) ⌝ }
+    ensures { λ r. ⌜ (let text = child-text (all-rows (now (tree .entry))) at in (r ≡ length text) × (now (answer .exit) ≡ text ++ drop (length text) (now (answer .entry)))) ⌝ }
 {
     let n = count(tree);
     let depth = depth_at(tree, at) as usize + 1;

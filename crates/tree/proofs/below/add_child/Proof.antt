@@ -1,13 +1,11 @@
 -- `tree::below::add_child` meets its contract: a row at the depth adds its name, another none.
-use mathlib.Core.Path.{_≡_, sym, _∙_, ap}
-use mathlib.Core.List.{List, [], _∷_, _++_, append-nil}
+use mathlib.Core.Path.{_∙_, ap}
+use mathlib.Core.List.{append-nil}
 use native.Mathlib.Omega.{arith}
 use lib.ListN.{length}
 use denote.Ref.{now}
-use Rattle.syntax.specs.Text.{Text}
 use Rattle.tree.specs.RowAt.{row-at}
-use Rattle.tree.specs.RowBelow.{names-at, Named}
-use Rattle.tree.specs.RowBelowLaws.{name-there, name-elsewhere, name-fits}
+use Rattle.tree.specs.RowBelowLaws.{name-there, name-elsewhere, row-name-fits}
 use borrow.Author.Needs.{needs}
 use Rattle.tree.proofs.below.add_child.Statement.{statement}
 use Rattle.tree.proofs.below.add_child.Tie as tie
@@ -30,7 +28,7 @@ name-at-requires c κs = search needs
 add-name-requires : tie.Need-add-name-requires
 add-name-requires c κs =
     let g = c .before .before .before .before .before .before .args in
-    let short = name-fits (now (g .tree)) (g .i) in
+    let short = row-name-fits (now (g .tree)) (g .i) in
     let same = ap length (c .name-at .ensures) in
     omega arith
 
