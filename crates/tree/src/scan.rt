@@ -51,11 +51,11 @@ pub fn subtree_end(tree: &[u8], at: usize) -> usize
 }
 
 // Whether the scan for a child goes past a row: a deeper one, or a sibling whose name comes before.
-fn goes_past(tree: &[u8], i: usize, depth: u8, name: &[u8]) -> bool
+fn goes_past(tree: &[u8], i: usize, depth: usize, name: &[u8]) -> bool
     requires { ⌜ (length (now tree) ≡ 59394) × (i < 256) ⌝ }
     ensures { λ r. ⌜ r ≡ passes depth (now (name .entry)) (row-at (now (tree .entry)) i) ⌝ }
 {
-    let d = depth_at(tree, i);
+    let d = depth_at(tree, i) as usize;
     if depth < d {
         return true;
     }
@@ -70,11 +70,11 @@ fn goes_past(tree: &[u8], i: usize, depth: u8, name: &[u8]) -> bool
 }
 
 // Whether a row is that of a child.
-fn is_child(tree: &[u8], i: usize, depth: u8, name: &[u8]) -> bool
+fn is_child(tree: &[u8], i: usize, depth: usize, name: &[u8]) -> bool
     requires { ⌜ (length (now tree) ≡ 59394) × (i < 256) ⌝ }
     ensures { λ r. ⌜ r ≡ is-child depth (now (name .entry)) (row-at (now (tree .entry)) i) ⌝ }
 {
-    if depth_at(tree, i) != depth {
+    if depth_at(tree, i) as usize != depth {
         return false;
     }
     syntax::same(name_at(tree, i), name)
@@ -82,11 +82,11 @@ fn is_child(tree: &[u8], i: usize, depth: u8, name: &[u8]) -> bool
 
 // The child of a place, or where it would stand.
 pub fn find_child(tree: &[u8], at: usize, name: &[u8]) -> Child
-    requires { ⌜ (length (now tree) ≡ 59394) × ((row-count (now tree) ≤ 256) × ((at < row-count (now tree)) × (row-at (now tree) at .depth < 255))) ⌝ }
+    requires { ⌜ (length (now tree) ≡ 59394) × ((row-count (now tree) ≤ 256) × (at < row-count (now tree))) ⌝ }
     ensures { λ r. ⌜ r ≡ child-at (all-rows (now (tree .entry))) at (now (name .entry)) ⌝ }
 {
     let n = count(tree);
-    let depth = depth_at(tree, at) + 1;
+    let depth = depth_at(tree, at) as usize + 1;
     let mut i = at + 1;
     while i < n {
         if !goes_past(tree, i, depth, name) {

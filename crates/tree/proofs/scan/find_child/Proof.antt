@@ -51,6 +51,9 @@ count-requires c κs = omega arith
 depth-at-requires : tie.Need-depth-at-requires Inv-loop μ-loop
 depth-at-requires c κs = omega arith
 
+cast-depth : tie.Need-cast-depth Inv-loop μ-loop
+cast-depth c = omega arith
+
 add-depth : tie.Need-add-depth Inv-loop μ-loop
 add-depth c = omega arith
 
@@ -98,6 +101,7 @@ find-child-spec =
     μ-loop
     count-requires
     depth-at-requires
+    cast-depth
     add-depth
     add-i
     loop-holds

@@ -13,6 +13,9 @@ use Rattle.tree.proofs.scan.goes_past.Tie as tie
 depth-at-requires : tie.Need-depth-at-requires
 depth-at-requires c κs = search needs
 
+cast-d : tie.Need-cast-d
+cast-d c = search needs
+
 returns : tie.Need-returns
 returns c =
     let a = c .before .before .before .before .args in
@@ -66,6 +69,7 @@ goes-past-spec =
     tie.close
     (tie.spec
     depth-at-requires
+    cast-d
     returns
     returns-2
     name-at-requires

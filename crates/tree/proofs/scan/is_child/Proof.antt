@@ -12,6 +12,9 @@ use Rattle.tree.proofs.scan.is_child.Tie as tie
 depth-at-requires : tie.Need-depth-at-requires
 depth-at-requires c κs = search needs
 
+cast-if1 : tie.Need-cast-if1
+cast-if1 c = search needs
+
 returns : tie.Need-returns
 returns c =
     let a = c .before .before .before .before .args in
@@ -32,4 +35,4 @@ returns-2 c =
 
 pub is-child-spec : {M : Type 1} → statement M
 is-child-spec =
-    tie.close (tie.spec depth-at-requires returns name-at-requires same-requires returns-2)
+    tie.close (tie.spec depth-at-requires cast-if1 returns name-at-requires same-requires returns-2)
