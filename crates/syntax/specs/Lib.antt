@@ -11,5 +11,6 @@ pub mod FieldLaws
 pub mod Parts
 pub mod PartsLaws
 pub mod PathPartsLaws
+pub mod ParentLaws
 pub mod FieldAtLaws
 pub mod Compute

@@ -2,9 +2,9 @@
 use mathlib.Core.List.{[], _∷_}
 use mathlib.Core.Option.{Option, none, some}
 use mathlib.Core.Bool.{Bool, cond}
-use Prim.Native.Nat.{ℕ, suc, _+_, _-_, _≤_}
+use Prim.Native.Nat.{ℕ, zero, suc, _+_, _-_, _≤_}
 use lib.Dec.{eqb, leb}
-use lib.ListN.{length, take, drop}
+use lib.ListN.{length, take, drop, getD}
 use Rattle.syntax.specs.declared.Span.{Span}
 use Rattle.syntax.specs.declared.Field.{Field}
 use Rattle.syntax.specs.declared.Class.{Class}
@@ -57,3 +57,12 @@ unfoldable pub next-name : Text → ℕ → NextName
 next-name t at =
     let end = at + piece-length 47 (drop at t) in
     cond (leb (length t) at) the-variants.End (the-variants.Name at end (record { at = end + 1 }))
+
+-- where the last `/` among the first so many bytes of a text is, or 0
+unfoldable pub slash-before : Text → ℕ → ℕ
+slash-before t zero = 0
+slash-before t (suc n) = cond (eqb (getD t n 0) 47) n (slash-before t n)
+
+-- where the last `/` of a text is, or 0 where there is none
+unfoldable pub last-slash : Text → ℕ
+last-slash t = slash-before t (length t)

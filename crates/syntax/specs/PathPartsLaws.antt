@@ -91,11 +91,11 @@ path-top (b ∷ []) h e = rw (eq-eqb b 47 e)
 path-top (b ∷ (c ∷ t)) h e = let z : ⊥ = omega arith in absurd z
 
 -- a longer text is one where the pieces behind its `/` are names
-pub path-names : (t : Text) → 1 < length t → getD t 0 0 ≡ 47 → path t ≡ names-from-top ([] ∷ pieces 47 (drop 1 t))
+pub path-pieces : (t : Text) → 1 < length t → getD t 0 0 ≡ 47 → path t ≡ names-from-top ([] ∷ pieces 47 (drop 1 t))
 unfolding path same-text bytes pieces
-path-names [] h e = let z : ⊥ = omega arith in absurd z
-path-names (b ∷ []) h e = let z : ⊥ = omega arith in absurd z
-path-names (b ∷ (c ∷ t)) h e = rw (eq-eqb b 47 e)
+path-pieces [] h e = let z : ⊥ = omega arith in absurd z
+path-pieces (b ∷ []) h e = let z : ⊥ = omega arith in absurd z
+path-pieces (b ∷ (c ∷ t)) h e = rw (eq-eqb b 47 e)
 
 -- whether it is one, by the names left to read
 pub path-is-names : (t : Text) → 1 < length t → getD t 0 0 ≡ 47 → is-some (path t) ≡ names-left 0 (pieces 47 (drop 1 t))
@@ -104,7 +104,7 @@ path-is-names t h e =
     let ns : List Text = pieces 47 (drop 1 t) in
     let many : 0 + length ns ≡ length ns = omega arith in
     let all : _ = check-some (every is-name ns && (leb 1 (length ns) && leb (length ns) most-names)) (extended root ns) in
-    rw (path-names t h e, many, all, le-leb 1 (length ns) (pieces-some 47 (drop 1 t)))
+    rw (path-pieces t h e, many, all, le-leb 1 (length ns) (pieces-some 47 (drop 1 t)))
 
 entry-goes-on : (p : Path) (m n : Name) (ns : List Name) → is-some (entry-at (extended (p ▹ m ▹ n) ns)) ≡ is-some (without-rep (p ▹ m))
 unfolding extended entry-at without-rep
@@ -211,6 +211,10 @@ unfoldable pub names-read : Text → ℕ → ℕ → List Name
 names-read t at zero = []
 names-read t at (suc n) = names-of t (λ k. names-read t k n) (next-name t at)
 
+-- the names of a path text in order
+unfoldable pub path-names : Text → List Name
+path-names t = names-read t 1 (length t)
+
 -- behind the end there are none
 pub names-read-past : (t : Text) (at n : ℕ) → length t ≤ at → names-read t at n ≡ []
 unfolding names-read names-of next-name
@@ -275,7 +279,7 @@ names-read-path (b ∷ []) p n e h =
     rw (names-read-past (b ∷ []) 1 n (omega arith), answered top)
 names-read-path (b ∷ (c ∷ t)) p n e h =
     let slash : b ≡ 47 = path-slash (b ∷ (c ∷ t)) p e (omega arith) in
-    let i : _ = names-of-top (pieces 47 (c ∷ t)) p (sym (path-names (b ∷ (c ∷ t)) (omega arith) slash) ∙ e) in
+    let i : _ = names-of-top (pieces 47 (c ∷ t)) p (sym (path-pieces (b ∷ (c ∷ t)) (omega arith) slash) ∙ e) in
     rw (names-read-pieces (b ∷ (c ∷ t)) 1 n (omega arith) (i .0) (omega (arith, i .1))) (i .2)
 
 -- and seven are enough

@@ -8,6 +8,7 @@ pub use numerals::between;
 pub use numerals::mode;
 pub use paths::is_entry_path;
 pub use paths::is_path;
+pub use paths::last_slash;
 pub use text::field_at;
 pub use text::is_content;
 pub use text::is_name;

@@ -1,8 +1,10 @@
 // Paths: their form, and their names one after another.
 ghost use mathlib.Core.Path.{_≡_};
+ghost use Prim.Native.Nat.{_≤_};
+ghost use lib.ListN.{length};
 ghost use Rattle.syntax.specs.Form.{is-some};
 ghost use Rattle.syntax.specs.Path.{path, entry-path};
-ghost use Rattle.syntax.specs.Parts.{next-name};
+ghost use Rattle.syntax.specs.Parts.{next-name, last-slash};
 use crate::Names;
 use crate::NextName;
 use crate::text::is_name;
@@ -51,6 +53,20 @@ pub fn is_entry_path(s: &[u8]) -> bool
         return false;
     }
     is_path(s)
+}
+
+// Where the last `/` of a text is, or 0 where there is none.
+pub fn last_slash(path: &[u8]) -> usize
+    ensures { λ r. ⌜ (r ≡ last-slash (now (path .entry))) × (r ≤ length (now (path .entry))) ⌝ }
+{
+    let mut i = path.len();
+    while 0 < i {
+        i -= 1;
+        if path[i] == 47 {
+            return i;
+        }
+    }
+    0
 }
 
 impl Names {
