@@ -34,4 +34,7 @@ pub mod RowAt
 pub mod RowAtLaws
 pub mod RowBelow
 pub mod RowBelowLaws
+pub mod RowWalk
+pub mod RowWalkLaws
+pub mod TreeAtLaws
 pub mod Compute

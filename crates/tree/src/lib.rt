@@ -1,8 +1,12 @@
 // The file tree as rows in preorder in a lent buffer of 59,394 bytes; docs/FORMAT.md has the layout.
+mod access;
 mod below;
 mod rows;
 mod scan;
+mod walks;
 
+pub use access::may_at;
+pub use access::readable_at;
 pub use below::child_names;
 pub use below::has_children;
 pub use below::height_below;
@@ -19,6 +23,8 @@ pub use rows::tag_path_at;
 pub use rows::tag_revision_at;
 pub use scan::find_child;
 pub use scan::subtree_end;
+pub use walks::parent_walk;
+pub use walks::walk;
 
 // What a node is.
 pub enum Kind {
@@ -60,4 +66,10 @@ pub enum Order {
 pub enum Child {
     Found(usize),
     Missing(usize),
+}
+
+// Where a walk came to: the row of the place and that of the directory above it, or why it was refused.
+pub enum Walked {
+    At { row: usize, above: usize },
+    Refused(Cause),
 }
