@@ -38,9 +38,7 @@ enter-first a [] = refused 4
 enter-first a (r ∷ rs) = enter (by-modes a) (r .here)
 
 unfoldable pub enter-in : Account → List (Row Node) → Spot → Result Spot
-enter-in a rs s = do
-  enter-first a (drop (s .row) rs)
-  done s
+enter-in a rs s = enter-first a (drop (s .row) rs) >> done s
 
 -- from a place to its child of a name
 unfoldable pub step-in : Account → List (Row Node) → Spot → Name → Result Spot

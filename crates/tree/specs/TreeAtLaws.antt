@@ -2,11 +2,10 @@
 use mathlib.Core.Path.{_≡_, refl, sym, _∙_, ap}
 use mathlib.Core.List.{List, [], _∷_}
 use mathlib.Core.Option.{Option, none, some, Option·map}
-use mathlib.Core.Bool.{Bool, true, false, cond}
+use mathlib.Core.Bool.{true}
 use Prim.Native.Nat.{ℕ, suc, _+_, _≤_, _<_}
 use native.Mathlib.Omega.{arith}
 use lib.ListN.{length, getD, take, drop}
-use lib.Seq.{drop-cons}
 use Rattle.accounts.specs.declared.Account.{Account}
 use Rattle.syntax.specs.Text.{Text}
 use Rattle.syntax.specs.Path.{Name, Path, root, _▹_, parent, last, depth, extended, path}
@@ -20,18 +19,18 @@ use Rattle.tree.specs.Forest.{Place, get, place-at, size}
 use Rattle.tree.specs.Node.{Node}
 use Rattle.tree.specs.Walk.{Judge, by-modes, look, enter, walk, parent-walk}
 use Rattle.tree.specs.StepLaws.{walk-root, walk-step}
-use Rattle.tree.specs.UpdateLaws.{by-option, walked-at}
+use Rattle.tree.specs.UpdateLaws.{walked-at}
 use Rattle.tree.specs.WellFormed.{is-tree, nodes}
 use Rattle.tree.specs.WellFormedLaws.{tree-parts}
 use Rattle.tree.specs.Rows.{Row, rows}
 use Rattle.tree.specs.RowLaws.{length-flatten}
-use Rattle.tree.specs.RowContext.{place-rows, index-of, Around, around}
-use Rattle.tree.specs.RowEdits.{sorted, lesser, tree-sorted}
-use Rattle.tree.specs.RowScan.{span, first-passes, deeper, passes, is-child, child-in, rows-from-place, row-of-place, index-bound, subtree-span, child-span, child-found, child-missing, child-in-rows}
+use Rattle.tree.specs.RowContext.{place-rows, index-of, around}
+use Rattle.tree.specs.RowEdits.{lesser, tree-sorted}
+use Rattle.tree.specs.RowScan.{rows-from-place, row-of-place, index-bound, subtree-span, child-span, child-found, child-missing, child-in-rows}
 use Rattle.tree.specs.Encoding.{encode-tree}
 use Rattle.tree.specs.EncodingLaws.{tree-width-is, length-encode-tree}
 use Rattle.tree.specs.RowAt.{row-count, row-at, all-rows, first-depth, depth-of, end-of-subtree, child-at}
-use Rattle.tree.specs.RowAtLaws.{row-in-rows, depth-of-row, all-rows-of-tree, row-count-of-tree}
+use Rattle.tree.specs.RowAtLaws.{row-in-rows, all-rows-of-tree, row-count-of-tree}
 use Rattle.tree.specs.RowWalk.{Spot, spot, top-spot, spot-of, enter-first, enter-in, step-in, walk-rows, walk-in, parent-walk-in}
 
 -- the bytes of a tree: how many, and how many rows
@@ -104,7 +103,7 @@ walk-refused j t p (n ∷ ns) k e = walk-refused j t (p ▹ n) ns k (rw (walk-st
 -- a child looked up by its index is the child looked up
 look-joined : {A : Type 0} (r : Result (Unit {0})) (c : Option A) (i above : ℕ)
     → (r >> (present (Option·map (λ x. i) c) 3 >>= λ k. done (spot k above))) ≡ ((r >> present c 3) >>= λ x. done (spot i above))
-unfolding _>>_ _>>=_ present Option·map
+unfolding _>>_ _>>=_ present
 look-joined (refused k) c i above = refl
 look-joined (done u) none i above = refl
 look-joined (done u) (some x) i above = refl

@@ -22,14 +22,12 @@ fn enter(tree: &[u8], account: Account, row: usize, above: usize) -> Walked
     ensures { λ r. ⌜ outcome r ≡ enter-in account (all-rows (now (tree .entry))) (spot row above) ⌝ }
 {
     match kind_at(tree, row) {
-        Kind::File => {
-            return Walked::Refused(Cause::NotDirectory);
-        }
+        Kind::File => Walked::Refused(Cause::NotDirectory),
         Kind::Directory => {
             if !may_at(tree, row, account, Right::X) {
                 return Walked::Refused(Cause::Access);
             }
-            return Walked::At { row, above };
+            Walked::At { row, above }
         }
     }
 }

@@ -16,25 +16,25 @@ kind-at-requires c κs = search needs
 enum-told : tie.Need-enum-told
 enum-told c = search needs
 
-returns : tie.Need-returns
-unfolding outcome number
-returns c =
-    let a = c .before .before .before .before .args in
-    let kind = sym (c .before .before .kind-at .ensures) ∙ c .enum-told .given .1 in
-    sym (enter-file (a .account) (now (a .tree)) (a .row) (omega arith) (a .above) kind)
-
 enum-told-2 : tie.Need-enum-told-2
 enum-told-2 c = search needs
 
 may-at-requires : tie.Need-may-at-requires
 may-at-requires c κs = search needs
 
-returns-2 : tie.Need-returns-2
+returns : tie.Need-returns
 unfolding outcome number
-returns-2 c =
+returns c =
     let a = c .before .before .before .before .before .before .args in
     let kind = sym (c .before .before .before .before .kind-at .ensures) ∙ c .before .before .enum-told2 .given .1 in
     sym (enter-shut (a .account) (now (a .tree)) (a .row) (omega arith) (a .above) kind (answers-false (c .before .may-at .ensures) (c .if1 .taken)))
+
+returns-2 : tie.Need-returns-2
+unfolding outcome number
+returns-2 c =
+    let a = c .before .before .before .before .args in
+    let kind = sym (c .before .before .kind-at .ensures) ∙ c .enum-told .given .1 in
+    sym (enter-file (a .account) (now (a .tree)) (a .row) (omega arith) (a .above) kind)
 
 returns-3 : tie.Need-returns-3
 unfolding outcome
@@ -46,4 +46,4 @@ returns-3 c =
 pub enter-spec : {M : Type 1} → statement M
 enter-spec =
     tie.close
-    (tie.spec kind-at-requires enum-told returns enum-told-2 may-at-requires returns-2 returns-3)
+    (tie.spec kind-at-requires enum-told enum-told-2 may-at-requires returns returns-2 returns-3)

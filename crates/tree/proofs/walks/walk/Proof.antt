@@ -16,7 +16,7 @@ use Rattle.tree.specs.Result.{refused, done}
 use Rattle.tree.specs.RowAt.{row-count, all-rows}
 use Rattle.tree.specs.RowAtLaws.{length-all-rows}
 use Rattle.tree.specs.RowWalk.{spot, top-spot, step-in, walk-rows, walk-in, outcome}
-use Rattle.tree.specs.RowWalkLaws.{Within, step-within, walk-none, walk-on, walk-stops, outcome-at, outcome-refused}
+use Rattle.tree.specs.RowWalkLaws.{step-within, walk-none, walk-on, walk-stops, outcome-at, outcome-refused}
 use Rattle.tree.proofs.walks.walk.Statement.{statement}
 use Rattle.tree.proofs.walks.walk.Tie as tie
 
