@@ -1,0 +1,42 @@
+-- `edits::fields::set_content` meets its contract: one text of the row.
+use mathlib.Core.Path.{_∙_}
+use native.Mathlib.Omega.{arith}
+use denote.Ref.{now}
+use Rattle.tree.specs.Fields.{padded}
+use Rattle.tree.specs.FieldsLaws.{length-padded}
+use Rattle.edits.specs.Written.{piece-put}
+use borrow.Author.Needs.{needs}
+use Rattle.edits.proofs.fields.set_content.Statement.{statement}
+use Rattle.edits.proofs.fields.set_content.Tie as tie
+
+mul-write-padded : tie.Need-mul-write-padded
+mul-write-padded c = search needs
+
+add-write-padded : tie.Need-add-write-padded
+add-write-padded c = search needs
+
+add-write-padded-2 : tie.Need-add-write-padded-2
+add-write-padded-2 c = search needs
+
+write-padded-requires : tie.Need-write-padded-requires
+write-padded-requires c κs = search needs
+
+same-length : tie.Need-same-length
+same-length c = search needs
+
+returns : tie.Need-returns
+returns c =
+    let a = c .before .before .before .before .before .before .args in
+    let s = now (a .content) in
+    c .before .before .write-padded .ensures ∙ piece-put (now (a .tree)) (a .i) 72 (padded 80 s) 80 (length-padded 80 s (omega arith))
+
+pub set-content-spec : {M : Type 1} → statement M
+set-content-spec =
+    tie.close
+    (tie.spec
+    mul-write-padded
+    add-write-padded
+    add-write-padded-2
+    write-padded-requires
+    same-length
+    returns)

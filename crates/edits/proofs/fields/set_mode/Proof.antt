@@ -1,0 +1,38 @@
+-- `edits::fields::set_mode` meets its contract: one number of the row.
+use mathlib.Core.Path.{_∙_}
+use denote.Ref.{now}
+use Rattle.edits.specs.Written.{number-put}
+use borrow.Author.Needs.{needs}
+use Rattle.edits.proofs.fields.set_mode.Statement.{statement}
+use Rattle.edits.proofs.fields.set_mode.Tie as tie
+
+mul-write-number : tie.Need-mul-write-number
+mul-write-number c = search needs
+
+add-write-number : tie.Need-add-write-number
+add-write-number c = search needs
+
+add-write-number-2 : tie.Need-add-write-number-2
+add-write-number-2 c = search needs
+
+write-number-requires : tie.Need-write-number-requires
+write-number-requires c κs = search needs
+
+same-length : tie.Need-same-length
+same-length c = search needs
+
+returns : tie.Need-returns
+returns c =
+    let a = c .before .before .before .before .before .args in
+    c .before .before .write-number .ensures ∙ number-put (now (a .tree)) (a .i) 4 (a .mode)
+
+pub set-mode-spec : {M : Type 1} → statement M
+set-mode-spec =
+    tie.close
+    (tie.spec
+    mul-write-number
+    add-write-number
+    add-write-number-2
+    write-number-requires
+    same-length
+    returns)

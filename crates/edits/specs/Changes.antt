@@ -1,0 +1,56 @@
+-- What the changes of a tree's bytes are: rows put in or taken out, and a field of a row written. Each says every byte afterwards.
+use mathlib.Core.List.{List, [], _∷_, _++_}
+use mathlib.Core.Option.{none}
+use Prim.Native.Nat.{ℕ, _+_, _-_, _*_}
+use lib.ListN.{length, take, drop, replicate}
+use lib.Seq.{paste}
+use Rattle.tree.specs.Node.{Node}
+use Rattle.tree.specs.Fields.{two-bytes}
+use Rattle.tree.specs.Encoding.{row-width, kind-byte}
+use Rattle.tree.specs.RowAt.{row-count}
+use Rattle.edits.specs.declared.Fresh.{Fresh}
+
+-- where the row at an index begins, behind the two bytes of the count
+unfoldable pub row-start : ℕ → ℕ
+row-start i = 2 + row-width * i
+
+-- n rows, given by their bytes, put in before the row at index i: those from there on move up, the bytes behind the last stay
+unfoldable pub rows-put : List ℕ → ℕ → ℕ → List ℕ → List ℕ
+rows-put b i n s =
+    two-bytes (row-count b + n)
+    ++ (take (row-width * i) (drop 2 b)
+    ++ (take (row-width * n) s
+    ++ (take (row-width * (row-count b - i)) (drop (row-start i) b)
+    ++ drop (row-start (row-count b + n)) b)))
+
+-- n rows from index i on taken out: those behind move down, and zeros stand where the last n were
+unfoldable pub rows-taken : List ℕ → ℕ → ℕ → List ℕ
+rows-taken b i n =
+    two-bytes (row-count b - n)
+    ++ (take (row-width * i) (drop 2 b)
+    ++ (take (row-width * (row-count b - (i + n))) (drop (row-start (i + n)) b)
+    ++ (replicate (row-width * n) 0
+    ++ drop (row-start (row-count b)) b)))
+
+-- a field of the row at index i, k bytes into it, written
+unfoldable pub field-put : List ℕ → ℕ → ℕ → List ℕ → List ℕ
+field-put b i k s = paste b (row-start i + k) s (length s)
+
+-- a new node has no tag and no content
+unfoldable pub fresh-node : Fresh → Node
+fresh-node f = record {
+  kind = f .kind;
+  owner = f .owner;
+  group = f .group;
+  mode = f .mode;
+  revision = f .revision;
+  tag = none;
+  content = [];
+}
+
+-- the bytes of a new node's row before its name
+unfoldable pub head-bytes : ℕ → Fresh → List ℕ
+head-bytes depth f =
+    (depth ∷ kind-byte (f .kind) ∷ f .owner .0 ∷ f .group .0 ∷ [])
+    ++ (two-bytes (f .mode)
+    ++ two-bytes (f .revision))

@@ -1,0 +1,189 @@
+-- What the code's pastes are in the words of the contracts: a field of a row, the row of a new node, rows put in and taken out.
+use mathlib.Core.Path.{_≡_, refl, ap, sym, _∙_}
+use mathlib.Core.List.{List, [], _∷_, _++_, append-assoc, append-nil}
+use Prim.Native.Nat.{ℕ, zero, suc, _+_, _-_, _*_, _≤_, _<_}
+use native.Mathlib.Omega.{arith}
+use native.Mathlib.Nat.{zero-add, suc-add}
+use lib.ListN.{length, set, take, drop, replicate, length-append, length-drop, length-replicate, drop-of-length-le}
+use lib.Seq.{paste, length-take-le, take-add, take-all, take-take, drop-at}
+use Rattle.tree.specs.Forest.{leaf}
+use Rattle.tree.specs.Node.{Node}
+use Rattle.tree.specs.Rows.{Row, flatten, rows}
+use Rattle.tree.specs.WellFormed.{most-nodes}
+use Rattle.tree.specs.Fields.{two-bytes, padded, all-bytes}
+use Rattle.tree.specs.FieldsLaws.{length-padded, length-two-bytes}
+use Rattle.tree.specs.Encoding.{row-width, kind-byte, tag-bytes, row-bytes, encode-tree}
+use Rattle.tree.specs.RowAt.{row-count}
+use Rattle.edits.specs.declared.Fresh.{Fresh}
+use Rattle.edits.specs.Changes.{row-start, rows-put, rows-taken, field-put, fresh-node, head-bytes}
+use Rattle.edits.specs.Paste.{paste-two, paste-join, set-paste, gap-filled}
+
+-- ---- a field
+
+module _ (b : List ℕ) (i k : ℕ) where
+  -- a piece as long as is said
+  pub piece-put : (s : List ℕ) (n : ℕ) → length s ≡ n → paste b (2 + 232 * i + k) s n ≡ field-put b i k s
+  unfolding field-put row-start row-width
+  piece-put s n e = ap (paste b (2 + 232 * i + k) s) (sym e)
+
+  -- a byte
+  pub byte-put : (v : ℕ) → 2 + 232 * i + k < length b → set b (2 + 232 * i + k) v ≡ field-put b i k (v ∷ [])
+  byte-put v h = set-paste b (2 + 232 * i + k) v h ∙ piece-put (v ∷ []) 1 refl
+
+  -- a number
+  pub number-put : (n : ℕ) → paste b (2 + 232 * i + k) (two-bytes n) 2 ≡ field-put b i k (two-bytes n)
+  number-put n = piece-put (two-bytes n) 2 (length-two-bytes n)
+
+-- a tag: its text and its number
+pub tag-put : (b t : List ℕ) (i n : ℕ) → length b ≡ 59394 → i < 256 → length t ≤ 54
+    → paste (paste b (2 + 232 * i + 16) (padded 54 t) 54) (2 + 232 * i + 70) (two-bytes n) 2 ≡ field-put b i 16 (padded 54 t ++ two-bytes n)
+tag-put b t i n e h l =
+    let T = padded 54 t in
+    let lT = length-padded 54 t l in
+    let lN = length-two-bytes n in
+    let q : 2 + 232 * i + 70 ≡ 2 + 232 * i + 16 + 54 = omega arith in
+    ap (λ (at : ℕ). paste (paste b (2 + 232 * i + 16) T 54) at (two-bytes n) 2) q
+    ∙ paste-join b T (two-bytes n) (2 + 232 * i + 16) 54 2 lT lN (omega arith)
+    ∙ piece-put b i 16 (T ++ two-bytes n) 56 (length-append T (two-bytes n) ∙ omega arith)
+
+-- a content copied from another row
+pub content-copied : (b : List ℕ) (from to : ℕ) → length b ≡ 59394 → from < 256
+    → paste b (2 + 232 * to + 72) (drop (2 + 232 * from + 72) b) 80 ≡ field-put b to 72 (take 80 (drop (row-start from + 72) b))
+unfolding row-start row-width
+content-copied b from to e h =
+    let D = drop (2 + 232 * from + 72) b in
+    let l : 80 ≤ length D = omega (arith, length-drop (2 + 232 * from + 72) b) in
+    ap (λ (s : List ℕ). take (2 + 232 * to + 72) b ++ s ++ drop (2 + 232 * to + 72 + 80) b) (sym (take-take 80 80 D (omega arith)))
+    ∙ piece-put b to 72 (take 80 D) 80 (length-take-le 80 D l)
+
+-- ---- the row of a new node
+
+-- the fields before the name
+pub head-written : (b : List ℕ) (at depth : ℕ) (f : Fresh) → at + 8 ≤ length b
+    → paste (paste (paste b at (depth ∷ kind-byte (f .kind) ∷ f .owner .0 ∷ f .group .0 ∷ []) 4) (at + 4) (two-bytes (f .mode)) 2) (at + 6) (two-bytes (f .revision)) 2
+    ≡ paste b at (head-bytes depth f) 8
+unfolding head-bytes two-bytes
+head-written b at depth f h =
+    let K : List ℕ = depth ∷ kind-byte (f .kind) ∷ f .owner .0 ∷ f .group .0 ∷ [] in
+    let M = two-bytes (f .mode) in
+    ap (λ (l : List ℕ). paste l (at + 6) (two-bytes (f .revision)) 2) (paste-join b K M at 4 2 refl refl (omega arith))
+    ∙ paste-join b (K ++ M) (two-bytes (f .revision)) at 6 2 refl refl (omega arith)
+
+module _ (depth : ℕ) (name : List ℕ) (f : Fresh) where
+  -- the row of a new node
+  unfoldable pub fresh-row : Row Node
+  fresh-row = record { depth = depth; name = name; here = fresh-node f }
+
+  length-head : length (head-bytes depth f) ≡ 8
+  unfolding head-bytes two-bytes
+  length-head = refl
+
+  -- behind the name there are only zeros
+  fresh-parts : row-bytes fresh-row ≡ head-bytes depth f ++ padded 8 name ++ replicate 216 0
+  unfolding fresh-row row-bytes head-bytes two-bytes fresh-node tag-bytes padded
+  fresh-parts = refl
+
+  pub length-fresh : length name ≤ 8 → length (row-bytes fresh-row) ≡ 232
+  length-fresh h =
+      let H = head-bytes depth f in
+      let N = padded 8 name in
+      let Z : List ℕ = replicate 216 0 in
+      let l = length-padded 8 name h in
+      let z = length-replicate {A = ℕ} 216 0 in
+      ap length fresh-parts ∙ length-append (H ++ N) Z ∙ omega (arith, length-append H N, length-head)
+
+  -- what is written piece by piece is the row
+  pub row-written : (b : List ℕ) (at : ℕ) → at + 232 ≤ length b → length name ≤ 8
+      → paste (paste (paste b at (head-bytes depth f) 8) (at + 8) (padded 8 name) 8) (at + 16) (replicate 216 0) 216 ≡ paste b at (row-bytes fresh-row) 232
+  row-written b at fits h =
+      let H = head-bytes depth f in
+      let N = padded 8 name in
+      let Z : List ℕ = replicate 216 0 in
+      let l = length-padded 8 name h in
+      let z = length-replicate {A = ℕ} 216 0 in
+      ap (λ (s : List ℕ). paste s (at + 16) Z 216) (paste-join b H N at 8 8 length-head l (omega arith))
+      ∙ paste-join b (H ++ N) Z at 16 216 (length-append H N ∙ omega (arith, length-head)) z (omega arith)
+      ∙ ap (λ (s : List ℕ). paste b at s 232) (sym fresh-parts)
+
+-- ---- rows put in and taken out
+
+-- the count written
+counted : (b : List ℕ) (n : ℕ) → paste b 0 (two-bytes n) 2 ≡ two-bytes n ++ drop 2 b
+unfolding two-bytes
+counted b n = refl
+
+-- behind the count, the rows up to an index stay
+behind-count : (b R : List ℕ) (k : ℕ) → 2 + k ≤ length b → drop 2 (take (2 + k) b ++ R) ≡ take k (drop 2 b) ++ R
+behind-count b R k h =
+    ap (λ (l : List ℕ). drop 2 (l ++ R)) (take-add 2 k b)
+    ∙ ap (drop 2) (append-assoc (take 2 b) (take k (drop 2 b)) R)
+    ∙ drop-at (take 2 b) (take k (drop 2 b) ++ R) 2 (length-take-le 2 b (omega arith))
+
+pub put-written : (b s : List ℕ) (at n c : ℕ) → length b ≡ 59394 → c ≡ row-count b → at ≤ c → c + n ≤ 256
+    → paste (paste (paste b (2 + 232 * at + 232 * n) (drop (2 + 232 * at) b) (232 * (c - at))) (2 + 232 * at) s (232 * n)) 0 (two-bytes (c + n)) 2
+    ≡ rows-put b at n s
+unfolding rows-put row-start row-width
+put-written b s at n c e q h k =
+    let i = 2 + 232 * at in
+    let g = 232 * n in
+    let m = 232 * (c - at) in
+    let z : i + g + m ≡ 2 + 232 * (c + n) = omega arith in
+    let R = take g s ++ (take m (drop i b) ++ drop (i + g + m) b) in
+    rw (← q)
+    (counted (paste (paste b (i + g) (drop i b) m) i s g) (c + n)
+    ∙ ap (λ (l : List ℕ). two-bytes (c + n) ++ drop 2 l) (gap-filled b s i g m (omega arith))
+    ∙ ap (λ (l : List ℕ). two-bytes (c + n) ++ l) (behind-count b R (232 * at) (omega arith))
+    ∙ ap (λ (j : ℕ). two-bytes (c + n) ++ (take (232 * at) (drop 2 b) ++ (take g s ++ (take m (drop i b) ++ drop j b)))) z)
+
+pub taken-written : (b : List ℕ) (at n c : ℕ) → length b ≡ 59394 → c ≡ row-count b → c ≤ 256 → at + n ≤ c
+    → paste (paste (paste b (2 + 232 * at) (drop (2 + 232 * at + 232 * n) b) (232 * (c - (at + n)))) (2 + 232 * (c - n)) (replicate (232 * n) 0) (232 * n)) 0 (two-bytes (c - n)) 2
+    ≡ rows-taken b at n
+unfolding rows-taken row-start row-width
+taken-written b at n c e q h k =
+    let i = 2 + 232 * at in
+    let g = 232 * n in
+    let m = 232 * (c - (at + n)) in
+    let Z : List ℕ = replicate g 0 in
+    let P = paste b i (drop (i + g) b) m in
+    let j : 2 + 232 * (c - n) ≡ i + m = omega arith in
+    let u : i + g ≡ 2 + 232 * (at + n) = omega arith in
+    let z : i + m + g ≡ 2 + 232 * c = omega arith in
+    let R = take m (drop (i + g) b) ++ (take g Z ++ drop (i + m + g) b) in
+    rw (← q)
+    (counted (paste P (2 + 232 * (c - n)) Z g) (c - n)
+    ∙ ap (λ (x : ℕ). two-bytes (c - n) ++ drop 2 (paste P x Z g)) j
+    ∙ ap (λ (l : List ℕ). two-bytes (c - n) ++ drop 2 l) (paste-two b (drop (i + g) b) Z i m g (omega (arith, length-drop (i + g) b)) (omega arith))
+    ∙ ap (λ (l : List ℕ). two-bytes (c - n) ++ l) (behind-count b R (232 * at) (omega arith))
+    ∙ ap (λ (x : ℕ). two-bytes (c - n) ++ (take (232 * at) (drop 2 b) ++ (take m (drop x b) ++ (take g Z ++ drop (i + m + g) b)))) u
+    ∙ ap (λ (x : ℕ). two-bytes (c - n) ++ (take (232 * at) (drop 2 b) ++ (take m (drop (2 + 232 * (at + n)) b) ++ (take g Z ++ drop x b)))) z
+    ∙ ap (λ (l : List ℕ). two-bytes (c - n) ++ (take (232 * at) (drop 2 b) ++ (take m (drop (2 + 232 * (at + n)) b) ++ (l ++ drop (2 + 232 * c) b))))
+    (take-all g Z (omega (arith, length-replicate {A = ℕ} g 0))))
+
+-- ---- a tree of `/` alone
+
+drop-zeros : (k n : ℕ) → drop {A = ℕ} k (replicate (k + n) 0) ≡ replicate n 0
+drop-zeros zero n = ap (λ (m : ℕ). replicate {A = ℕ} m 0) (zero-add n)
+drop-zeros (suc k) n = ap (λ (m : ℕ). drop {A = ℕ} (suc k) (replicate m 0)) (suc-add k n) ∙ drop-zeros k n
+
+-- zeros everywhere, then the count and one row
+planted : (b r : List ℕ) (w n : ℕ) → length b ≡ 2 + w + n → length r ≡ w
+    → paste (paste (paste b 0 (replicate (2 + w + n) 0) (2 + w + n)) 0 (two-bytes 1) 2) 2 r w ≡ two-bytes 1 ++ (r ++ replicate n 0)
+unfolding two-bytes
+planted b r w n e l =
+    let N = 2 + w + n in
+    let Z : List ℕ = replicate N 0 in
+    let lZ = length-replicate {A = ℕ} N 0 in
+    let none-left : drop (0 + N) b ≡ [] = drop-of-length-le b {i = 0 + N} (omega arith) in
+    let a : paste b 0 Z N ≡ Z = rw (take-all N Z (omega arith), none-left) (append-nil Z) in
+    ap (λ (s : List ℕ). paste (paste s 0 (two-bytes 1) 2) 2 r w) a
+    ∙ paste-two Z (two-bytes 1) r 0 2 w (omega arith) (omega arith)
+    ∙ rw (take-all w r (omega arith), drop-zeros (2 + w) n)
+
+pub planted-tree : (b : List ℕ) (f : Fresh) → length b ≡ 59394
+    → paste (paste (paste b 0 (replicate 59394 0) 59394) 0 (two-bytes 1) 2) 2 (row-bytes (record { depth = 0; name = []; here = fresh-node f })) 232
+    ≡ encode-tree (leaf (fresh-node f))
+unfolding encode-tree all-bytes rows leaf flatten fresh-row row-width most-nodes
+planted-tree b f e =
+    let r = row-bytes (fresh-row 0 [] f) in
+    planted b r 232 59160 e (length-fresh 0 [] f (omega arith))
+    ∙ ap (λ (l : List ℕ). two-bytes 1 ++ (l ++ replicate 59160 0)) (sym (append-nil r))
