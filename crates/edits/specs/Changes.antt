@@ -32,7 +32,11 @@ rows-taken b i n =
     ++ (replicate (row-width * n) 0
     ++ drop (row-start (row-count b)) b)))
 
--- a field of the row at index i, k bytes into it, written
+-- the n bytes of the row at index i that stand k bytes into it
+unfoldable pub field-at : List ℕ → ℕ → ℕ → ℕ → List ℕ
+field-at b i k n = take n (drop (row-start i + k) b)
+
+-- bytes written into that row, k bytes into it
 unfoldable pub field-put : List ℕ → ℕ → ℕ → List ℕ → List ℕ
 field-put b i k s = paste b (row-start i + k) s (length s)
 

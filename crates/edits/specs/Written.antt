@@ -15,7 +15,7 @@ use Rattle.tree.specs.FieldsLaws.{length-padded, length-two-bytes}
 use Rattle.tree.specs.Encoding.{row-width, kind-byte, tag-bytes, row-bytes, encode-tree}
 use Rattle.tree.specs.RowAt.{row-count}
 use Rattle.edits.specs.declared.Fresh.{Fresh}
-use Rattle.edits.specs.Changes.{row-start, rows-put, rows-taken, field-put, fresh-node, head-bytes}
+use Rattle.edits.specs.Changes.{row-start, rows-put, rows-taken, field-at, field-put, fresh-node, head-bytes}
 use Rattle.edits.specs.Paste.{paste-two, paste-join, set-paste, gap-filled}
 
 -- ---- a field
@@ -48,8 +48,8 @@ tag-put b t i n e h l =
 
 -- a content copied from another row
 pub content-copied : (b : List ℕ) (from to : ℕ) → length b ≡ 59394 → from < 256
-    → paste b (2 + 232 * to + 72) (drop (2 + 232 * from + 72) b) 80 ≡ field-put b to 72 (take 80 (drop (row-start from + 72) b))
-unfolding row-start row-width
+    → paste b (2 + 232 * to + 72) (drop (2 + 232 * from + 72) b) 80 ≡ field-put b to 72 (field-at b from 72 80)
+unfolding field-at row-start row-width
 content-copied b from to e h =
     let D = drop (2 + 232 * from + 72) b in
     let l : 80 ≤ length D = omega (arith, length-drop (2 + 232 * from + 72) b) in

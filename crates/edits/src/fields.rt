@@ -1,10 +1,10 @@
 // The fields of a row written.
 ghost use mathlib.Core.Path.{_≡_};
 ghost use mathlib.Core.List.{[], _∷_, _++_};
-ghost use Prim.Native.Nat.{_+_, _≤_, _<_};
-ghost use lib.ListN.{length, take, drop};
+ghost use Prim.Native.Nat.{_≤_, _<_};
+ghost use lib.ListN.{length};
 ghost use Rattle.tree.specs.Fields.{two-bytes, padded};
-ghost use Rattle.edits.specs.Changes.{row-start, field-put};
+ghost use Rattle.edits.specs.Changes.{field-at, field-put};
 use crate::bytes::move_bytes;
 use crate::bytes::write_number;
 use crate::bytes::write_padded;
@@ -69,7 +69,7 @@ pub fn set_content(tree: &mut [u8], i: usize, content: &[u8])
 // The content of one row to another.
 pub fn copy_content(tree: &mut [u8], from: usize, to: usize)
     requires { ⌜ (length (now tree) ≡ 59394) × ((from < 256) × (to < 256)) ⌝ }
-    ensures { λ _. ⌜ now (tree .exit) ≡ field-put (now (tree .entry)) to 72 (take 80 (drop (row-start from + 72) (now (tree .entry)))) ⌝ }
+    ensures { λ _. ⌜ now (tree .exit) ≡ field-put (now (tree .entry)) to 72 (field-at (now (tree .entry)) from 72 80) ⌝ }
 {
     move_bytes(tree, 2 + ROW * from + 72, 2 + ROW * to + 72, 80);
 }

@@ -28,21 +28,21 @@ use Rattle.tree.specs.TableLaws.{length-filled, all-from-bytes}
 use Rattle.tree.specs.RowBytesLaws.{length-row-bytes, row-of-bytes}
 
 -- whether a row's node is in range and its name fits its bytes
-fits : Row Node → Bool
+pub fits : Row Node → Bool
 fits r = is-node (r .here) && (leb (length (r .name)) 8 && lacks 0 (r .name))
 
-fits-parts : (r : Row Node) → fits r ≡ true → (is-node (r .here) ≡ true) × ((length (r .name) ≤ 8) × (lacks 0 (r .name) ≡ true))
+pub fits-parts : (r : Row Node) → fits r ≡ true → (is-node (r .here) ≡ true) × ((length (r .name) ≤ 8) × (lacks 0 (r .name) ≡ true))
 unfolding fits
 fits-parts r h =
     let i = and-both (is-node (r .here)) (leb (length (r .name)) 8 && lacks 0 (r .name)) h in
     let j = and-both (leb (length (r .name)) 8) (lacks 0 (r .name)) (i .1) in
     (i .0, (leb-true (length (r .name)) 8 (j .0), j .1))
 
-fits-of : (k : ℕ) (n : Name) (x : Node) → is-node x ≡ true → (length n ≤ 8) × (lacks 0 n ≡ true) → fits (record { depth = k; name = n; here = x }) ≡ true
+pub fits-of : (k : ℕ) (n : Name) (x : Node) → is-node x ≡ true → (length n ≤ 8) × (lacks 0 n ≡ true) → fits (record { depth = k; name = n; here = x }) ≡ true
 unfolding fits
 fits-of k n x h w = rw (h, le-leb (length n) 8 (w .0), w .1)
 
-forest-fits : (k : ℕ) (F : Forest Node) → is-forest F ≡ true → every fits (flatten k F) ≡ true
+pub forest-fits : (k : ℕ) (F : Forest Node) → is-forest F ≡ true → every fits (flatten k F) ≡ true
 unfolding is-forest flatten every
 forest-fits k nil h = refl
 forest-fits k (node n x cs rest) h =
@@ -60,7 +60,7 @@ forest-fits k (node n x cs rest) h =
     )
 
 -- what a well-formed tree's rows are
-tree-fits : (t : Place Node) → is-tree t ≡ true → (every fits (rows t) ≡ true) × (length (rows t) ≤ most-nodes)
+pub tree-fits : (t : Place Node) → is-tree t ≡ true → (every fits (rows t) ≡ true) × (length (rows t) ≤ most-nodes)
 unfolding is-tree rows every lacks
 tree-fits t h =
     let own = is-directory (t .here .kind) && (is-node (t .here) && is-forest (t .below)) in
@@ -71,7 +71,7 @@ tree-fits t h =
     (rw (fits-of 0 [] (t .here) (a .0) (omega arith, refl)) (forest-fits 1 (t .below) (a .1)), rw (length-rows t) (leb-true (nodes t) most-nodes (l .1)))
 
 -- a row that fits takes its width
-length-fitting : (r : Row Node) → fits r ≡ true → length (row-bytes r) ≡ row-width
+pub length-fitting : (r : Row Node) → fits r ≡ true → length (row-bytes r) ≡ row-width
 length-fitting r h = let w = fits-parts r h in length-row-bytes r (w .0) (w .1)
 
 -- and is read back from its bytes

@@ -82,7 +82,7 @@ kind-of-byte File = refl
 kind-of-byte Directory = refl
 
 -- a node's tag and content are in range
-node-parts : (n : Node) → is-node n ≡ true → (is-tag (n .tag) ≡ true) × (is-content (n .content) ≡ true)
+pub node-parts : (n : Node) → is-node n ≡ true → (is-tag (n .tag) ≡ true) × (is-content (n .content) ≡ true)
 unfolding is-node
 node-parts n h =
     let numbers = (ltb (n .owner .0) 24 && ltb (n .group .0) 25) && (is-mode (n .mode) && leb (n .revision) last-revision) in

@@ -1,0 +1,1 @@
+-- Which change of the tree each change of its bytes is.

@@ -1,0 +1,229 @@
+-- The changes on the encoding of any rows: rows put in come between those around them, rows taken out go from between, and bytes
+-- written into a row change that row alone.
+use mathlib.Core.Path.{_≡_, refl, sym, _∙_, ap}
+use mathlib.Core.List.{List, [], _∷_, _++_, append-assoc}
+use Prim.Native.Nat.{ℕ, zero, suc, _+_, _-_, _*_, _≤_}
+use native.Mathlib.Omega.{arith}
+use native.Mathlib.Nat.{zero-add, suc-add}
+use lib.ListN.{length, take, drop, replicate, length-append, length-replicate}
+use lib.Seq.{take-at, drop-at, take-length}
+use Rattle.tree.specs.Forest.{Place}
+use Rattle.tree.specs.Node.{Node}
+use Rattle.tree.specs.Rows.{Row, rows}
+use Rattle.tree.specs.WellFormed.{most-nodes}
+use Rattle.tree.specs.Fields.{two-bytes, number-at, all-bytes}
+use Rattle.tree.specs.FieldsLaws.{length-two-bytes, number-at-bytes}
+use Rattle.tree.specs.Encoding.{row-width, row-bytes, encode-tree}
+use Rattle.tree.specs.RowAt.{row-count}
+use Rattle.edits.specs.Changes.{row-start, rows-put, rows-taken, field-at, field-put}
+
+-- ---- bytes in pieces
+
+module _ (C : List ℕ) (lC : length C ≡ 2) where
+  -- the rows before an index
+  before-row : (X R : List ℕ) (i : ℕ) → length X ≡ 232 * i → take (232 * i) (drop 2 (C ++ (X ++ R))) ≡ X
+  before-row X R i l = ap (take (232 * i)) (drop-at C (X ++ R) 2 lC) ∙ take-at X R (232 * i) l
+
+  -- and what stands from there on
+  from-row : (X R : List ℕ) (i : ℕ) → length X ≡ 232 * i → drop (2 + 232 * i) (C ++ (X ++ R)) ≡ R
+  from-row X R i l =
+      ap (drop (2 + 232 * i)) (sym (append-assoc C X R)) ∙ drop-at (C ++ X) R (2 + 232 * i) (length-append C X ∙ omega arith)
+
+  module _ (X Y : List ℕ) (i n c : ℕ) (lX : length X ≡ 232 * i) where
+    -- rows S put in before Y, and so many bytes Z fewer behind
+    put-pieces : (Z R S Q : List ℕ) → length Y ≡ 232 * (c - i) → length Z ≡ 232 * n → length S ≡ 232 * n → i ≤ c
+        → row-count (C ++ (X ++ (Y ++ (Z ++ R)))) ≡ c
+        → rows-put (C ++ (X ++ (Y ++ (Z ++ R)))) i n (S ++ Q) ≡ two-bytes (c + n) ++ (X ++ (S ++ (Y ++ R)))
+    unfolding rows-put row-start row-width
+    put-pieces Z R S Q lY lZ lS h q =
+        let b = C ++ (X ++ (Y ++ (Z ++ R))) in
+        let T = X ++ (Y ++ Z) in
+        let first = before-row X (Y ++ (Z ++ R)) i lX in
+        let new = take-at S Q (232 * n) lS in
+        let moved : take (232 * (c - i)) (drop (2 + 232 * i) b) ≡ Y =
+        ap (take (232 * (c - i))) (from-row X (Y ++ (Z ++ R)) i lX) ∙ take-at Y (Z ++ R) (232 * (c - i)) lY in
+        let g : X ++ (Y ++ (Z ++ R)) ≡ T ++ R = simp append-assoc in
+        let lT : length T ≡ 232 * (c + n) = length-append X (Y ++ Z) ∙ omega (arith, length-append Y Z) in
+        let rest : drop (2 + 232 * (c + n)) b ≡ R = ap (λ (l : List ℕ). drop (2 + 232 * (c + n)) (C ++ l)) g ∙ from-row T R (c + n) lT in
+        rw (q, first, new, moved, rest)
+
+    -- rows M taken out before Y, and so many zeros more behind
+    taken-pieces : (M R : List ℕ) → length M ≡ 232 * n → length Y ≡ 232 * (c - (i + n)) → i + n ≤ c
+        → row-count (C ++ (X ++ (M ++ (Y ++ R)))) ≡ c
+        → rows-taken (C ++ (X ++ (M ++ (Y ++ R)))) i n ≡ two-bytes (c - n) ++ (X ++ (Y ++ (replicate (232 * n) 0 ++ R)))
+    unfolding rows-taken row-start row-width
+    taken-pieces M R lM lY h q =
+        let b = C ++ (X ++ (M ++ (Y ++ R))) in
+        let w = 232 * (c - (i + n)) in
+        let T = X ++ (M ++ Y) in
+        let first = before-row X (M ++ (Y ++ R)) i lX in
+        let a : X ++ (M ++ (Y ++ R)) ≡ (X ++ M) ++ (Y ++ R) = simp append-assoc in
+        let moved : take w (drop (2 + 232 * (i + n)) b) ≡ Y =
+        ap (λ (l : List ℕ). take w (drop (2 + 232 * (i + n)) (C ++ l))) a
+        ∙ ap (take w) (from-row (X ++ M) (Y ++ R) (i + n) (length-append X M ∙ omega arith))
+        ∙ take-at Y R w lY in
+        let g : X ++ (M ++ (Y ++ R)) ≡ T ++ R = simp append-assoc in
+        let lT : length T ≡ 232 * c = length-append X (M ++ Y) ∙ omega (arith, length-append M Y) in
+        let rest : drop (2 + 232 * c) b ≡ R = ap (λ (l : List ℕ). drop (2 + 232 * c) (C ++ l)) g ∙ from-row T R c lT in
+        rw (q, first, moved, rest)
+
+module _ (A B old : List ℕ) (i k : ℕ) (l : length A ≡ 2 + 232 * i + k) where
+  -- a field is read where it stands
+  field-read : field-at (A ++ (old ++ B)) i k (length old) ≡ old
+  unfolding field-at row-start row-width
+  field-read = ap (take (length old)) (drop-at A (old ++ B) (2 + 232 * i + k) l) ∙ take-at old B (length old) refl
+
+  -- and written there
+  field-pieces : (new : List ℕ) → length old ≡ length new → field-put (A ++ (old ++ B)) i k new ≡ A ++ (new ++ B)
+  unfolding field-put row-start row-width
+  field-pieces new e =
+      let at = 2 + 232 * i + k in
+      let first = take-at A (old ++ B) at l in
+      let all = take-length new in
+      let rest : drop (at + length new) (A ++ (old ++ B)) ≡ B =
+      ap (drop (at + length new)) (sym (append-assoc A old B)) ∙ drop-at (A ++ old) B (at + length new) (length-append A old ∙ omega arith) in
+      rw (first, all, rest) (append-assoc A new B)
+
+-- ---- the encoding of rows
+
+-- as `encode-tree` encodes those of a tree
+unfoldable pub encode-rows : List (Row Node) → List ℕ
+encode-rows rs = two-bytes (length rs) ++ (all-bytes row-bytes rs ++ replicate ((most-nodes - length rs) * row-width) 0)
+
+pub encode-tree-rows : (t : Place Node) → encode-tree t ≡ encode-rows (rows t)
+unfolding encode-tree encode-rows
+encode-tree-rows t = refl
+
+-- rows that take their widths
+abbrev pub Wide : List (Row Node) → Type 0
+Wide rs = length (all-bytes row-bytes rs) ≡ length rs * row-width
+
+all-append : (xs ys : List (Row Node)) → all-bytes row-bytes (xs ++ ys) ≡ all-bytes row-bytes xs ++ all-bytes row-bytes ys
+unfolding all-bytes
+all-append [] ys = refl
+all-append (x ∷ xs) ys =
+    ap (λ (l : List ℕ). row-bytes x ++ l) (all-append xs ys) ∙ sym (append-assoc (row-bytes x) (all-bytes row-bytes xs) (all-bytes row-bytes ys))
+
+zeros-join : (m n : ℕ) → replicate {A = ℕ} (m + n) 0 ≡ replicate m 0 ++ replicate n 0
+zeros-join zero n = ap (λ (k : ℕ). replicate {A = ℕ} k 0) (zero-add n)
+zeros-join (suc m) n = ap (λ (k : ℕ). replicate {A = ℕ} k 0) (suc-add m n) ∙ ap (λ (l : List ℕ). 0 ∷ l) (zeros-join m n)
+
+-- the zeros of n rows fewer are those and the zeros of n rows
+zeros-split : (c n : ℕ) → c + n ≤ 256 → replicate {A = ℕ} ((256 - c) * 232) 0 ≡ replicate (232 * n) 0 ++ replicate ((256 - (c + n)) * 232) 0
+zeros-split c n h =
+    let e : (256 - c) * 232 ≡ 232 * n + (256 - (c + n)) * 232 = omega arith in
+    ap (λ (k : ℕ). replicate {A = ℕ} k 0) e ∙ zeros-join (232 * n) ((256 - (c + n)) * 232)
+
+-- so many rows with such bytes
+encoded : (rs : List (Row Node)) (n : ℕ) (B : List ℕ) → length rs ≡ n → all-bytes row-bytes rs ≡ B
+    → encode-rows rs ≡ two-bytes n ++ (B ++ replicate ((256 - n) * 232) 0)
+unfolding encode-rows most-nodes row-width
+encoded rs n B l e = rw (l, e)
+
+count-of : (n : ℕ) (R : List ℕ) → row-count (two-bytes n ++ R) ≡ n
+unfolding row-count
+count-of n R = number-at-bytes [] R 0 n refl
+
+-- rows put in
+pub table-put : (xs ns ys : List (Row Node)) (Q : List ℕ) → Wide xs → Wide ns → Wide ys → length xs + length ys + length ns ≤ 256
+    → rows-put (encode-rows (xs ++ ys)) (length xs) (length ns) (all-bytes row-bytes ns ++ Q) ≡ encode-rows (xs ++ (ns ++ ys))
+unfolding row-width
+table-put xs ns ys Q wx wn wy few =
+    let i = length xs in
+    let n = length ns in
+    let c = length xs + length ys in
+    let X = all-bytes row-bytes xs in
+    let S = all-bytes row-bytes ns in
+    let Y = all-bytes row-bytes ys in
+    let Z : List ℕ = replicate (232 * n) 0 in
+    let R : List ℕ = replicate ((256 - (c + n)) * 232) 0 in
+    let C = two-bytes c in
+    let was : encode-rows (xs ++ ys) ≡ C ++ (X ++ (Y ++ (Z ++ R))) =
+    encoded (xs ++ ys) c (X ++ Y) (length-append xs ys) (all-append xs ys)
+    ∙ ap (λ (l : List ℕ). C ++ ((X ++ Y) ++ l)) (zeros-split c n few)
+    ∙ ap (λ (l : List ℕ). C ++ l) (append-assoc X Y (Z ++ R)) in
+    let lys : length (ns ++ ys) ≡ n + length ys = length-append ns ys in
+    let l : length (xs ++ (ns ++ ys)) ≡ c + n = length-append xs (ns ++ ys) ∙ omega arith in
+    let a : all-bytes row-bytes (xs ++ (ns ++ ys)) ≡ X ++ (S ++ Y) = all-append xs (ns ++ ys) ∙ ap (λ (l : List ℕ). X ++ l) (all-append ns ys) in
+    let g : (X ++ (S ++ Y)) ++ R ≡ X ++ (S ++ (Y ++ R)) = simp append-assoc in
+    let is : encode-rows (xs ++ (ns ++ ys)) ≡ two-bytes (c + n) ++ (X ++ (S ++ (Y ++ R))) =
+    encoded (xs ++ (ns ++ ys)) (c + n) (X ++ (S ++ Y)) l a ∙ ap (λ (l : List ℕ). two-bytes (c + n) ++ l) g in
+    ap (λ (b : List ℕ). rows-put b i n (S ++ Q)) was
+    ∙ put-pieces C (length-two-bytes c) X Y i n c (omega arith) Z R S Q (omega arith) (length-replicate {A = ℕ} (232 * n) 0) (omega arith) (omega arith) (count-of c (X ++ (Y ++ (Z ++ R))))
+    ∙ sym is
+
+-- rows taken out
+pub table-taken : (xs ms ys : List (Row Node)) → Wide xs → Wide ms → Wide ys → length xs + length ms + length ys ≤ 256
+    → rows-taken (encode-rows (xs ++ (ms ++ ys))) (length xs) (length ms) ≡ encode-rows (xs ++ ys)
+unfolding row-width
+table-taken xs ms ys wx wm wy few =
+    let i = length xs in
+    let n = length ms in
+    let c = i + n + length ys in
+    let X = all-bytes row-bytes xs in
+    let M = all-bytes row-bytes ms in
+    let Y = all-bytes row-bytes ys in
+    let Z : List ℕ = replicate (232 * n) 0 in
+    let R : List ℕ = replicate ((256 - c) * 232) 0 in
+    let C = two-bytes c in
+    let lys : length (ms ++ ys) ≡ n + length ys = length-append ms ys in
+    let l : length (xs ++ (ms ++ ys)) ≡ c = length-append xs (ms ++ ys) ∙ omega arith in
+    let a : all-bytes row-bytes (xs ++ (ms ++ ys)) ≡ X ++ (M ++ Y) = all-append xs (ms ++ ys) ∙ ap (λ (l : List ℕ). X ++ l) (all-append ms ys) in
+    let g : (X ++ (M ++ Y)) ++ R ≡ X ++ (M ++ (Y ++ R)) = simp append-assoc in
+    let was : encode-rows (xs ++ (ms ++ ys)) ≡ C ++ (X ++ (M ++ (Y ++ R))) =
+    encoded (xs ++ (ms ++ ys)) c (X ++ (M ++ Y)) l a ∙ ap (λ (l : List ℕ). C ++ l) g in
+    let k : length (xs ++ ys) ≡ c - n = length-append xs ys ∙ omega arith in
+    let e : c - n + n ≡ c = omega arith in
+    let z : replicate {A = ℕ} ((256 - (c - n)) * 232) 0 ≡ Z ++ R =
+    zeros-split (c - n) n (omega arith) ∙ ap (λ (j : ℕ). Z ++ replicate {A = ℕ} ((256 - j) * 232) 0) e in
+    let is : encode-rows (xs ++ ys) ≡ two-bytes (c - n) ++ (X ++ (Y ++ (Z ++ R))) =
+    encoded (xs ++ ys) (c - n) (X ++ Y) k (all-append xs ys)
+    ∙ ap (λ (l : List ℕ). two-bytes (c - n) ++ ((X ++ Y) ++ l)) z
+    ∙ ap (λ (l : List ℕ). two-bytes (c - n) ++ l) (append-assoc X Y (Z ++ R)) in
+    ap (λ (b : List ℕ). rows-taken b i n) was
+    ∙ taken-pieces C (length-two-bytes c) X Y i n c (omega arith) M R (omega arith) (omega arith) (omega arith) (count-of c (X ++ (M ++ (Y ++ R))))
+    ∙ sym is
+
+-- a field of a row: P stands before it in the row and Q behind it
+module _ (xs ys : List (Row Node)) (P Q : List ℕ) (w : Wide xs) where
+  -- all that stands before the field, and all behind it
+  front : List ℕ
+  front = two-bytes (length xs + suc (length ys)) ++ (all-bytes row-bytes xs ++ P)
+
+  back : List ℕ
+  back = Q ++ (all-bytes row-bytes ys ++ replicate ((256 - (length xs + suc (length ys))) * 232) 0)
+
+  field-between : (r : Row Node) (s : List ℕ) → row-bytes r ≡ P ++ (s ++ Q) → encode-rows (xs ++ r ∷ ys) ≡ front ++ (s ++ back)
+  unfolding front back all-bytes
+  field-between r s e =
+      let n = length xs + suc (length ys) in
+      let X = all-bytes row-bytes xs in
+      let Y = all-bytes row-bytes ys in
+      let Z : List ℕ = replicate ((256 - n) * 232) 0 in
+      let g : (X ++ ((P ++ (s ++ Q)) ++ Y)) ++ Z ≡ (X ++ P) ++ (s ++ (Q ++ (Y ++ Z))) = simp append-assoc in
+      encoded (xs ++ r ∷ ys) n (X ++ ((P ++ (s ++ Q)) ++ Y)) (length-append xs (r ∷ ys))
+      (all-append xs (r ∷ ys) ∙ ap (λ (l : List ℕ). X ++ (l ++ Y)) e)
+      ∙ ap (λ (l : List ℕ). two-bytes n ++ l) g
+      ∙ sym (append-assoc (two-bytes n) (X ++ P) (s ++ (Q ++ (Y ++ Z))))
+
+  length-front : (k : ℕ) → length P ≡ k → length front ≡ 2 + 232 * length xs + k
+  unfolding front row-width
+  length-front k l =
+      let n = length xs + suc (length ys) in
+      let X = all-bytes row-bytes xs in
+      length-append (two-bytes n) (X ++ P) ∙ omega (arith, length-append X P, length-two-bytes n)
+
+  module _ (k : ℕ) (l : length P ≡ k) (r : Row Node) (old : List ℕ) (e : row-bytes r ≡ P ++ (old ++ Q)) where
+    -- read from the encoding
+    pub table-field-at : field-at (encode-rows (xs ++ r ∷ ys)) (length xs) k (length old) ≡ old
+    table-field-at =
+        ap (λ (b : List ℕ). field-at b (length xs) k (length old)) (field-between r old e)
+        ∙ field-read front back old (length xs) k (length-front k l)
+
+    -- and written into it: the encoding of the rows with that field changed
+    pub table-field-put : (u : Row Node) (new : List ℕ) → length old ≡ length new → row-bytes u ≡ P ++ (new ++ Q)
+        → field-put (encode-rows (xs ++ r ∷ ys)) (length xs) k new ≡ encode-rows (xs ++ u ∷ ys)
+    table-field-put u new q f =
+        ap (λ (b : List ℕ). field-put b (length xs) k new) (field-between r old e)
+        ∙ field-pieces front back old (length xs) k (length-front k l) new q
+        ∙ sym (field-between u new f)
