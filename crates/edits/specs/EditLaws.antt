@@ -5,8 +5,8 @@
 use mathlib.Core.Path.{_≡_, refl, sym, _∙_, ap}
 use mathlib.Core.List.{List, [], _∷_, _++_, append-assoc, append-nil}
 use mathlib.Core.Option.{Option, none, some}
-use mathlib.Core.Bool.{Bool, true, _&&_, _||_}
-use Prim.Native.Nat.{ℕ, suc, _+_, _*_, _≤_, _<_}
+use mathlib.Core.Bool.{true}
+use Prim.Native.Nat.{ℕ, suc, _+_, _≤_, _<_}
 use native.Mathlib.Omega.{arith}
 use lib.ListN.{length, replicate, length-append}
 use Rattle.accounts.specs.declared.Uid.{Uid}
@@ -17,13 +17,13 @@ use Rattle.syntax.specs.TextLaws.{every-append}
 use Rattle.syntax.specs.Path.{Name, Path, _▹_, last, depth, is-name, Entry-path, is-entry-path, entry-text}
 use Rattle.syntax.specs.PathLaws.{name-fits, entry-text-fits}
 use Rattle.syntax.specs.FieldLaws.{content-fits}
-use Rattle.tree.specs.Forest.{Forest, nil, Place, get, update, place-at, alter, put, drop, leaf, size}
+use Rattle.tree.specs.Forest.{Place, get, update, place-at, alter, put, drop, leaf, size}
 use Rattle.tree.specs.Node.{Tag, Node, set-owner, set-group, set-mode, set-revision, set-tag, set-content}
 use Rattle.tree.specs.Rows.{Row, flatten, rows}
 use Rattle.tree.specs.RowLaws.{length-rows}
-use Rattle.tree.specs.RowContext.{place-rows, index-of, Around, length-place-rows, around}
-use Rattle.tree.specs.RowEdits.{sorted, lesser, tree-sorted, alter-rows, before, after, length-before, spot-index, put-rows, drop-rows}
-use Rattle.tree.specs.WellFormed.{most-nodes, nodes, is-node, is-tag, is-forest, is-place, is-tree}
+use Rattle.tree.specs.RowContext.{place-rows, index-of, length-place-rows, around}
+use Rattle.tree.specs.RowEdits.{lesser, tree-sorted, alter-rows, before, after, length-before, spot-index, put-rows, drop-rows}
+use Rattle.tree.specs.WellFormed.{most-nodes, nodes, is-tag, is-place, is-tree}
 use Rattle.tree.specs.WellFormedLaws.{place-parts}
 use Rattle.tree.specs.Fields.{two-bytes, padded, all-bytes}
 use Rattle.tree.specs.FieldsLaws.{length-padded, length-two-bytes}

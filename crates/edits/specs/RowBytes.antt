@@ -11,7 +11,7 @@ use Rattle.tree.specs.Forest.{Place}
 use Rattle.tree.specs.Node.{Node}
 use Rattle.tree.specs.Rows.{Row, rows}
 use Rattle.tree.specs.WellFormed.{most-nodes}
-use Rattle.tree.specs.Fields.{two-bytes, number-at, all-bytes}
+use Rattle.tree.specs.Fields.{two-bytes, all-bytes}
 use Rattle.tree.specs.FieldsLaws.{length-two-bytes, number-at-bytes}
 use Rattle.tree.specs.Encoding.{row-width, row-bytes, encode-tree}
 use Rattle.tree.specs.RowAt.{row-count}
