@@ -28,13 +28,13 @@ use Rattle.tree.specs.WellFormedLaws.{place-parts}
 use Rattle.tree.specs.Fields.{two-bytes, padded, all-bytes}
 use Rattle.tree.specs.FieldsLaws.{length-padded, length-two-bytes}
 use Rattle.tree.specs.TableLaws.{length-all-bytes}
-use Rattle.tree.specs.Encoding.{row-width, kind-byte, tag-bytes, row-bytes, encode-tree}
+use Rattle.tree.specs.Encoding.{row-width, kind-byte, tag-bytes, row-bytes, encode-rows, encode-tree}
 use Rattle.tree.specs.RowBytesLaws.{length-tag-bytes, node-parts}
 use Rattle.tree.specs.EncodingLaws.{fits, fits-parts, fits-of, forest-fits, tree-fits, length-fitting}
 use Rattle.edits.specs.declared.Fresh.{Fresh}
 use Rattle.edits.specs.Changes.{rows-put, rows-taken, field-at, field-put, fresh-node}
 use Rattle.edits.specs.Written.{fresh-row, length-fresh}
-use Rattle.edits.specs.RowBytes.{Wide, encode-rows, encode-tree-rows, table-put, table-taken, table-field-at, table-field-put}
+use Rattle.edits.specs.RowBytes.{Wide, encode-tree-rows, table-put, table-taken, table-field-at, table-field-put}
 
 -- ---- rows that take their widths
 

@@ -13,7 +13,7 @@ use Rattle.tree.specs.Rows.{Row, rows}
 use Rattle.tree.specs.WellFormed.{most-nodes}
 use Rattle.tree.specs.Fields.{two-bytes, all-bytes}
 use Rattle.tree.specs.FieldsLaws.{length-two-bytes, number-at-bytes}
-use Rattle.tree.specs.Encoding.{row-width, row-bytes, encode-tree}
+use Rattle.tree.specs.Encoding.{row-width, row-bytes, encode-rows, encode-tree}
 use Rattle.tree.specs.RowAt.{row-count}
 use Rattle.edits.specs.Changes.{row-start, rows-put, rows-taken, field-at, field-put}
 
@@ -86,12 +86,9 @@ module _ (A B old : List ℕ) (i k : ℕ) (l : length A ≡ 2 + 232 * i + k) whe
 
 -- ---- the encoding of rows
 
--- as `encode-tree` encodes those of a tree
-unfoldable pub encode-rows : List (Row Node) → List ℕ
-encode-rows rs = two-bytes (length rs) ++ (all-bytes row-bytes rs ++ replicate ((most-nodes - length rs) * row-width) 0)
-
+-- a tree's encoding is that of its rows
 pub encode-tree-rows : (t : Place Node) → encode-tree t ≡ encode-rows (rows t)
-unfolding encode-tree encode-rows
+unfolding encode-tree
 encode-tree-rows t = refl
 
 -- rows that take their widths

@@ -12,7 +12,7 @@ use Rattle.tree.specs.Rows.{Row, flatten, rows}
 use Rattle.tree.specs.WellFormed.{most-nodes}
 use Rattle.tree.specs.Fields.{two-bytes, padded, all-bytes}
 use Rattle.tree.specs.FieldsLaws.{length-padded, length-two-bytes}
-use Rattle.tree.specs.Encoding.{row-width, kind-byte, tag-bytes, row-bytes, encode-tree}
+use Rattle.tree.specs.Encoding.{row-width, kind-byte, tag-bytes, row-bytes, encode-rows, encode-tree}
 use Rattle.tree.specs.RowAt.{row-count}
 use Rattle.edits.specs.declared.Fresh.{Fresh}
 use Rattle.edits.specs.Changes.{row-start, rows-put, rows-taken, field-at, field-put, fresh-node, head-bytes}
@@ -182,7 +182,7 @@ planted b r w n e l =
 pub planted-tree : (b : List ℕ) (f : Fresh) → length b ≡ 59394
     → paste (paste (paste b 0 (replicate 59394 0) 59394) 0 (two-bytes 1) 2) 2 (row-bytes (record { depth = 0; name = []; here = fresh-node f })) 232
     ≡ encode-tree (leaf (fresh-node f))
-unfolding encode-tree all-bytes rows leaf flatten fresh-row row-width most-nodes
+unfolding encode-tree encode-rows all-bytes rows leaf flatten fresh-row row-width most-nodes
 planted-tree b f e =
     let r = row-bytes (fresh-row 0 [] f) in
     planted b r 232 59160 e (length-fresh 0 [] f (omega arith))

@@ -69,10 +69,11 @@ row-of b = record {
   };
 }
 
+unfoldable pub encode-rows : List (Row Node) → List ℕ
+encode-rows rs = two-bytes (length rs) ++ (all-bytes row-bytes rs ++ replicate ((most-nodes - length rs) * row-width) 0)
+
 unfoldable pub encode-tree : Place Node → List ℕ
-encode-tree t =
-    let rs = rows t in
-    two-bytes (length rs) ++ (all-bytes row-bytes rs ++ replicate ((most-nodes - length rs) * row-width) 0)
+encode-tree t = encode-rows (rows t)
 
 unfoldable pub decode-tree : List ℕ → Option (Place Node)
 decode-tree b = do

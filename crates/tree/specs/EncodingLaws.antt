@@ -22,7 +22,7 @@ use Rattle.tree.specs.Rows.{Row, flatten, rows, tree-of}
 use Rattle.tree.specs.RowLaws.{tree-of-rows, length-rows}
 use Rattle.tree.specs.WellFormed.{most-nodes, nodes, is-node, leads, is-forest, is-tree}
 use Rattle.tree.specs.Fields.{two-bytes, number-at, all-bytes, all-from}
-use Rattle.tree.specs.Encoding.{row-width, tree-width, row-bytes, row-of, encode-tree, decode-tree}
+use Rattle.tree.specs.Encoding.{row-width, tree-width, row-bytes, row-of, encode-rows, encode-tree, decode-tree}
 use Rattle.tree.specs.FieldsLaws.{number-at-bytes}
 use Rattle.tree.specs.TableLaws.{length-filled, all-from-bytes}
 use Rattle.tree.specs.RowBytesLaws.{length-row-bytes, row-of-bytes}
@@ -87,14 +87,14 @@ tree-width-is = refl
 
 -- the encoding of a well-formed tree has the width of all trees
 pub length-encode-tree : (t : Place Node) → is-tree t ≡ true → length (encode-tree t) ≡ tree-width
-unfolding encode-tree two-bytes tree-width row-width most-nodes
+unfolding encode-tree encode-rows two-bytes tree-width row-width most-nodes
 length-encode-tree t h =
     let w = tree-fits t h in
     ap (λ (n : ℕ). suc (suc n)) (length-filled row-width fits row-bytes length-fitting most-nodes (rows t) (w .0) (w .1))
 
 -- the rows of a well-formed tree are read from its encoding
 pub rows-of-encoded : (t : Place Node) → is-tree t ≡ true → all-from row-width row-of (number-at 0 (encode-tree t)) (drop 2 (encode-tree t)) ≡ rows t
-unfolding encode-tree two-bytes
+unfolding encode-tree encode-rows two-bytes
 rows-of-encoded t h =
     let rs = rows t in
     let Z : List ℕ = replicate ((most-nodes - length rs) * row-width) 0 in
