@@ -1,7 +1,7 @@
 -- Which change of a well-formed tree each change of its bytes is.
 --
--- In order: a place put in (put-law, child-law) and taken out (take-law); one attribute of the node at a path changed (owner-law
--- to copy-content-law).
+-- In order: a place put in (spot-bound, put-law, child-law) and taken out (take-law); one attribute of the node at a path changed
+-- (owner-law to copy-content-law).
 use mathlib.Core.Path.{_≡_, refl, sym, _∙_, ap}
 use mathlib.Core.List.{List, [], _∷_, _++_, append-assoc, append-nil}
 use mathlib.Core.Option.{Option, none, some}
@@ -34,7 +34,7 @@ use Rattle.tree.specs.EncodingLaws.{fits, fits-parts, fits-of, forest-fits, tre
 use Rattle.edits.specs.declared.Fresh.{Fresh}
 use Rattle.edits.specs.Changes.{rows-put, rows-taken, field-at, field-put, fresh-node}
 use Rattle.edits.specs.Written.{fresh-row, length-fresh}
-use Rattle.edits.specs.RowBytes.{Wide, encode-tree-rows, table-put, table-taken, table-field-at, table-field-put}
+use Rattle.edits.specs.EncodedRows.{Wide, encode-tree-rows, table-put, table-taken, table-field-at, table-field-put}
 
 -- ---- rows that take their widths
 
@@ -61,6 +61,13 @@ module _ (t : Place Node) (h : is-tree t ≡ true) where
 
 module _ (t : Place Node) (p : Path) (d : Place Node) (n : Name) (h : is-tree t ≡ true) (there : place-at t p ≡ some d) where
   -- ---- a place put in
+
+  -- a new child's place is before a row, or behind the last
+  pub spot-bound : get n (d .below) ≡ none → suc (index-of t p + size (lesser n (d .below))) ≤ nodes t
+  spot-bound g =
+      let c = around t p d there in
+      let lt = sym (length-append (before c n) (after c n)) ∙ ap length (sym (put-rows c n g .0)) ∙ length-rows t in
+      omega (arith, lt, length-before c n)
 
   -- rows of the width of rows, put where the child belongs
   put-wide : (e : Place Node) (Q : List ℕ) → get n (d .below) ≡ none → Wide (place-rows (suc (depth p)) n e) → nodes t + suc (size (e .below)) ≤ 256

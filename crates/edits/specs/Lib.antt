@@ -1,5 +1,5 @@
 pub mod Changes
 pub mod Paste
 pub mod Written
-pub mod RowBytes
+pub mod EncodedRows
 pub mod EditLaws

@@ -44,6 +44,7 @@ pub fn take_rows(tree: &mut [u8], at: usize, n: usize)
     write_number(tree, 0, (c - n) as u16);
 }
 
+// The letter of a kind.
 fn kind_byte(kind: Kind) -> u8
     ensures { λ r. ⌜ r ≡ kind-byte kind ⌝ }
 {
@@ -53,6 +54,7 @@ fn kind_byte(kind: Kind) -> u8
     }
 }
 
+// Writes four bytes.
 fn write_four(b: &mut [u8], at: usize, v: u8, w: u8, x: u8, y: u8)
     requires { ⌜ at + 4 ≤ length (now b) ⌝ }
     ensures { λ _. ⌜ now (b .exit) ≡ paste (now (b .entry)) at (v ∷ w ∷ x ∷ y ∷ []) 4 ⌝ }
