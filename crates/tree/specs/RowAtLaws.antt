@@ -20,6 +20,7 @@ use lib.Seq.{drop-cons, getD-take, getD-drop, take-take, drop-drop}
 use borrow.Author.Tests.{lt-ltb, le-ltb, eq-eqb, ne-eqb}
 use Rattle.accounts.specs.Cases.{case}
 use Rattle.syntax.specs.Text.{Text, same-text, precedes}
+use Rattle.syntax.specs.Path.{Path, depth}
 use Rattle.syntax.specs.TextLaws.{same-text-sound, precedes-irrefl}
 use Rattle.tree.specs.declared.Kind.the-variants.{File, Directory}
 use Rattle.tree.specs.declared.Order.{Order}
@@ -34,7 +35,8 @@ use Rattle.tree.specs.Fields.{number-at, unpadded, text-at}
 use Rattle.tree.specs.TableLaws.{length-all-from, all-from-at}
 use Rattle.tree.specs.Encoding.{row-width, kind-of, row-of, encode-tree}
 use Rattle.tree.specs.EncodingLaws.{rows-of-encoded}
-use Rattle.tree.specs.RowScan.{span, first-passes, deeper, passes, is-child, first-at, span-go, span-stop, span-end}
+use Rattle.tree.specs.RowContext.{place-rows, index-of, Around}
+use Rattle.tree.specs.RowScan.{span, first-passes, deeper, passes, is-child, first-at, span-go, span-stop, span-end, rows-from-place}
 use Rattle.tree.specs.RowAt.{row-count, row-bytes-at, row-at, all-rows, order-of, first-depth, depth-of, end-of-subtree, child-at}
 
 -- ---- a field of a row
@@ -160,6 +162,11 @@ all-rows-of-tree t h = rows-of-encoded t h
 -- so the count is theirs
 pub row-count-of-tree : (t : Place Node) → is-tree t ≡ true → row-count (encode-tree t) ≡ length (rows t)
 row-count-of-tree t h = sym (length-all-rows (encode-tree t)) ∙ ap length (all-rows-of-tree t h)
+
+-- the row of a place stands at the depth of its path
+pub depth-of-place : {t : Place Node} {p : Path} {d : Place Node} → Around t p d → depth-of (rows t) (index-of t p) ≡ depth p
+unfolding depth-of first-depth place-rows
+depth-of-place c = rw (rows-from-place c)
 
 -- ---- the order of two texts
 

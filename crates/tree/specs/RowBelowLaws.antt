@@ -31,7 +31,7 @@ use Rattle.tree.specs.Encoding.{row-of, encode-tree}
 use Rattle.tree.specs.RowContext.{place-rows, ends, index-of, Around, around}
 use Rattle.tree.specs.RowScan.{span, first-passes, deeper, first-at, span-end, ends-deeper, rows-from-place, rows-from-children, subtree-span}
 use Rattle.tree.specs.RowAt.{row-count, row-bytes-at, row-at, all-rows, first-depth, depth-of}
-use Rattle.tree.specs.RowAtLaws.{length-all-rows, row-in-rows, depth-of-row, scan-stop, scan-end, all-rows-of-tree}
+use Rattle.tree.specs.RowAtLaws.{length-all-rows, row-in-rows, depth-of-row, depth-of-place, scan-stop, scan-end, all-rows-of-tree}
 use Rattle.tree.specs.RowBelow.{front-below, rows-below, has-children, deepest, height-in, names-at, child-text, over, next-place, Named}
 
 -- ---- rows below, by index
@@ -303,28 +303,23 @@ names-flatten k (node n x cs rest) =
 -- ---- the rows below a place of a tree
 
 module _ {t : Place Node} {p : Path} {d : Place Node} (c : Around t p d) where
-  -- its row stands at the depth of its path
-  depth-of-place : depth-of (rows t) (index-of t p) ≡ depth p
-  unfolding depth-of first-depth place-rows
-  depth-of-place = rw (rows-from-place c)
-
   -- the rows below are those of its children
   rows-below-place : rows-below (rows t) (index-of t p) ≡ flatten (suc (depth p)) (d .below)
   unfolding rows-below front-below
   rows-below-place =
-      rw (depth-of-place, subtree-span c, rows-from-children c)
+      rw (depth-of-place c, subtree-span c, rows-from-children c)
       (take-at (flatten (suc (depth p)) (d .below)) (c .post) _ (length-flatten (suc (depth p)) (d .below)))
 
   -- a place has children if its forest is not empty
   place-has-children : has-children (rows t) (index-of t p) ≡ not (is-empty (d .below))
   unfolding has-children
-  place-has-children = rw (depth-of-place, rows-from-children c) (first-deeper (depth p) (d .below) (c .post) (c .stops))
+  place-has-children = rw (depth-of-place c, rows-from-children c) (first-deeper (depth p) (d .below) (c .post) (c .stops))
 
   -- they go as far down as the forest is high
   height-of-place : height-in (rows t) (index-of t p) ≡ height (d .below)
   unfolding height-in
   height-of-place =
-      rw (depth-of-place, rows-below-place)
+      rw (depth-of-place c, rows-below-place)
       (let q = deepest-flatten (depth p) (depth p) (d .below) (omega arith) in
       let w = larger-second (depth p) (depth p + height (d .below)) (omega arith) in
       omega arith)
@@ -332,7 +327,7 @@ module _ {t : Place Node} {p : Path} {d : Place Node} (c : Around t p d) where
   -- those one level down have the children's names
   child-text-of-place : child-text (rows t) (index-of t p) ≡ joined comma (names (d .below))
   unfolding child-text
-  child-text-of-place = rw (depth-of-place, rows-below-place, names-flatten (suc (depth p)) (d .below))
+  child-text-of-place = rw (depth-of-place c, rows-below-place, names-flatten (suc (depth p)) (d .below))
 
 module _ (t : Place Node) (p : Path) (d : Place Node) (h : is-tree t ≡ true) (e : place-at t p ≡ some d) where
   -- a row has children if the place has

@@ -30,7 +30,7 @@ use Rattle.tree.specs.RowScan.{rows-from-place, row-of-place, index-boun
 use Rattle.tree.specs.Encoding.{encode-tree}
 use Rattle.tree.specs.EncodingLaws.{tree-width-is, length-encode-tree}
 use Rattle.tree.specs.RowAt.{row-count, row-at, all-rows, first-depth, depth-of, end-of-subtree, child-at}
-use Rattle.tree.specs.RowAtLaws.{row-in-rows, all-rows-of-tree, row-count-of-tree}
+use Rattle.tree.specs.RowAtLaws.{row-in-rows, all-rows-of-tree, row-count-of-tree, depth-of-place}
 use Rattle.tree.specs.RowWalk.{Spot, spot, top-spot, spot-of, enter-first, enter-in, step-in, walk-rows, walk-in, parent-walk-in}
 
 -- the bytes of a tree: how many, and how many rows
@@ -64,14 +64,10 @@ module _ (t : Place Node) (h : is-tree t ≡ true) where
         ∙ ap (λ (rs : List (Row Node)). getD rs (index-of t p) z) (all-rows-of-tree t h)
         ∙ row-of-place (around t p d e) z
 
-    depth-at-place : depth-of (rows t) (index-of t p) ≡ depth p
-    unfolding depth-of first-depth place-rows
-    depth-at-place = rw (rows-from-place (around t p d e))
-
     -- its subtree ends behind all below it
     pub end-at-place : end-of-subtree (all-rows (encode-tree t)) (index-of t p) ≡ suc (index-of t p + size (d .below))
     unfolding end-of-subtree
-    end-at-place = rw (all-rows-of-tree t h, depth-at-place, subtree-span (around t p d e))
+    end-at-place = rw (all-rows-of-tree t h, depth-of-place (around t p d e), subtree-span (around t p d e))
 
     module _ (n : Name) where
       -- a child is found where it stands
@@ -79,13 +75,13 @@ module _ (t : Place Node) (h : is-tree t ≡ true) where
       unfolding child-at
       child-at-place c g =
           let i = child-found (around t p d e) n c (tree-sorted t p d h e) g in
-          rw (all-rows-of-tree t h, depth-at-place, child-span (around t p d e) n, i .0) (ap {B = Child} Found (i .1))
+          rw (all-rows-of-tree t h, depth-of-place (around t p d e), child-span (around t p d e) n, i .0) (ap {B = Child} Found (i .1))
 
       -- and one that is not there would stand behind the lesser ones
       pub no-child-at-place : get n (d .below) ≡ none
           → child-at (all-rows (encode-tree t)) (index-of t p) n ≡ Missing (suc (index-of t p + size (lesser n (d .below))))
       unfolding child-at
-      no-child-at-place g = rw (all-rows-of-tree t h, depth-at-place, child-span (around t p d e) n, child-missing (around t p d e) n g)
+      no-child-at-place g = rw (all-rows-of-tree t h, depth-of-place (around t p d e), child-span (around t p d e) n, child-missing (around t p d e) n g)
 
 -- ---- walks
 
