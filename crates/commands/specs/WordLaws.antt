@@ -4,7 +4,7 @@ use mathlib.Core.Path.{_≡_, refl, sym, ap, _∙_}
 use mathlib.Core.List.{List, [], _∷_}
 use mathlib.Core.Option.{Option, none, some, Option·map}
 use mathlib.Core.Bool.{Bool, true, false, _&&_, not, and-false}
-use Prim.Native.Nat.{ℕ, suc, _≤_}
+use Prim.Native.Nat.{ℕ, _≤_}
 use native.Mathlib.Omega.{arith}
 use borrow.Author.Tests.{eqb-false, ne-eqb}
 use lib.Dec.{eqb}
@@ -27,7 +27,7 @@ use Rattle.syntax.specs.Field.{uid, gid, role, plain-mode, password, content}
 use Rattle.commands.specs.Command.{create, mkdir, read, write, rm, rmdir, mv, chmod, chgrp, chown, login, logout, add, co, commit, up, del, Command, shell, repository, form, forms}
 use Rattle.syntax.specs.Parts.{span-text}
 use Rattle.commands.specs.Parsed.{with-path, meaning, found}
-use Rattle.syntax.specs.FormLaws.{then-none}
+use Rattle.syntax.specs.FormLaws.{none-refuses, one-refuses, two-refuses, three-refuses}
 use Rattle.syntax.specs.PartsLaws.{some-of-one}
 
 -- what is no answer is none
@@ -45,29 +45,6 @@ the-some (some a) e = (a, refl)
 pub not-read : {A : Type 0} (m : Option A) → none ≡ m → is-some m ≡ false
 unfolding is-some
 not-read m e = rw (← e)
-
--- forms refuse another number of arguments
-none-refuses : {X : Type 0} (x : X) (ts : List Text) → (length ts ≡ 0 → ⊥) → none-of x ts ≡ none
-unfolding none-of
-none-refuses x [] h = absurd (h refl)
-none-refuses x (s ∷ ts) h = refl
-
-one-refuses : {A X : Type 0} (r : Text → Option A) (x : A → X) (ts : List Text) → (length ts ≡ 1 → ⊥) → one-of r x ts ≡ none
-unfolding one-of
-one-refuses r x [] h = refl
-one-refuses r x (s ∷ ts) h = then-none (r s) (λ a. none-of (x a) ts) (λ a. none-refuses (x a) ts (λ e. h (ap suc e)))
-
-two-refuses : {A B X : Type 0} (r : Text → Option A) (r′ : Text → Option B) (x : A → B → X) (ts : List Text) →
-    (length ts ≡ 2 → ⊥) → two-of r r′ x ts ≡ none
-unfolding two-of
-two-refuses r r′ x [] h = refl
-two-refuses r r′ x (s ∷ ts) h = then-none (r s) (λ a. one-of r′ (x a) ts) (λ a. one-refuses r′ (x a) ts (λ e. h (ap suc e)))
-
-three-refuses : {A B C X : Type 0} (r : Text → Option A) (r′ : Text → Option B) (r″ : Text → Option C) (x : A → B → C → X) (ts : List Text) →
-    (length ts ≡ 3 → ⊥) → three-of r r′ r″ x ts ≡ none
-unfolding three-of
-three-refuses r r′ r″ x [] h = refl
-three-refuses r r′ r″ x (s ∷ ts) h = then-none (r s) (λ a. two-of r′ r″ (x a) ts) (λ a. two-refuses r′ r″ (x a) ts (λ e. h (ap suc e)))
 
 -- forms, each with its number of arguments
 data Takes : List (Form Command) → Type 0 where

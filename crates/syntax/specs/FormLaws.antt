@@ -1,9 +1,11 @@
--- Laws of readers: what has been read where a reader, a check or a form answers something, and that all that a form answers
--- passes a test where all that its readers answer does.
-use mathlib.Core.Path.{_≡_, refl}
+-- Laws of readers: what has been read where a reader, a check or a form answers something; that all that a form answers passes a
+-- test where all that its readers answer does; and that a form refuses another number of arguments than its own.
+use mathlib.Core.Path.{_≡_, refl, ap}
 use mathlib.Core.List.{List, [], _∷_}
 use mathlib.Core.Option.{Option, none, some}
 use mathlib.Core.Bool.{Bool, true, false, _&&_}
+use Prim.Native.Nat.{suc}
+use lib.ListN.{length}
 use Rattle.accounts.specs.Cases.{case, contra}
 use Rattle.syntax.specs.Text.{Text, same-text}
 use Rattle.syntax.specs.Form.{_>>=_, _>>_, check, Form, none-of, one-of, two-of, three-of, by-form}
@@ -101,3 +103,26 @@ module _ {X : Type 0} (test : X → Bool) where
   by-form-gives (_also_ {f = f} h hs) w s y e = case (same-text w (f .word))
       (λ t. h s y (rw t at e))
       (λ t. by-form-gives hs w s y (rw t at e))
+
+-- forms refuse another number of arguments
+pub none-refuses : {X : Type 0} (x : X) (ts : List Text) → (length ts ≡ 0 → ⊥) → none-of x ts ≡ none
+unfolding none-of
+none-refuses x [] h = absurd (h refl)
+none-refuses x (s ∷ ts) h = refl
+
+pub one-refuses : {A X : Type 0} (r : Text → Option A) (x : A → X) (ts : List Text) → (length ts ≡ 1 → ⊥) → one-of r x ts ≡ none
+unfolding one-of
+one-refuses r x [] h = refl
+one-refuses r x (s ∷ ts) h = then-none (r s) (λ a. none-of (x a) ts) (λ a. none-refuses (x a) ts (λ e. h (ap suc e)))
+
+pub two-refuses : {A B X : Type 0} (r : Text → Option A) (r′ : Text → Option B) (x : A → B → X) (ts : List Text) →
+    (length ts ≡ 2 → ⊥) → two-of r r′ x ts ≡ none
+unfolding two-of
+two-refuses r r′ x [] h = refl
+two-refuses r r′ x (s ∷ ts) h = then-none (r s) (λ a. one-of r′ (x a) ts) (λ a. one-refuses r′ (x a) ts (λ e. h (ap suc e)))
+
+pub three-refuses : {A B C X : Type 0} (r : Text → Option A) (r′ : Text → Option B) (r″ : Text → Option C) (x : A → B → C → X) (ts : List Text) →
+    (length ts ≡ 3 → ⊥) → three-of r r′ r″ x ts ≡ none
+unfolding three-of
+three-refuses r r′ r″ x [] h = refl
+three-refuses r r′ r″ x (s ∷ ts) h = then-none (r s) (λ a. two-of r′ r″ (x a) ts) (λ a. two-refuses r′ r″ (x a) ts (λ e. h (ap suc e)))

@@ -28,9 +28,9 @@ use Rattle.tree.specs.RowLaws.{length-flatten}
 use Rattle.tree.specs.WellFormed.{is-tree}
 use Rattle.tree.specs.Fields.{unpadded, text-at}
 use Rattle.tree.specs.Encoding.{row-of, encode-tree}
-use Rattle.tree.specs.RowContext.{place-rows, ends, index-of, Around, around}
-use Rattle.tree.specs.RowScan.{span, first-passes, deeper, first-at, span-end, ends-deeper, rows-from-place, rows-from-children, subtree-span}
-use Rattle.tree.specs.RowAt.{row-count, row-bytes-at, row-at, all-rows, first-depth, depth-of}
+use Rattle.tree.specs.RowContext.{ends, index-of, Around, around}
+use Rattle.tree.specs.RowScan.{span, first-passes, deeper, first-at, span-end, ends-deeper, rows-from-children, subtree-span}
+use Rattle.tree.specs.RowAt.{row-count, row-bytes-at, row-at, all-rows, depth-of}
 use Rattle.tree.specs.RowAtLaws.{length-all-rows, row-in-rows, depth-of-row, depth-of-place, scan-stop, scan-end, all-rows-of-tree}
 use Rattle.tree.specs.RowBelow.{front-below, rows-below, has-children, deepest, height-in, names-at, child-text, over, next-place, Named}
 

@@ -29,7 +29,7 @@ use Rattle.tree.specs.RowEdits.{lesser, tree-sorted}
 use Rattle.tree.specs.RowScan.{rows-from-place, row-of-place, index-bound, subtree-span, child-span, child-found, child-missing, child-in-rows}
 use Rattle.tree.specs.Encoding.{encode-tree}
 use Rattle.tree.specs.EncodingLaws.{tree-width-is, length-encode-tree}
-use Rattle.tree.specs.RowAt.{row-count, row-at, all-rows, first-depth, depth-of, end-of-subtree, child-at}
+use Rattle.tree.specs.RowAt.{row-count, row-at, all-rows, end-of-subtree, child-at}
 use Rattle.tree.specs.RowAtLaws.{row-in-rows, all-rows-of-tree, row-count-of-tree, depth-of-place}
 use Rattle.tree.specs.RowWalk.{Spot, spot, top-spot, spot-of, enter-first, enter-in, step-in, walk-rows, walk-in, parent-walk-in}
 
