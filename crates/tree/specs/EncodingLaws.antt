@@ -75,7 +75,7 @@ pub length-fitting : (r : Row Node) → fits r ≡ true → length (row-bytes r)
 length-fitting r h = let w = fits-parts r h in length-row-bytes r (w .0) (w .1)
 
 -- and is read back from its bytes
-fitting-back : (r : Row Node) → fits r ≡ true → row-of (row-bytes r) ≡ r
+pub fitting-back : (r : Row Node) → fits r ≡ true → row-of (row-bytes r) ≡ r
 fitting-back r h = let w = fits-parts r h in row-of-bytes r (w .0) (w .1)
 
 -- ---- trees
