@@ -20,7 +20,7 @@ use Rattle.tree.specs.Node.{is-directory, Node}
 use Rattle.tree.specs.Rows.{Row, flatten}
 use Rattle.tree.specs.WellFormed.{is-node, leads, is-forest}
 use Rattle.tree.specs.WellFormedLaws.{place-parts, place-of-parts, forest-parts, forest-of-parts}
-use Rattle.soundness.specs.Sound.{outermost, innermost, follows, in-order}
+use Rattle.soundness.specs.Sound.{outermost, innermost, may-follow, follows, in-order}
 
 -- ---- the outermost of some names
 
@@ -131,7 +131,7 @@ record Follows (ns : List Name) (kind : Kind) (r : Row Node) : Type 0 where
   beside : r .depth ≤ length ns → precedes (innermost (outermost (r .depth) ns)) (r .name) ≡ true
 
 follows-parts : (ns : List Name) (kind : Kind) (r : Row Node) → follows ns kind r ≡ true → Follows ns kind r
-unfolding follows most-names
+unfolding follows may-follow most-names
 follows-parts ns kind r h =
     let d = r .depth in
     let below = eqb d (suc (length ns)) && is-directory kind in
@@ -267,7 +267,7 @@ Goes-on : ℕ → List Name → List (Row Node) → Type 0
 Goes-on k ns rs = (ms : List Name) (kind : Kind) → k ≤ length ms → outermost k ms ≡ outermost k ns → in-order ms kind rs ≡ true
 
 follows-of-parts : (ns : List Name) (kind : Kind) (r : Row Node) → Follows ns kind r → follows ns kind r ≡ true
-unfolding follows most-names
+unfolding follows may-follow most-names
 follows-of-parts ns kind r f =
     let d = r .depth in
     rw (f .name, le-leb 1 d (f .deep), le-leb d 6 (f .low))

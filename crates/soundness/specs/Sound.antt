@@ -33,14 +33,17 @@ unfoldable pub innermost : List Name → Name
 innermost [] = []
 innermost (n ∷ names) = n
 
--- whether a row may follow another, of which the names and the kind are given: below it if that is a directory, or beside it
--- or a directory it lies in, in byte order
-unfoldable pub follows : List Name → Kind → Row Node → Bool
-follows names kind r =
+-- whether a row may follow another of this depth and kind: below it if that is a directory, or behind the row that was last
+-- at its own depth, which has the name `beside`, in byte order
+unfoldable pub may-follow : ℕ → Kind → Name → Row Node → Bool
+may-follow depth kind beside r =
     let d = r .depth in
-    let below = eqb d (suc (length names)) && is-directory kind in
-    let beside = precedes (innermost (outermost d names)) (r .name) in
-    (is-name (r .name) && (leb 1 d && leb d most-names)) && cond (leb d (length names)) beside below
+    (is-name (r .name) && (leb 1 d && leb d most-names))
+    && cond (leb d depth) (precedes beside (r .name)) (eqb d (suc depth) && is-directory kind)
+
+-- whether a row may follow another of these names and this kind
+unfoldable pub follows : List Name → Kind → Row Node → Bool
+follows names kind r = may-follow (length names) kind (innermost (outermost (r .depth) names)) r
 
 -- whether rows stand in order behind another
 unfoldable pub in-order : List Name → Kind → List (Row Node) → Bool

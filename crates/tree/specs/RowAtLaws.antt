@@ -42,7 +42,7 @@ use Rattle.tree.specs.RowAt.{row-count, row-bytes-at, row-at, all-rows, 
 -- ---- a field of a row
 
 -- a part of a beginning is that part of the whole
-part-of-take : (k w n : ℕ) (l : List ℕ) → k + w ≤ n → take w (drop k (take n l)) ≡ take w (drop k l)
+pub part-of-take : (k w n : ℕ) (l : List ℕ) → k + w ≤ n → take w (drop k (take n l)) ≡ take w (drop k l)
 part-of-take zero w n l h = take-take w n l (omega arith)
 part-of-take (suc k) w zero l h = let z : ⊥ = omega arith in absurd z
 part-of-take (suc k) w (suc n) [] h = refl

@@ -21,6 +21,7 @@ pub use rows::owner_at;
 pub use rows::revision_at;
 pub use rows::tag_path_at;
 pub use rows::tag_revision_at;
+pub use scan::compare;
 pub use scan::find_child;
 pub use scan::subtree_end;
 pub use walks::parent_walk;

@@ -11,7 +11,7 @@ use crate::rows::depth_at;
 use crate::rows::name_at;
 
 // How a text stands to another in byte order.
-fn compare(s: &[u8], t: &[u8]) -> Order
+pub fn compare(s: &[u8], t: &[u8]) -> Order
     ensures { λ r. ⌜ r ≡ order-of (now (s .entry)) (now (t .entry)) ⌝ }
 {
     let mut i: usize = 0;

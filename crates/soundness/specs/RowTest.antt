@@ -1,0 +1,41 @@
+-- A row's bytes tested field by field, as the code does.
+use mathlib.Core.List.{List}
+use mathlib.Core.Bool.{Bool, _&&_, _||_, cond}
+use Prim.Native.Nat.{ℕ, _+_, _-_}
+use lib.Dec.{eqb, leb, ltb}
+use lib.ListN.{length, getD, take, drop}
+use Rattle.syntax.specs.Number.{is-mode}
+use Rattle.syntax.specs.Path.{entry-path}
+use Rattle.syntax.specs.Field.{is-content}
+use Rattle.syntax.specs.Setup.{is-some}
+use Rattle.tree.specs.WellFormed.{last-revision, fits-kind}
+use Rattle.tree.specs.Fields.{number-at, text-at}
+use Rattle.tree.specs.Encoding.{kind-of}
+use Rattle.soundness.specs.Sound.{all-zero}
+
+-- so many bytes from a place are zero
+unfoldable pub zeros-at : ℕ → ℕ → List ℕ → Bool
+zeros-at i n x = all-zero (take n (drop i x))
+
+-- a field's bytes behind its text are zero
+unfoldable pub is-filled : ℕ → ℕ → List ℕ → Bool
+is-filled i width x = let n = length (text-at i width x) in zeros-at (i + n) (width - n) x
+
+-- kind, owner, group, mode and revision are in range
+unfoldable pub has-numbers : List ℕ → Bool
+has-numbers x =
+    (eqb (getD x 1 0) 100 || eqb (getD x 1 0) 102)
+    && ((ltb (getD x 2 0) 24 && ltb (getD x 3 0) 25) && (is-mode (number-at 4 x) && leb (number-at 6 x) last-revision))
+
+-- the tag's fields are zero, or an entry path filled up and a revision
+unfoldable pub has-tag : List ℕ → Bool
+has-tag x = cond (is-some (entry-path (text-at 16 54 x))) (is-filled 16 54 x && leb (number-at 70 x) last-revision) (zeros-at 16 56 x)
+
+-- the content is one that the kind allows, and zeros fill up the row
+unfoldable pub has-content : List ℕ → Bool
+has-content x =
+    let c = text-at 72 80 x in
+    (is-content c && fits-kind (kind-of (getD x 1 0)) (number-at 4 x) c) && zeros-at (72 + length c) (160 - length c) x
+
+unfoldable pub row-test : List ℕ → Bool
+row-test x = (has-numbers x && is-filled 8 8 x) && (has-tag x && has-content x)

@@ -1,0 +1,286 @@
+-- A row's bytes pass field by field just if they are those of a row with a node in range.
+--
+-- In order: an entry path's text is what it was read from; bytes written and read; the parts of a row; the whole row.
+use mathlib.Core.Path.{_≡_, refl, sym, _∙_, ap, ap₂}
+use mathlib.Core.List.{List, [], _∷_, _++_, append-assoc, append-nil}
+use mathlib.Core.Option.{Option, none, some}
+use mathlib.Core.Bool.{Bool, true, false, _&&_, _||_, cond}
+use Prim.Native.Nat.{ℕ, zero, suc, _+_, _-_, _*_, _/_, _%_, _≤_, _<_}
+use native.Mathlib.Omega.{arith}
+use lib.Dec.{eqb, leb, ltb}
+use lib.ListN.{length, getD, take, drop, replicate, take-append-drop, length-drop, length-append}
+use lib.Seq.{take-add, drop-drop, drop-cons, length-take-le, take-nil, take-all}
+use borrow.Author.Tests.{eqb-true, eq-eqb, eqb-false, ne-eqb, leb-true}
+use Rattle.accounts.specs.Cases.{case, and-both, contra}
+use Rattle.syntax.specs.Text.{Text, bytes, same-text, every, pieces, joined}
+use Rattle.syntax.specs.TextLaws.{same-text-refl, same-text-sound, every-append}
+use Rattle.syntax.specs.PartsLaws.{joined-pieces}
+use Rattle.syntax.specs.Form.{_>>=_, _>>_, check}
+use Rattle.syntax.specs.FormLaws.{no-answer, both-read, checked, answered}
+use Rattle.syntax.specs.Number.{is-mode}
+use Rattle.syntax.specs.Field.{is-content}
+use Rattle.syntax.specs.Setup.{is-some}
+use Rattle.syntax.specs.Path.{Name, Path, root, _▹_, Entry-path, entry-location, is-name, most-names, extended, names-from-top, path, entry-at, entry-path, names-text, path-text, entry-text}
+use Rattle.syntax.specs.PathLaws.{entry-at-sound, entry-is-entry}
+use Rattle.tree.specs.declared.Kind.{Kind}
+use Rattle.tree.specs.declared.Kind.the-variants.{File, Directory}
+use Rattle.tree.specs.Node.{Tag, Node}
+use Rattle.tree.specs.WellFormed.{last-revision, is-tag, fits-kind, is-node}
+use Rattle.tree.specs.Fields.{two-bytes, number-at, padded, unpadded, text-at}
+use Rattle.tree.specs.FieldsLaws.{length-padded, length-two-bytes}
+use Rattle.tree.specs.Encoding.{kind-byte, kind-of, tag-bytes, tag-of, row-bytes, row-of}
+use Rattle.soundness.specs.Sound.{is-row, all-zero}
+use Rattle.soundness.specs.RowTest.{zeros-at, is-filled, has-numbers, has-tag, has-content, row-test}
+
+-- ---- an entry path's text
+
+-- names, each behind a `/`
+slashed : List Name → Text
+slashed [] = []
+slashed (n ∷ ns) = 47 ∷ (n ++ slashed ns)
+
+joined-slashed : (n : Name) (ns : List Name) → joined 47 (n ∷ ns) ≡ n ++ slashed ns
+unfolding joined slashed
+joined-slashed n [] = sym (append-nil n)
+joined-slashed n (m ∷ ns) = ap (λ (t : Text). n ++ (47 ∷ t)) (joined-slashed m ns)
+
+names-text-extended : (p : Path) (ns : List Name) → names-text (extended p ns) ≡ names-text p ++ slashed ns
+unfolding extended names-text slashed
+names-text-extended p [] = sym (append-nil (names-text p))
+names-text-extended p (n ∷ ns) = names-text-extended (p ▹ n) ns ∙ append-assoc (names-text p) (47 ∷ n) (slashed ns)
+
+path-text-extended : (p : Path) (n : Name) (ns : List Name) → path-text (extended p (n ∷ ns)) ≡ names-text (extended p (n ∷ ns))
+unfolding extended path-text
+path-text-extended p n [] = refl
+path-text-extended p n (m ∷ ns) = path-text-extended (p ▹ n) m ns
+
+text-of-names : (l : List Text) (p : Path) → names-from-top l ≡ some p → path-text p ≡ joined 47 l
+unfolding names-from-top every extended
+text-of-names [] p e = no-answer e
+text-of-names ((b ∷ t) ∷ ns) p e = no-answer e
+text-of-names ([] ∷ []) p e = contra (checked (true && (leb 1 0 && leb 0 most-names)) (some root) p e .0) refl
+text-of-names ([] ∷ (n ∷ ns)) p e =
+    let i = checked (every is-name (n ∷ ns) && (leb 1 (length (n ∷ ns)) && leb (length (n ∷ ns)) most-names)) (some (extended root (n ∷ ns))) p e in
+    rw (answered (i .1)) (path-text-extended root n ns ∙ names-text-extended root (n ∷ ns) ∙ unfold names-text in sym (joined-slashed [] (n ∷ ns)))
+
+text-of-path : (t : Text) (p : Path) → path t ≡ some p → path-text p ≡ t
+unfolding path
+text-of-path t p e = case (same-text t (bytes "/"))
+    (λ i. let q : some root ≡ some p = rw i at e in rw (answered q, same-text-sound t (bytes "/") i) (unfold path-text in refl))
+    (λ i. text-of-names (pieces 47 t) p (rw i at e) ∙ joined-pieces 47 t)
+
+-- the text of an entry path is what it was read from
+text-of-entry : (t : Text) (e : Entry-path) → entry-path t ≡ some e → entry-text e ≡ t
+unfolding entry-path entry-text
+text-of-entry t e h =
+    let i = both-read (path t) entry-at e h in
+    ap path-text (entry-at-sound (i .0) e (i .2)) ∙ text-of-path t (i .0) (i .1)
+
+-- ---- bytes written and read
+
+-- texts made of two parts are the same if both parts are
+same-append : (a b c d : Text) → length a ≡ length c → same-text (a ++ b) (c ++ d) ≡ (same-text a c && same-text b d)
+unfolding same-text
+same-append [] b [] d h = refl
+same-append [] b (y ∷ c) d h = let z : ⊥ = omega arith in absurd z
+same-append (x ∷ a) b [] d h = let z : ⊥ = omega arith in absurd z
+same-append (x ∷ a) b (y ∷ c) d h = case (eqb x y) (λ t. rw t (same-append a b c d (omega arith))) (λ t. rw t)
+
+-- so with what stands from a place on
+same-part : (i w : ℕ) (a b x : List ℕ) → length a ≡ w → i + w ≤ length x
+    → same-text (a ++ b) (drop i x) ≡ (same-text a (take w (drop i x)) && same-text b (drop (i + w) x))
+same-part i w a b x h l =
+    let n : length (take w (drop i x)) ≡ w = length-take-le w (drop i x) (omega (arith, length-drop i x)) in
+    ap (same-text (a ++ b)) (sym (take-append-drop w (drop i x)))
+    ∙ same-append a b (take w (drop i x)) (drop w (drop i x)) (h ∙ sym n)
+    ∙ ap (λ (y : List ℕ). same-text a (take w (drop i x)) && same-text b y) (drop-drop w i x)
+
+eqb-flip : (a b : ℕ) → eqb a b ≡ eqb b a
+eqb-flip a b = case (eqb b a)
+    (λ t. eq-eqb a b (sym (eqb-true b a t)) ∙ sym t)
+    (λ t. ne-eqb a b (λ e. eqb-false b a t (sym e)) ∙ sym t)
+
+same-zeros : (l : List ℕ) → same-text (replicate (length l) 0) l ≡ all-zero l
+unfolding same-text all-zero every
+same-zeros [] = refl
+same-zeros (x ∷ l) = ap₂ _&&_ (eqb-flip 0 x) (same-zeros l)
+
+-- zeros at a place
+same-zeros-at : (i n : ℕ) (x : List ℕ) → i + n ≤ length x → same-text (replicate n 0) (take n (drop i x)) ≡ zeros-at i n x
+unfolding zeros-at
+same-zeros-at i n x h =
+    let l : length (take n (drop i x)) ≡ n = length-take-le n (drop i x) (omega (arith, length-drop i x)) in
+    ap (λ (k : ℕ). same-text (replicate k 0) (take n (drop i x))) (sym l) ∙ same-zeros (take n (drop i x))
+
+same-unpadded : (l : List ℕ) → same-text (padded (length l) (unpadded l)) l ≡ all-zero (drop (length (unpadded l)) l)
+unfolding padded unpadded same-text
+same-unpadded [] = unfold all-zero every in refl
+same-unpadded (x ∷ l) = case (eqb x 0)
+    (λ t. let q : suc (length l) - 0 ≡ suc (length l) = omega arith in rw t (rw q (same-zeros (x ∷ l))))
+    (λ t.
+    let q : suc (length l) - suc (length (unpadded l)) ≡ length l - length (unpadded l) = omega arith in
+    rw t (rw (q, eq-eqb x x refl) (same-unpadded l)))
+
+length-unpadded : (l : List ℕ) → length (unpadded l) ≤ length l
+unfolding unpadded
+length-unpadded [] = omega arith
+length-unpadded (x ∷ l) = case (eqb x 0) (λ t. rw t (omega arith)) (λ t. rw t (omega (arith, length-unpadded l)))
+
+drop-take : (k w : ℕ) (l : List ℕ) → drop k (take w l) ≡ take (w - k) (drop k l)
+drop-take zero w l = let q : w - 0 ≡ w = omega arith in rw q
+drop-take (suc k) zero l = let q : 0 - suc k ≡ 0 = omega arith in rw q
+drop-take (suc k) (suc w) [] = sym (take-nil (suc w - suc k))
+drop-take (suc k) (suc w) (x ∷ l) = let q : suc w - suc k ≡ w - k = omega arith in rw q (drop-take k w l)
+
+module _ (i w : ℕ) (x : List ℕ) (h : i + w ≤ length x) where
+  -- a field's text is no longer than the field
+  pub length-text-at : length (text-at i w x) ≤ w
+  unfolding text-at
+  length-text-at = omega (arith, length-unpadded (take w (drop i x)), length-take-le w (drop i x) (omega (arith, length-drop i x)))
+
+  -- the text filled up is the field if the rest of it is zeros
+  same-filled : same-text (padded w (text-at i w x)) (take w (drop i x)) ≡ is-filled i w x
+  unfolding text-at is-filled zeros-at
+  same-filled =
+      let l = take w (drop i x) in
+      let n = length (unpadded l) in
+      let e : length l ≡ w = length-take-le w (drop i x) (omega (arith, length-drop i x)) in
+      ap (λ (k : ℕ). same-text (padded k (unpadded l)) l) (sym e)
+      ∙ same-unpadded l
+      ∙ ap all-zero (drop-take n w (drop i x) ∙ ap (take (w - n)) (drop-drop n i x))
+
+-- a number of two bytes is written as it is read
+pub same-number : (i : ℕ) (x : List ℕ) → suc i < length x → getD x i 0 < 256 → two-bytes (number-at i x) ≡ take 2 (drop i x)
+unfolding two-bytes number-at
+same-number i x h l =
+    let q : take 2 (drop i x) ≡ getD x i 0 ∷ (getD x (suc i) 0 ∷ []) = rw (drop-cons x i 0 (omega arith), drop-cons x (suc i) 0 h) in
+    let a : (getD x i 0 + 256 * getD x (suc i) 0) % 256 ≡ getD x i 0 = omega arith in
+    let b : (getD x i 0 + 256 * getD x (suc i) 0) / 256 ≡ getD x (suc i) 0 = omega arith in
+    ap₂ (λ (u v : ℕ). u ∷ (v ∷ [])) a b ∙ sym q
+
+-- ---- tests in another order
+
+and-false : (a : Bool) → (a && false) ≡ false
+and-false true = refl
+and-false false = refl
+
+and-swap : (a b : Bool) → (a && (b && true)) ≡ (b && a)
+and-swap true true = refl
+and-swap true false = refl
+and-swap false true = refl
+and-swap false false = refl
+
+shuffled : (k a f t s c z : Bool) → (((k && a) && f) && ((t && s) && (c && z))) ≡ ((a && (t && c)) && (k && (f && (s && z))))
+shuffled false a f t s c z = sym (and-false (a && (t && c)))
+shuffled true false f t s c z = refl
+shuffled true true false t s c z = sym (and-false (t && c))
+shuffled true true true false s c z = refl
+shuffled true true true true false c z = sym (and-false c)
+shuffled true true true true true c z = refl
+
+-- ---- the parts of a row
+
+-- a kind is written as it is read where its byte is one of a kind
+same-kind-byte : (b : ℕ) → eqb (kind-byte (kind-of b)) b ≡ (eqb b 100 || eqb b 102)
+unfolding kind-byte kind-of
+same-kind-byte b = case (eqb b 100)
+    (λ t. rw t (eq-eqb 100 b (sym (eqb-true b 100 t))))
+    (λ t. rw t (eqb-flip 102 b))
+
+-- of the first four bytes only the kind may differ
+same-first : (x : List ℕ) (k : ℕ) → 4 ≤ length x
+    → same-text (getD x 0 0 ∷ (k ∷ (getD x 2 0 ∷ (getD x 3 0 ∷ [])))) (take 4 x) ≡ eqb k (getD x 1 0)
+unfolding same-text
+same-first [] k h = let z : ⊥ = omega arith in absurd z
+same-first (a ∷ []) k h = let z : ⊥ = omega arith in absurd z
+same-first (a ∷ (b ∷ [])) k h = let z : ⊥ = omega arith in absurd z
+same-first (a ∷ (b ∷ (c ∷ []))) k h = let z : ⊥ = omega arith in absurd z
+same-first (a ∷ (b ∷ (c ∷ (d ∷ x)))) k h =
+    rw (eq-eqb a a refl, eq-eqb c c refl, eq-eqb d d refl) (case (eqb k b) (λ t. rw t) (λ t. rw t))
+
+module _ (x : List ℕ) (h : length x ≡ 232) (small : (k : ℕ) → getD x k 0 < 256) where
+  number-part : (i : ℕ) → suc i < 232 → same-text (two-bytes (number-at i x)) (take 2 (drop i x)) ≡ true
+  number-part i l =
+      ap (same-text (two-bytes (number-at i x))) (sym (same-number i x (omega arith) (small i))) ∙ same-text-refl (two-bytes (number-at i x))
+
+  -- a tag in range, written as it is read
+  tag-part : (o : Option Entry-path) → entry-path (text-at 16 54 x) ≡ o →
+      let T = tag-of (text-at 16 54 x) (number-at 70 x) in
+      (length (tag-bytes T) ≡ 56) × ((is-tag T && same-text (tag-bytes T) (take 56 (drop 16 x))) ≡ has-tag x)
+  unfolding tag-of _>>=_ has-tag is-some tag-bytes is-tag
+  tag-part none e = rw e (refl, same-zeros-at 16 56 x (omega arith))
+  tag-part (some v) e =
+      let t = text-at 16 54 x in
+      let n = number-at 70 x in
+      let l = length-text-at 16 54 x (omega arith) in
+      let P = padded 54 t in
+      let N = two-bytes n in
+      let y = drop 16 x in
+      let long : length P ≡ 54 = length-padded 54 t l in
+      let same : same-text (P ++ N) (take 56 y) ≡ (is-filled 16 54 x && true) =
+      ap (same-text (P ++ N)) (take-add 54 2 y)
+      ∙ same-append P N (take 54 y) (take 2 (drop 54 y)) (long ∙ sym (length-take-le 54 y (omega (arith, length-drop 16 x))))
+      ∙ ap₂ _&&_ (same-filled 16 54 x (omega arith)) (ap (λ (z : List ℕ). same-text N (take 2 z)) (drop-drop 54 16 x) ∙ number-part 70 (omega arith)) in
+      rw (e, text-of-entry t v e, entry-is-entry t v e) (
+        length-append P N ∙ omega (arith, length-two-bytes n),
+        ap (λ (b : Bool). leb n last-revision && b) same ∙ and-swap (leb n last-revision) (is-filled 16 54 x),
+      )
+
+  -- zeros behind the content: those of its field and those of the last
+  content-zeros : zeros-at (72 + length (text-at 72 80 x)) (160 - length (text-at 72 80 x)) x ≡ (is-filled 72 80 x && zeros-at 152 80 x)
+  unfolding zeros-at is-filled all-zero
+  content-zeros =
+      let n = length (text-at 72 80 x) in
+      let l = length-text-at 72 80 x (omega arith) in
+      let q : 160 - n ≡ 80 - n + 80 = omega arith in
+      let p : 72 + n + (80 - n) ≡ 152 = omega arith in
+      let y = drop (72 + n) x in
+      ap (λ (k : ℕ). all-zero (take k y)) q
+      ∙ ap all-zero (take-add (80 - n) 80 y)
+      ∙ every-append (λ b. eqb b 0) (take (80 - n) y) (take 80 (drop (80 - n) y))
+      ∙ ap (λ (z : List ℕ). all-zero (take (80 - n) y) && all-zero (take 80 z)) (drop-drop (80 - n) (72 + n) x ∙ ap (λ (k : ℕ). drop k x) p)
+
+  -- the whole row, part by part
+  same-row : same-text (row-bytes (row-of x)) x
+      ≡ ((eqb (getD x 1 0) 100 || eqb (getD x 1 0) 102)
+      && (is-filled 8 8 x && (same-text (tag-bytes (tag-of (text-at 16 54 x) (number-at 70 x))) (take 56 (drop 16 x)) && (is-filled 72 80 x && zeros-at 152 80 x))))
+  unfolding row-bytes row-of
+  same-row =
+      let k = kind-byte (kind-of (getD x 1 0)) in
+      let D : List ℕ = getD x 0 0 ∷ (k ∷ (getD x 2 0 ∷ (getD x 3 0 ∷ []))) in
+      let M = two-bytes (number-at 4 x) in
+      let L = two-bytes (number-at 6 x) in
+      let N = padded 8 (text-at 8 8 x) in
+      let T = tag-bytes (tag-of (text-at 16 54 x) (number-at 70 x)) in
+      let C = padded 80 (text-at 72 80 x) in
+      let Z : List ℕ = replicate 80 0 in
+      let last : same-text Z (drop 152 x) ≡ zeros-at 152 80 x =
+      ap (same-text Z) (sym (take-all 80 (drop 152 x) (omega (arith, length-drop 152 x)))) ∙ same-zeros-at 152 80 x (omega arith) in
+      same-part 0 4 D (M ++ (L ++ (N ++ (T ++ (C ++ Z))))) x refl (omega arith)
+      ∙ ap₂ _&&_ (same-first x k (omega arith) ∙ same-kind-byte (getD x 1 0))
+      (same-part 4 2 M (L ++ (N ++ (T ++ (C ++ Z)))) x (length-two-bytes (number-at 4 x)) (omega arith)
+      ∙ ap₂ _&&_ (number-part 4 (omega arith))
+      (same-part 6 2 L (N ++ (T ++ (C ++ Z))) x (length-two-bytes (number-at 6 x)) (omega arith)
+      ∙ ap₂ _&&_ (number-part 6 (omega arith))
+      (same-part 8 8 N (T ++ (C ++ Z)) x (length-padded 8 (text-at 8 8 x) (length-text-at 8 8 x (omega arith))) (omega arith)
+      ∙ ap₂ _&&_ (same-filled 8 8 x (omega arith))
+      (same-part 16 56 T (C ++ Z) x (tag-part (entry-path (text-at 16 54 x)) refl .0) (omega arith)
+      ∙ ap (λ (b : Bool). same-text T (take 56 (drop 16 x)) && b)
+      (same-part 72 80 C Z x (length-padded 80 (text-at 72 80 x) (length-text-at 72 80 x (omega arith))) (omega arith)
+      ∙ ap₂ _&&_ (same-filled 72 80 x (omega arith)) last)))))
+
+  -- the tests of the fields are that of the row
+  pub row-test-is : row-test x ≡ is-row x
+  unfolding row-test is-row is-node has-numbers has-content row-of
+  row-test-is =
+      let T = tag-of (text-at 16 54 x) (number-at 70 x) in
+      let k = eqb (getD x 1 0) 100 || eqb (getD x 1 0) 102 in
+      let a = (ltb (getD x 2 0) 24 && ltb (getD x 3 0) 25) && (is-mode (number-at 4 x) && leb (number-at 6 x) last-revision) in
+      let f = is-filled 8 8 x in
+      let t = is-tag T in
+      let s = same-text (tag-bytes T) (take 56 (drop 16 x)) in
+      let c = is-content (text-at 72 80 x) && fits-kind (kind-of (getD x 1 0)) (number-at 4 x) (text-at 72 80 x) in
+      let z = is-filled 72 80 x && zeros-at 152 80 x in
+      ap₂ (λ (t z : Bool). ((k && a) && f) && (t && (c && z))) (sym (tag-part (entry-path (text-at 16 54 x)) refl .1)) content-zeros
+      ∙ shuffled k a f t s c z
+      ∙ ap (λ (b : Bool). (a && (t && c)) && b) (sym same-row)
