@@ -1,5 +1,9 @@
 pub mod Sound
 pub mod OrderLaws
 pub mod SoundLaws
-pub mod RowTest
+pub mod Tests
+pub mod EntryTextLaws
 pub mod RowTestLaws
+pub mod FieldTestLaws
+pub mod OrderTestLaws
+pub mod SoundTestLaws

@@ -3,13 +3,13 @@
 -- In order: the outermost of some names; from rows to forests: Level to below; from forests to rows: Goes-on, ordered.
 use mathlib.Core.Path.{_≡_, refl, sym, _∙_, ap, ap₂}
 use mathlib.Core.List.{List, [], _∷_, _++_, append-assoc, append-nil}
-use mathlib.Core.Bool.{Bool, true, false, _&&_, cond}
-use Prim.Native.Nat.{ℕ, zero, suc, _+_, _-_, _≤_, _<_}
+use mathlib.Core.Bool.{true, false, _&&_, cond}
+use Prim.Native.Nat.{ℕ, suc, _+_, _-_, _≤_, _<_}
 use native.Mathlib.Omega.{arith}
 use lib.Dec.{eqb, leb}
 use lib.ListN.{length, drop, length-drop}
 use lib.Seq.{drop-drop}
-use borrow.Author.Tests.{leb-true, leb-false, le-leb, lt-leb, eqb-true, eqb-false, eq-eqb}
+use borrow.Author.Tests.{leb-true, leb-false, le-leb, eqb-true, eqb-false, eq-eqb}
 use Rattle.accounts.specs.Cases.{case, and-both, contra}
 use Rattle.syntax.specs.Text.{precedes, every}
 use Rattle.syntax.specs.Path.{Name, is-name, most-names}
@@ -28,11 +28,13 @@ length-outermost : (k : ℕ) (ns : List Name) → k ≤ length ns → length (ou
 unfolding outermost
 length-outermost k ns h = length-drop (length ns - k) ns ∙ omega arith
 
-outermost-all : (ns : List Name) (k : ℕ) → k ≡ length ns → outermost k ns ≡ ns
+-- as many as there are are all
+pub outermost-all : (ns : List Name) (k : ℕ) → k ≡ length ns → outermost k ns ≡ ns
 unfolding outermost
 outermost-all ns k e = let q : length ns - k ≡ 0 = omega arith in rw q
 
-outermost-cons : (k : ℕ) (n : Name) (ns : List Name) → k ≤ length ns → outermost k (n ∷ ns) ≡ outermost k ns
+-- a name further in is none of fewer
+pub outermost-cons : (k : ℕ) (n : Name) (ns : List Name) → k ≤ length ns → outermost k (n ∷ ns) ≡ outermost k ns
 unfolding outermost
 outermost-cons k n ns h = let q : suc (length ns) - k ≡ suc (length ns - k) = omega arith in rw q
 
@@ -215,7 +217,7 @@ module _ (ns : List Name) (kind : Kind) (r : Row Node) (rs : List (Row Node)) (l
         whole = no-siblings (suc (length ns)) (omega arith);
         childless = λ f. refl;
         left = rw (s .split) (left-further ns k (s .forest) (s .outer) l (omega arith) (s .whole)
-          (s .leading (innermost (outermost (suc k) ns)) (rw (← e) (f .beside g))) (s .left));
+            (s .leading (innermost (outermost (suc k) ns)) (rw (← e) (f .beside g))) (s .left));
       })
       (λ t.
       let g = leb-false (r .depth) (length ns) t in
@@ -241,7 +243,7 @@ below ns kind [] l v h = record {
   childless = λ f. unfold is-empty in refl;
   left = left-none ns l;
 }
-below ns kind (r ∷ rs) l v h = 
+below ns kind (r ∷ rs) l v h =
     let above = outermost (r .depth - 1) ns in
     let i = and-both (follows ns kind r) (in-order (r .name ∷ above) (r .here .kind) rs) h in
     let f = follows-parts ns kind r (i .0) in

@@ -1,80 +1,32 @@
 -- A row's bytes pass field by field just if they are those of a row with a node in range.
 --
--- In order: an entry path's text is what it was read from; bytes written and read; the parts of a row; the whole row.
+-- In order: bytes written and read; the parts of a row; the whole row.
 use mathlib.Core.Path.{_≡_, refl, sym, _∙_, ap, ap₂}
-use mathlib.Core.List.{List, [], _∷_, _++_, append-assoc, append-nil}
+use mathlib.Core.List.{List, [], _∷_, _++_}
 use mathlib.Core.Option.{Option, none, some}
-use mathlib.Core.Bool.{Bool, true, false, _&&_, _||_, cond}
+use mathlib.Core.Bool.{Bool, true, false, _&&_, _||_, and-false}
 use Prim.Native.Nat.{ℕ, zero, suc, _+_, _-_, _*_, _/_, _%_, _≤_, _<_}
 use native.Mathlib.Omega.{arith}
 use lib.Dec.{eqb, leb, ltb}
 use lib.ListN.{length, getD, take, drop, replicate, take-append-drop, length-drop, length-append}
 use lib.Seq.{take-add, drop-drop, drop-cons, length-take-le, take-nil, take-all}
-use borrow.Author.Tests.{eqb-true, eq-eqb, eqb-false, ne-eqb, leb-true}
-use Rattle.accounts.specs.Cases.{case, and-both, contra}
-use Rattle.syntax.specs.Text.{Text, bytes, same-text, every, pieces, joined}
-use Rattle.syntax.specs.TextLaws.{same-text-refl, same-text-sound, every-append}
-use Rattle.syntax.specs.PartsLaws.{joined-pieces}
-use Rattle.syntax.specs.Form.{_>>=_, _>>_, check}
-use Rattle.syntax.specs.FormLaws.{no-answer, both-read, checked, answered}
+use borrow.Author.Tests.{eqb-true, eq-eqb, eqb-false, ne-eqb}
+use Rattle.accounts.specs.Cases.{case}
+use Rattle.syntax.specs.Text.{Text, bytes, same-text, every}
+use Rattle.syntax.specs.TextLaws.{same-text-refl, every-append}
+use Rattle.syntax.specs.Form.{_>>=_}
 use Rattle.syntax.specs.Number.{is-mode}
 use Rattle.syntax.specs.Field.{is-content}
 use Rattle.syntax.specs.Setup.{is-some}
-use Rattle.syntax.specs.Path.{Name, Path, root, _▹_, Entry-path, entry-location, is-name, most-names, extended, names-from-top, path, entry-at, entry-path, names-text, path-text, entry-text}
-use Rattle.syntax.specs.PathLaws.{entry-at-sound, entry-is-entry}
-use Rattle.tree.specs.declared.Kind.{Kind}
-use Rattle.tree.specs.declared.Kind.the-variants.{File, Directory}
-use Rattle.tree.specs.Node.{Tag, Node}
+use Rattle.syntax.specs.Path.{Entry-path, entry-path}
+use Rattle.syntax.specs.PathLaws.{entry-is-entry}
 use Rattle.tree.specs.WellFormed.{last-revision, is-tag, fits-kind, is-node}
 use Rattle.tree.specs.Fields.{two-bytes, number-at, padded, unpadded, text-at}
 use Rattle.tree.specs.FieldsLaws.{length-padded, length-two-bytes}
 use Rattle.tree.specs.Encoding.{kind-byte, kind-of, tag-bytes, tag-of, row-bytes, row-of}
 use Rattle.soundness.specs.Sound.{is-row, all-zero}
-use Rattle.soundness.specs.RowTest.{zeros-at, is-filled, has-numbers, has-tag, has-content, row-test}
-
--- ---- an entry path's text
-
--- names, each behind a `/`
-slashed : List Name → Text
-slashed [] = []
-slashed (n ∷ ns) = 47 ∷ (n ++ slashed ns)
-
-joined-slashed : (n : Name) (ns : List Name) → joined 47 (n ∷ ns) ≡ n ++ slashed ns
-unfolding joined slashed
-joined-slashed n [] = sym (append-nil n)
-joined-slashed n (m ∷ ns) = ap (λ (t : Text). n ++ (47 ∷ t)) (joined-slashed m ns)
-
-names-text-extended : (p : Path) (ns : List Name) → names-text (extended p ns) ≡ names-text p ++ slashed ns
-unfolding extended names-text slashed
-names-text-extended p [] = sym (append-nil (names-text p))
-names-text-extended p (n ∷ ns) = names-text-extended (p ▹ n) ns ∙ append-assoc (names-text p) (47 ∷ n) (slashed ns)
-
-path-text-extended : (p : Path) (n : Name) (ns : List Name) → path-text (extended p (n ∷ ns)) ≡ names-text (extended p (n ∷ ns))
-unfolding extended path-text
-path-text-extended p n [] = refl
-path-text-extended p n (m ∷ ns) = path-text-extended (p ▹ n) m ns
-
-text-of-names : (l : List Text) (p : Path) → names-from-top l ≡ some p → path-text p ≡ joined 47 l
-unfolding names-from-top every extended
-text-of-names [] p e = no-answer e
-text-of-names ((b ∷ t) ∷ ns) p e = no-answer e
-text-of-names ([] ∷ []) p e = contra (checked (true && (leb 1 0 && leb 0 most-names)) (some root) p e .0) refl
-text-of-names ([] ∷ (n ∷ ns)) p e =
-    let i = checked (every is-name (n ∷ ns) && (leb 1 (length (n ∷ ns)) && leb (length (n ∷ ns)) most-names)) (some (extended root (n ∷ ns))) p e in
-    rw (answered (i .1)) (path-text-extended root n ns ∙ names-text-extended root (n ∷ ns) ∙ unfold names-text in sym (joined-slashed [] (n ∷ ns)))
-
-text-of-path : (t : Text) (p : Path) → path t ≡ some p → path-text p ≡ t
-unfolding path
-text-of-path t p e = case (same-text t (bytes "/"))
-    (λ i. let q : some root ≡ some p = rw i at e in rw (answered q, same-text-sound t (bytes "/") i) (unfold path-text in refl))
-    (λ i. text-of-names (pieces 47 t) p (rw i at e) ∙ joined-pieces 47 t)
-
--- the text of an entry path is what it was read from
-text-of-entry : (t : Text) (e : Entry-path) → entry-path t ≡ some e → entry-text e ≡ t
-unfolding entry-path entry-text
-text-of-entry t e h =
-    let i = both-read (path t) entry-at e h in
-    ap path-text (entry-at-sound (i .0) e (i .2)) ∙ text-of-path t (i .0) (i .1)
+use Rattle.soundness.specs.EntryTextLaws.{text-of-entry}
+use Rattle.soundness.specs.Tests.{zeros-at, is-filled, has-numbers, has-tag, has-content, row-test}
 
 -- ---- bytes written and read
 
@@ -159,10 +111,6 @@ same-number i x h l =
     ap₂ (λ (u v : ℕ). u ∷ (v ∷ [])) a b ∙ sym q
 
 -- ---- tests in another order
-
-and-false : (a : Bool) → (a && false) ≡ false
-and-false true = refl
-and-false false = refl
 
 and-swap : (a b : Bool) → (a && (b && true)) ≡ (b && a)
 and-swap true true = refl

@@ -54,7 +54,7 @@ in-order names kind (r ∷ rs) = follows names kind r && in-order (r .name ∷ o
 unfoldable pub is-top : Row Node → Bool
 is-top r = (eqb (r .depth) 0 && eqb (length (r .name)) 0) && is-directory (r .here .kind)
 
--- whether rows are `/` and others in order behind it
+-- whether rows are `/` and others in order behind it; at least `/` must be there
 unfoldable pub form-tree : List (Row Node) → Bool
 form-tree [] = false
 form-tree (r ∷ rs) = is-top r && in-order [] (r .here .kind) rs
@@ -62,10 +62,11 @@ form-tree (r ∷ rs) = is-top r && in-order [] (r .here .kind) rs
 unfoldable pub all-zero : List ℕ → Bool
 all-zero l = every (λ b. eqb b 0) l
 
--- whether the number of rows is written in its two bytes and not more than there may be
+-- whether the number of rows stands in its two bytes as it is written, and is not too large
 unfoldable pub is-count : List ℕ → Bool
 is-count b = leb (row-count b) most-nodes && same-text (two-bytes (row-count b)) (take 2 b)
 
+-- whether bytes are as many as a tree has, with a number of rows, the rows of a tree, and zeros behind them
 unfoldable pub is-sound : List ℕ → Bool
 is-sound b =
     (eqb (length b) tree-width && is-count b)

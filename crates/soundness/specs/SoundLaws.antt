@@ -2,7 +2,7 @@
 use mathlib.Core.Path.{_≡_, refl, sym, _∙_, ap, ap₂}
 use mathlib.Core.List.{List, [], _∷_, _++_, append-assoc}
 use mathlib.Core.Option.{Option, none, some}
-use mathlib.Core.Bool.{Bool, true, false, _&&_}
+use mathlib.Core.Bool.{true, _&&_}
 use Prim.Native.Nat.{ℕ, zero, suc, _+_, _-_, _*_, _≤_}
 use native.Mathlib.Omega.{arith}
 use native.Mathlib.Nat.{zero-mul, suc-mul, add-comm}
@@ -17,7 +17,7 @@ use Rattle.syntax.specs.TextLaws.{same-text-refl, same-text-sound}
 use Rattle.syntax.specs.FormLaws.{no-answer}
 use Rattle.tree.specs.Forest.{Place}
 use Rattle.tree.specs.Node.{is-directory, Node}
-use Rattle.tree.specs.Rows.{Row, flatten, rows}
+use Rattle.tree.specs.Rows.{Row, rows}
 use Rattle.tree.specs.RowLaws.{length-rows}
 use Rattle.tree.specs.WellFormed.{most-nodes, is-node, is-tree}
 use Rattle.tree.specs.WellFormedLaws.{place-parts, place-of-parts, tree-parts, tree-of-parts, most-nodes-is}
@@ -53,9 +53,10 @@ stretches-are (suc n) x h =
     let s = take row-width x in
     let i = and-both (is-row s) (every is-row (all-from row-width (λ s. s) n (drop row-width x))) h in
     let j = and-both (is-node (row-of s .here)) (same-text (row-bytes (row-of s)) s) (i .0) in
-    let k = stretches-are n (drop row-width x) (i .1) in
-    (rw (j .0) (k .0),
-    ap₂ _++_ (same-text-sound (row-bytes (row-of s)) s (j .1)) (k .1) ∙ sym (take-add row-width (n * row-width) x) ∙ ap (λ (k : ℕ). take k x) (add-comm row-width (n * row-width) ∙ sym (suc-mul n row-width)))
+    let k = stretches-are n (drop row-width x) (i .1) in (
+      rw (j .0) (k .0),
+      ap₂ _++_ (same-text-sound (row-bytes (row-of s)) s (j .1)) (k .1) ∙ sym (take-add row-width (n * row-width) x) ∙ ap (λ (k : ℕ). take k x) (add-comm row-width (n * row-width) ∙ sym (suc-mul n row-width)),
+    )
 
 -- the bytes of rows in range, one after another, are those of each
 stretches-of : (rs : List (Row Node)) (Q : List ℕ) → every fits rs ≡ true
@@ -92,13 +93,18 @@ tree-of-form (r ∷ rs) h v l =
     let n = no-name (r .name) (eqb-true (length (r .name)) 0 (m .1)) in
     let e : rows t ≡ r ∷ rs = ap₂ _∷_ (λ i. record { depth = sym d i; name = sym n i; here = r .here }) (sym (f .1 .0)) in
     let q = length-rows t in
-    let c : length (rows t) ≡ length (r ∷ rs) = ap length e in
-    (t, (tree-of-parts t (record {
-      directory = j .1;
-      whole = place-of-parts t (record { own = w .0; childless = λ x. contra (j .1) x; forest = f .1 .1 .0 });
-      low = f .1 .1 .1;
-      few = omega arith;
-    }), e))
+    let c : length (rows t) ≡ length (r ∷ rs) = ap length e in (
+      t,
+      (
+        tree-of-parts t (record {
+          directory = j .1;
+          whole = place-of-parts t (record { own = w .0; childless = λ x. contra (j .1) x; forest = f .1 .1 .0 });
+          low = f .1 .1 .1;
+          few = omega arith;
+        }),
+        e,
+      ),
+    )
 
 -- the rows of a well-formed tree form one
 form-of-tree : (t : Place Node) → is-tree t ≡ true → form-tree (rows t) ≡ true
@@ -147,6 +153,20 @@ unfolding is-sound is-count most-nodes row-width tree-width
 sound-of-parts b s =
     rw (eq-eqb (length b) 59394 (s .long), le-leb (row-count b) 256 (s .few), ← s .count, same-text-refl (two-bytes (row-count b)), s .each, s .form) (s .rest)
 
+-- unused bytes that are all zero
+unused : (b : List ℕ) (n : ℕ) → length b ≡ 59394 → n ≤ 256 → all-zero (drop (2 + 232 * n) b) ≡ true → drop (2 + 232 * n) b ≡ replicate ((256 - n) * 232) 0
+unused b n l f z =
+    let e : length (drop (2 + 232 * n) b) ≡ (256 - n) * 232 = length-drop (2 + 232 * n) b ∙ omega arith in
+    zeros-are (drop (2 + 232 * n) b) z ∙ ap (λ (k : ℕ). replicate k 0) e
+
+-- the number of rows, the rows and the unused bytes are all bytes
+assembled : (b Z : List ℕ) (n : ℕ) → two-bytes n ≡ take 2 b → drop (2 + 232 * n) b ≡ Z → two-bytes n ++ (take (n * 232) (drop 2 b) ++ Z) ≡ b
+assembled b Z n c z =
+    let q : 2 + n * 232 ≡ 2 + 232 * n = omega arith in
+    let d : drop (n * 232) (drop 2 b) ≡ Z = drop-drop (n * 232) 2 b ∙ ap (λ (k : ℕ). drop k b) q ∙ z in
+    let e : take (n * 232) (drop 2 b) ++ Z ≡ drop 2 b = rw (← d) (take-append-drop (n * 232) (drop 2 b)) in
+    ap₂ _++_ c e ∙ take-append-drop 2 b
+
 -- bytes that pass are those of a well-formed tree
 pub sound-encodes : (b : List ℕ) → is-sound b ≡ true → (t : Place Node) × ((is-tree t ≡ true) × (encode-tree t ≡ b))
 unfolding encode-tree most-nodes row-width row-stretches all-rows
@@ -156,20 +176,15 @@ sound-encodes b h =
     let i = stretches-are n (drop 2 b) (s .each) in
     let c = length-all-rows b in
     let t = tree-of-form (all-rows b) (s .form) (i .0) (omega (arith, s .few)) in
-    let R = take (n * 232) (drop 2 b) in
-    let D = drop (2 + 232 * n) b in
-    let E : List (Row Node) → List ℕ = λ rs. two-bytes (length rs) ++ (all-bytes row-bytes rs ++ replicate ((256 - length rs) * 232) 0) in
-    let l : length D ≡ (256 - n) * 232 = length-drop (2 + 232 * n) b ∙ omega (arith, s .long, s .few) in
-    let z : replicate ((256 - n) * 232) 0 ≡ D = sym (zeros-are D (s .rest) ∙ ap (λ (k : ℕ). replicate k 0) l) in
-    let q : 2 + 232 * n ≡ 2 + n * 232 = omega arith in
-    let d : D ≡ drop (n * 232) (drop 2 b) = ap (λ (k : ℕ). drop k b) q ∙ sym (drop-drop (n * 232) 2 b) in
-    let e : E (all-rows b) ≡ two-bytes n ++ (R ++ drop (n * 232) (drop 2 b)) =
-    ap (λ (k : ℕ). two-bytes k ++ (all-bytes row-bytes (all-rows b) ++ replicate ((256 - k) * 232) 0)) c
-    ∙ ap (λ (B : List ℕ). two-bytes n ++ (B ++ replicate ((256 - n) * 232) 0)) (i .1)
-    ∙ ap (λ (B : List ℕ). two-bytes n ++ (R ++ B)) (z ∙ d) in
-    let f : two-bytes n ++ (R ++ drop (n * 232) (drop 2 b)) ≡ b =
-    ap₂ _++_ (s .count) (take-append-drop (n * 232) (drop 2 b)) ∙ take-append-drop 2 b in
-    (t .0, (t .1 .0, ap E (t .1 .1) ∙ e ∙ f))
+    let E : ℕ → List ℕ → List ℕ = λ k B. two-bytes k ++ (B ++ replicate ((256 - k) * 232) 0) in (
+      t .0,
+      (
+        t .1 .0,
+        ap (λ (rs : List (Row Node)). E (length rs) (all-bytes row-bytes rs)) (t .1 .1)
+            ∙ ap₂ E c (i .1)
+            ∙ assembled b (replicate ((256 - n) * 232) 0) n (s .count) (unused b n (s .long) (s .few) (s .rest)),
+      ),
+    )
 
 module _ (t : Place Node) (h : is-tree t ≡ true) where
   -- the bytes of a well-formed tree begin with the number of its rows

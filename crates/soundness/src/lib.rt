@@ -1,1 +1,59 @@
-// Whether a lent buffer holds a well-formed tree.
+// Whether a lent buffer holds a well-formed tree; docs/FORMAT.md has the layout.
+ghost use mathlib.Core.Path.{_≡_};
+ghost use lib.ListN.{length};
+ghost use Rattle.syntax.specs.Setup.{is-some};
+ghost use Rattle.tree.specs.Encoding.{decode-tree};
+ghost use Rattle.tree.specs.RowAt.{row-at};
+ghost use Rattle.soundness.specs.Sound.{is-top};
+
+mod order;
+mod row;
+
+use order::in_order;
+use row::ROW;
+use row::is_directory;
+use row::is_row;
+use row::is_zero;
+
+// The bytes of a tree.
+const TREE: usize = 59394;
+
+// Whether the first row is that of `/`.
+fn is_top(tree: &[u8]) -> bool
+    requires { ⌜ length (now tree) ≡ 59394 ⌝ }
+    ensures { λ r. ⌜ r ≡ is-top (row-at (now (tree .entry)) 0) ⌝ }
+{
+    if tree::depth_at(tree, 0) != 0 {
+        return false;
+    }
+    if tree::name_at(tree, 0).len() != 0 {
+        return false;
+    }
+    is_directory(tree::kind_at(tree, 0))
+}
+
+// Whether a buffer holds a well-formed tree.
+pub fn holds_tree(tree: &[u8]) -> bool
+    ensures { λ r. ⌜ r ≡ is-some (decode-tree (now (tree .entry))) ⌝ }
+{
+    if tree.len() != TREE {
+        return false;
+    }
+    let n = tree::count(tree);
+    if n == 0 {
+        return false;
+    }
+    if 256 < n {
+        return false;
+    }
+    if !is_row(tree, 0) {
+        return false;
+    }
+    if !is_top(tree) {
+        return false;
+    }
+    if !in_order(tree, n) {
+        return false;
+    }
+    is_zero(tree, 2 + ROW * n, TREE)
+}

@@ -1,17 +1,20 @@
--- A row's bytes tested field by field, as the code does.
+-- What the code tests: a row's bytes field by field, and the rows from one on.
 use mathlib.Core.List.{List}
 use mathlib.Core.Bool.{Bool, _&&_, _||_, cond}
 use Prim.Native.Nat.{ℕ, _+_, _-_}
 use lib.Dec.{eqb, leb, ltb}
 use lib.ListN.{length, getD, take, drop}
 use Rattle.syntax.specs.Number.{is-mode}
-use Rattle.syntax.specs.Path.{entry-path}
+use Rattle.syntax.specs.Text.{every}
+use Rattle.syntax.specs.Path.{Name, entry-path}
 use Rattle.syntax.specs.Field.{is-content}
 use Rattle.syntax.specs.Setup.{is-some}
 use Rattle.tree.specs.WellFormed.{last-revision, fits-kind}
 use Rattle.tree.specs.Fields.{number-at, text-at}
 use Rattle.tree.specs.Encoding.{kind-of}
-use Rattle.soundness.specs.Sound.{all-zero}
+use Rattle.tree.specs.declared.Kind.{Kind}
+use Rattle.tree.specs.RowAt.{all-rows}
+use Rattle.soundness.specs.Sound.{is-row, row-stretches, in-order, all-zero}
 
 -- so many bytes from a place are zero
 unfoldable pub zeros-at : ℕ → ℕ → List ℕ → Bool
@@ -39,3 +42,7 @@ has-content x =
 
 unfoldable pub row-test : List ℕ → Bool
 row-test x = (has-numbers x && is-filled 8 8 x) && (has-tag x && has-content x)
+
+-- the rows from one on are sound each and stand in order behind another of these names and this kind
+unfoldable pub rest-in-order : List ℕ → ℕ → List Name → Kind → Bool
+rest-in-order b i names kind = every is-row (drop i (row-stretches b)) && in-order names kind (drop i (all-rows b))

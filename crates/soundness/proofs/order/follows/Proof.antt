@@ -1,0 +1,144 @@
+-- `soundness::order::follows` meets its contract: each return by the name, the depth, the kind of the row before, or the order of the names.
+use mathlib.Core.Path.{_≡_, sym, _∙_, ap}
+use Prim.Native.Nat.{_-_}
+use native.Mathlib.Omega.{arith}
+use denote.Ref.{now}
+use Rattle.syntax.specs.PartsLaws.{answers-false, answers-true}
+use Rattle.syntax.specs.Path.{is-name}
+use Rattle.tree.specs.Node.{is-directory}
+use Rattle.tree.specs.RowAt.{row-at}
+use Rattle.tree.specs.RowAtLaws.{is-before, order-tells}
+use Rattle.soundness.specs.Sound.{may-follow}
+use Rattle.soundness.specs.OrderTestLaws.{follow-name, follow-top, follow-far, follow-below, follow-beside}
+use borrow.Author.Needs.{needs}
+use Rattle.soundness.proofs.order.follows.Statement.{statement}
+use Rattle.soundness.proofs.order.follows.Tie as tie
+
+depth-at-requires : tie.Need-depth-at-requires
+depth-at-requires c κs = search needs
+
+sub-depth-at : tie.Need-sub-depth-at
+sub-depth-at c = search needs
+
+depth-at-requires-2 : tie.Need-depth-at-requires-2
+depth-at-requires-2 c κs = search needs
+
+name-at-requires : tie.Need-name-at-requires
+name-at-requires c κs = search needs
+
+is-name-requires : tie.Need-is-name-requires
+is-name-requires c κs = search needs
+
+returns : tie.Need-returns
+returns c =
+    let a = c .before .before .before .before .before .before .args in
+    let t = now (a .tree) in
+    let p = row-at t (a .i - 1) in
+    sym (follow-name (p .depth) (p .here .kind) (row-at t (a .beside) .name) (row-at t (a .i)) (ap is-name (sym (c .before .before .name-at .ensures)) ∙ answers-false (c .before .is-name .ensures) (c .if1 .taken)))
+
+returns-2 : tie.Need-returns-2
+returns-2 c =
+    let a = c .before .before .before .before .before .before .before .args in
+    let t = now (a .tree) in
+    let p = row-at t (a .i - 1) in
+    sym (follow-top (p .depth) (p .here .kind) (row-at t (a .beside) .name) (row-at t (a .i)) (omega arith))
+
+sub-if4 : tie.Need-sub-if4
+sub-if4 c = search needs
+
+returns-3 : tie.Need-returns-3
+returns-3 c =
+    let a = c .before .before .before .before .before .before .before .before .before .args in
+    let t = now (a .tree) in
+    let p = row-at t (a .i - 1) in
+    sym (follow-far (p .depth) (p .here .kind) (row-at t (a .beside) .name) (row-at t (a .i)) (omega arith))
+
+sub-kind-at : tie.Need-sub-kind-at
+sub-kind-at c = search needs
+
+kind-at-requires : tie.Need-kind-at-requires
+kind-at-requires c κs = search needs
+
+is-directory-requires : tie.Need-is-directory-requires
+is-directory-requires c κs = search needs
+
+returns-4 : tie.Need-returns-4
+returns-4 c =
+    let a = c .before .before .before .before .before .before .before .before .before .before .before .args in
+    let t = now (a .tree) in
+    let p = row-at t (a .i - 1) in
+    let name = ap is-name (sym (c .before .before .before .before .before .before .before .name-at .ensures)) ∙ answers-true (c .before .before .before .before .before .before .is-name .ensures) (c .before .before .before .before .before .if1 .left) in
+    c .is-directory .ensures ∙ ap is-directory (c .before .kind-at .ensures) ∙ sym (follow-below (p .depth) (p .here .kind) (row-at t (a .beside) .name) (row-at t (a .i)) name (omega arith) (omega arith) (omega arith))
+
+name-at-requires-2 : tie.Need-name-at-requires-2
+name-at-requires-2 c κs = search needs
+
+compare-requires : tie.Need-compare-requires
+compare-requires c κs = search needs
+
+enum-told : tie.Need-enum-told
+enum-told c = search needs
+
+enum-told-2 : tie.Need-enum-told-2
+enum-told-2 c = search needs
+
+enum-told-3 : tie.Need-enum-told-3
+enum-told-3 c = search needs
+
+abbrev start : tie.After-compare → tie.Start
+start m = m .before .before .before .before .before .before .before .before .before .before
+
+-- beside another row it goes by the order of the names
+by-order : (m : tie.After-compare)
+    → (let a = start m .args in
+    let t = now (a .tree) in
+    let p = row-at t (a .i - 1) in
+    may-follow (p .depth) (p .here .kind) (row-at t (a .beside) .name) (row-at t (a .i))) ≡ is-before (m .compare .result)
+by-order m =
+    let a = start m .args in
+    let t = now (a .tree) in
+    let p = row-at t (a .i - 1) in
+    let r = row-at t (a .i) in
+    let s = row-at t (a .beside) .name in
+    let l = m .before .before .before .before in
+    let name = ap is-name (sym (l .before .before .name-at .ensures)) ∙ answers-true (l .before .is-name .ensures) (l .if1 .left) in
+    let order = rw (m .before .name-at2 .ensures, l .before .before .name-at .ensures) at (m .compare .ensures) in
+    follow-beside (p .depth) (p .here .kind) s r name (omega arith) (omega arith) (omega arith) ∙ order-tells s (r .name) ∙ ap is-before (sym order)
+
+returns-5 : tie.Need-returns-5
+unfolding is-before
+returns-5 c = sym (by-order ((c .before .before)) ∙ ap is-before (c .enum-told .given .1))
+
+returns-6 : tie.Need-returns-6
+unfolding is-before
+returns-6 c = sym (by-order ((c .before .before)) ∙ ap is-before (c .enum-told2 .given .1))
+
+returns-7 : tie.Need-returns-7
+unfolding is-before
+returns-7 c = sym (by-order ((c .before .before)) ∙ ap is-before (c .enum-told3 .given .1))
+
+pub follows-spec : {M : Type 1} → statement M
+follows-spec =
+    tie.close
+    (tie.spec
+    depth-at-requires
+    sub-depth-at
+    depth-at-requires-2
+    name-at-requires
+    is-name-requires
+    returns
+    returns-2
+    sub-if4
+    returns-3
+    sub-kind-at
+    kind-at-requires
+    is-directory-requires
+    returns-4
+    name-at-requires-2
+    compare-requires
+    enum-told
+    enum-told-2
+    enum-told-3
+    returns-5
+    returns-6
+    returns-7)

@@ -1,0 +1,157 @@
+-- What the code goes by where it tests one row: each test by the bytes at the row's place among all.
+use mathlib.Core.Path.{_≡_, _∙_, ap}
+use mathlib.Core.List.{List}
+use mathlib.Core.Bool.{true, false, _||_, and-false}
+use Prim.Native.Nat.{ℕ, _+_, _-_, _*_, _≤_, _<_}
+use native.Mathlib.Omega.{arith}
+use lib.Dec.{eqb, leb, ltb}
+use lib.ListN.{length, getD, take, drop, length-drop, List·getD-eq-default}
+use lib.Seq.{length-take-le, drop-drop}
+use borrow.Author.Tests.{lt-ltb, le-ltb, ltb-true, ltb-false}
+use Rattle.accounts.specs.Cases.{case}
+use Rattle.syntax.specs.Number.{is-mode}
+use Rattle.syntax.specs.Path.{entry-path}
+use Rattle.syntax.specs.Field.{is-content}
+use Rattle.syntax.specs.Setup.{is-some}
+use Rattle.tree.specs.WellFormed.{last-revision, fits-kind}
+use Rattle.tree.specs.Fields.{text-at}
+use Rattle.tree.specs.Encoding.{row-width, row-of}
+use Rattle.tree.specs.RowAt.{row-bytes-at, row-at, tag-text-at, tag-number-at}
+use Rattle.tree.specs.RowAtLaws.{part-of-take, byte-in-row}
+use Rattle.soundness.specs.Sound.{is-row, all-zero}
+use Rattle.soundness.specs.Tests.{zeros-at, is-filled, has-numbers, has-tag, has-content, row-test}
+use Rattle.soundness.specs.RowTestLaws.{length-text-at, row-test-is}
+
+module _ (b : List ℕ) (i : ℕ) where
+  -- zeros of a row
+  zeros-in-row : (k w : ℕ) → k + w ≤ 232 → zeros-at k w (row-bytes-at b i) ≡ zeros-at (2 + 232 * i + k) w b
+  unfolding zeros-at row-bytes-at row-width
+  zeros-in-row k w h = ap all-zero (part-of-take k w 232 (drop (2 + 232 * i) b) h ∙ ap (take w) (drop-drop k (2 + 232 * i) b))
+
+  -- zeros of a row from one place up to another
+  zeros-between : (k l : ℕ) → k ≤ l → l ≤ 232 → zeros-at k (l - k) (row-bytes-at b i) ≡ zeros-at (2 + 232 * i + k) (2 + 232 * i + l - (2 + 232 * i + k)) b
+  zeros-between k l h j =
+      let q : l - k ≡ 2 + 232 * i + l - (2 + 232 * i + k) = omega arith in
+      zeros-in-row k (l - k) (omega arith) ∙ ap (λ (n : ℕ). zeros-at (2 + 232 * i + k) n b) q
+
+  -- the zeros behind n bytes at a place
+  zeros-behind : (k l n : ℕ) → k + n ≤ l → l ≤ 232 → zeros-at (k + n) (l - (k + n)) (row-bytes-at b i) ≡ zeros-at (2 + 232 * i + k + n) (2 + 232 * i + l - (2 + 232 * i + k + n)) b
+  zeros-behind k l n h j =
+      let q : 2 + 232 * i + (k + n) ≡ 2 + 232 * i + k + n = omega arith in
+      zeros-between (k + n) l h j ∙ ap (λ (m : ℕ). zeros-at m (2 + 232 * i + l - m) b) q
+
+  -- the numbers: kind
+  pub numbers-kind : (eqb (getD b (2 + 232 * i + 1) 0) 100 || eqb (getD b (2 + 232 * i + 1) 0) 102) ≡ false → has-numbers (row-bytes-at b i) ≡ false
+  unfolding has-numbers
+  numbers-kind e = rw (ap (λ (k : ℕ). eqb k 100 || eqb k 102) (byte-in-row b i 1 (omega arith)) ∙ e)
+
+  -- owner
+  pub numbers-owner : 23 < getD b (2 + 232 * i + 2) 0 → has-numbers (row-bytes-at b i) ≡ false
+  unfolding has-numbers
+  numbers-owner h = simp (le-ltb (getD (row-bytes-at b i) 2 0) 24 (omega (arith, byte-in-row b i 2 (omega arith))), and-false)
+
+  -- group
+  pub numbers-group : 24 < getD b (2 + 232 * i + 3) 0 → has-numbers (row-bytes-at b i) ≡ false
+  unfolding has-numbers
+  numbers-group h = simp (le-ltb (getD (row-bytes-at b i) 3 0) 25 (omega (arith, byte-in-row b i 3 (omega arith))), and-false)
+
+  -- mode
+  pub numbers-mode : is-mode (row-at b i .here .mode) ≡ false → has-numbers (row-bytes-at b i) ≡ false
+  unfolding has-numbers row-at row-of
+  numbers-mode e = simp (e, and-false)
+
+  -- and revision
+  pub numbers-revision : (eqb (getD b (2 + 232 * i + 1) 0) 100 || eqb (getD b (2 + 232 * i + 1) 0) 102) ≡ true → getD b (2 + 232 * i + 2) 0 ≤ 23 → getD b (2 + 232 * i + 3) 0 ≤ 24
+      → is-mode (row-at b i .here .mode) ≡ true → has-numbers (row-bytes-at b i) ≡ leb (row-at b i .here .revision) 9999
+  unfolding has-numbers row-at row-of last-revision
+  numbers-revision k o g m =
+      rw (
+        ap (λ (k : ℕ). eqb k 100 || eqb k 102) (byte-in-row b i 1 (omega arith)) ∙ k,
+        lt-ltb (getD (row-bytes-at b i) 2 0) 24 (omega (arith, byte-in-row b i 2 (omega arith))),
+        lt-ltb (getD (row-bytes-at b i) 3 0) 25 (omega (arith, byte-in-row b i 3 (omega arith))),
+        m,
+      )
+
+  -- a tag that is no entry path
+  pub tag-none : is-some (entry-path (tag-text-at b i)) ≡ false → has-tag (row-bytes-at b i) ≡ zeros-at (2 + 232 * i + 16) (2 + 232 * i + 72 - (2 + 232 * i + 16)) b
+  unfolding has-tag tag-text-at
+  tag-none e = rw e (zeros-between 16 72 (omega arith) (omega arith))
+
+  -- the content: its bytes
+  pub content-bytes : is-content (row-at b i .here .content) ≡ false → has-content (row-bytes-at b i) ≡ false
+  unfolding has-content row-at row-of
+  content-bytes e = rw e
+
+  -- what the kind allows
+  pub content-kind : fits-kind (row-at b i .here .kind) (row-at b i .here .mode) (row-at b i .here .content) ≡ false → has-content (row-bytes-at b i) ≡ false
+  unfolding has-content row-at row-of
+  content-kind e = simp (e, and-false)
+
+  module _ (l : length b ≡ 59394) (h : i < 256) where
+    length-row : length (row-bytes-at b i) ≡ 232
+    unfolding row-bytes-at row-width
+    length-row = length-take-le 232 (drop (2 + 232 * i) b) (omega (arith, length-drop (2 + 232 * i) b))
+
+    -- no text of a row is longer than its field
+    pub text-fits : (k w : ℕ) → k + w ≤ 232 → length (text-at k w (row-bytes-at b i)) ≤ w
+    text-fits k w j = length-text-at k w (row-bytes-at b i) (omega (arith, length-row))
+
+    -- a field is filled up with zeros
+    pub filled-in-row : (k w n : ℕ) → k + w ≤ 232 → n ≡ length (text-at k w (row-bytes-at b i))
+        → is-filled k w (row-bytes-at b i) ≡ zeros-at (2 + 232 * i + k + n) (2 + 232 * i + (k + w) - (2 + 232 * i + k + n)) b
+    unfolding is-filled
+    filled-in-row k w n j e =
+        let f = text-fits k w j in
+        let q : w - n ≡ k + w - (k + n) = omega arith in
+        rw (← e) (ap (λ (m : ℕ). zeros-at (k + n) m (row-bytes-at b i)) q ∙ zeros-behind k (k + w) n (omega arith) j)
+
+    -- an entry path that is not filled up
+    pub tag-unfilled : (n : ℕ) → is-some (entry-path (tag-text-at b i)) ≡ true → n ≡ length (tag-text-at b i)
+        → zeros-at (2 + 232 * i + 16 + n) (2 + 232 * i + 70 - (2 + 232 * i + 16 + n)) b ≡ false → has-tag (row-bytes-at b i) ≡ false
+    unfolding has-tag tag-text-at
+    tag-unfilled n s e z = rw s (rw (filled-in-row 16 54 n (omega arith) e ∙ z))
+
+    -- and one that is
+    pub tag-filled : (n : ℕ) → is-some (entry-path (tag-text-at b i)) ≡ true → n ≡ length (tag-text-at b i)
+        → zeros-at (2 + 232 * i + 16 + n) (2 + 232 * i + 70 - (2 + 232 * i + 16 + n)) b ≡ true → has-tag (row-bytes-at b i) ≡ leb (tag-number-at b i) 9999
+    unfolding has-tag tag-text-at tag-number-at last-revision
+    tag-filled n s e z = rw s (rw (filled-in-row 16 54 n (omega arith) e ∙ z))
+
+    -- the content and the zeros behind it
+    pub content-rest : (n : ℕ) → is-content (row-at b i .here .content) ≡ true
+        → fits-kind (row-at b i .here .kind) (row-at b i .here .mode) (row-at b i .here .content) ≡ true → n ≡ length (row-at b i .here .content)
+        → has-content (row-bytes-at b i) ≡ zeros-at (2 + 232 * i + 72 + n) (2 + 232 * i + 232 - (2 + 232 * i + 72 + n)) b
+    unfolding has-content row-at row-of
+    content-rest n c k e =
+        let f = text-fits 72 80 (omega arith) in
+        let q : 160 - n ≡ 232 - (72 + n) = omega arith in
+        rw (c, k) (rw (← e) (ap (λ (m : ℕ). zeros-at (72 + n) m (row-bytes-at b i)) q ∙ zeros-behind 72 232 n (omega arith) (omega arith)))
+
+    -- the fields together are the row
+    pub fields-are-row : ((k : ℕ) → getD b k 0 < 256) → row-test (row-bytes-at b i) ≡ is-row (row-bytes-at b i)
+    fields-are-row small = row-test-is (row-bytes-at b i) length-row (λ k. case (ltb k 232)
+        (λ t. omega (arith, byte-in-row b i k (ltb-true k 232 t), small (2 + 232 * i + k)))
+        (λ t. omega (arith, List·getD-eq-default (row-bytes-at b i) 0 {n = k} (omega (arith, length-row, ltb-false k 232 t)))))
+
+-- ---- the fields together
+
+module _ (x : List ℕ) where
+  -- the numbers fail
+  pub test-numbers : has-numbers x ≡ false → row-test x ≡ false
+  unfolding row-test
+  test-numbers e = rw e
+
+  -- the name
+  pub test-name : is-filled 8 8 x ≡ false → row-test x ≡ false
+  unfolding row-test
+  test-name e = simp (e, and-false)
+
+  -- the tag
+  pub test-tag : has-tag x ≡ false → row-test x ≡ false
+  unfolding row-test
+  test-tag e = simp (e, and-false)
+
+  -- all but the content pass
+  pub test-content : has-numbers x ≡ true → is-filled 8 8 x ≡ true → has-tag x ≡ true → row-test x ≡ has-content x
+  unfolding row-test
+  test-content n f t = rw (n, f, t)

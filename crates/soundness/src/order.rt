@@ -1,0 +1,62 @@
+// The order of the rows.
+ghost use mathlib.Core.Path.{_≡_};
+ghost use mathlib.Core.List.{[]};
+ghost use Prim.Native.Nat.{_-_, _≤_, _<_};
+ghost use lib.ListN.{length};
+ghost use Rattle.tree.specs.RowAt.{row-count, row-at};
+ghost use Rattle.soundness.specs.Sound.{may-follow};
+ghost use Rattle.soundness.specs.Tests.{rest-in-order};
+use crate::row::is_directory;
+use crate::row::is_row;
+use tree::Order;
+
+// Whether a row may follow the one before it, where the row at its depth last seen is given.
+fn follows(tree: &[u8], i: usize, beside: usize) -> bool
+    requires { ⌜ ((length (now tree) ≡ 59394) × (row-at (now tree) i .depth ≤ 6)) × ((1 ≤ i) × ((i < 256) × (beside < 256))) ⌝ }
+    ensures { λ r. ⌜ r ≡ may-follow (row-at (now (tree .entry)) (i - 1) .depth) (row-at (now (tree .entry)) (i - 1) .here .kind) (row-at (now (tree .entry)) beside .name) (row-at (now (tree .entry)) i) ⌝ }
+{
+    let depth = tree::depth_at(tree, i);
+    let before = tree::depth_at(tree, i - 1);
+    let name = tree::name_at(tree, i);
+    if !syntax::is_name(name) {
+        return false;
+    }
+    if depth == 0 {
+        return false;
+    }
+    if before < depth {
+        if 1 < depth - before {
+            return false;
+        }
+        return is_directory(tree::kind_at(tree, i - 1));
+    }
+    match tree::compare(tree::name_at(tree, beside), name) {
+        Order::Before => true,
+        Order::Same => false,
+        Order::After => false,
+    }
+}
+
+// Whether the rows behind `/` are sound each and stand in order.
+pub fn in_order(tree: &[u8], n: usize) -> bool
+    requires { ⌜ ((length (now tree) ≡ 59394) × (row-at (now tree) 0 .depth ≡ 0)) × ((n ≡ row-count (now tree)) × ((1 ≤ n) × (n ≤ 256))) ⌝ }
+    ensures { λ r. ⌜ r ≡ rest-in-order (now (tree .entry)) 1 [] (row-at (now (tree .entry)) 0 .here .kind) ⌝ }
+{
+    let mut last: [usize; 7] = [0; 7];
+    let mut i: usize = 1;
+    while i < n {
+        if !is_row(tree, i) {
+            return false;
+        }
+        let depth = tree::depth_at(tree, i) as usize;
+        if 6 < depth {
+            return false;
+        }
+        if !follows(tree, i, last[depth]) {
+            return false;
+        }
+        last[depth] = i;
+        i += 1;
+    }
+    true
+}

@@ -1,0 +1,152 @@
+// The bytes of one row, field by field.
+ghost use mathlib.Core.Path.{_≡_};
+ghost use mathlib.Core.Bool.{_||_};
+ghost use Prim.Native.Nat.{_-_, _≤_, _<_};
+ghost use lib.Dec.{eqb};
+ghost use lib.ListN.{length};
+ghost use Rattle.syntax.specs.Number.{is-mode};
+ghost use Rattle.tree.specs.Node.{is-directory};
+ghost use Rattle.tree.specs.WellFormed.{fits-kind};
+ghost use Rattle.tree.specs.RowAt.{row-bytes-at};
+ghost use Rattle.soundness.specs.Sound.{is-row};
+ghost use Rattle.soundness.specs.Tests.{zeros-at, is-filled, has-numbers, has-tag, has-content};
+use tree::Kind;
+
+// The bytes of a row.
+pub const ROW: usize = 232;
+
+// Whether the bytes from one place up to another are all 0.
+pub fn is_zero(s: &[u8], from: usize, to: usize) -> bool
+    requires { ⌜ (from ≤ to) × (to ≤ length (now s)) ⌝ }
+    ensures { λ r. ⌜ r ≡ zeros-at from (to - from) (now (s .entry)) ⌝ }
+{
+    let mut all: u8 = 0;
+    let mut i = from;
+    while i < to {
+        all = all | s[i];
+        i += 1;
+    }
+    all == 0
+}
+
+// Whether a byte says what a node is.
+fn is_kind(b: u8) -> bool
+    ensures { λ r. ⌜ r ≡ (eqb b 100 || eqb b 102) ⌝ }
+{
+    if b == b'd' {
+        return true;
+    }
+    b == b'f'
+}
+
+// Whether a number is a mode.
+fn is_mode(mode: u16) -> bool
+    ensures { λ r. ⌜ r ≡ is-mode mode ⌝ }
+{
+    if mode < 512 {
+        return true;
+    }
+    mode / 512 == 2
+}
+
+// Whether a kind is that of a directory.
+pub fn is_directory(kind: Kind) -> bool
+    ensures { λ r. ⌜ r ≡ is-directory kind ⌝ }
+{
+    match kind {
+        Kind::File => false,
+        Kind::Directory => true,
+    }
+}
+
+// Whether a kind allows a mode and a content: set-gid on directories only, content in files only.
+fn fits_kind(kind: Kind, mode: u16, content: &[u8]) -> bool
+    ensures { λ r. ⌜ r ≡ fits-kind kind mode (now (content .entry)) ⌝ }
+{
+    match kind {
+        Kind::File => mode / 512 != 2,
+        Kind::Directory => content.len() == 0,
+    }
+}
+
+// Whether kind, owner, group, mode and revision are in range.
+fn has_numbers(tree: &[u8], i: usize) -> bool
+    requires { ⌜ (length (now tree) ≡ 59394) × (i < 256) ⌝ }
+    ensures { λ r. ⌜ r ≡ has-numbers (row-bytes-at (now (tree .entry)) i) ⌝ }
+{
+    let at = 2 + ROW * i;
+    if !is_kind(tree[at + 1]) {
+        return false;
+    }
+    if 23 < tree[at + 2] {
+        return false;
+    }
+    if 24 < tree[at + 3] {
+        return false;
+    }
+    if !is_mode(tree::mode_at(tree, i)) {
+        return false;
+    }
+    tree::revision_at(tree, i) <= 9999
+}
+
+// Whether zeros fill up the name.
+fn name_is_filled(tree: &[u8], i: usize) -> bool
+    requires { ⌜ (length (now tree) ≡ 59394) × (i < 256) ⌝ }
+    ensures { λ r. ⌜ r ≡ is-filled 8 8 (row-bytes-at (now (tree .entry)) i) ⌝ }
+{
+    let at = 2 + ROW * i;
+    let n = tree::name_at(tree, i).len();
+    is_zero(tree, at + 8 + n, at + 16)
+}
+
+// Whether the tag is zeros, or an entry path filled up and a revision.
+fn has_tag(tree: &[u8], i: usize) -> bool
+    requires { ⌜ (length (now tree) ≡ 59394) × (i < 256) ⌝ }
+    ensures { λ r. ⌜ r ≡ has-tag (row-bytes-at (now (tree .entry)) i) ⌝ }
+{
+    let at = 2 + ROW * i;
+    let path = tree::tag_path_at(tree, i);
+    if !syntax::is_entry_path(path) {
+        return is_zero(tree, at + 16, at + 72);
+    }
+    let n = path.len();
+    if !is_zero(tree, at + 16 + n, at + 70) {
+        return false;
+    }
+    tree::tag_revision_at(tree, i) <= 9999
+}
+
+// Whether the content is one that the kind allows, and zeros fill up the row.
+fn has_content(tree: &[u8], i: usize) -> bool
+    requires { ⌜ (length (now tree) ≡ 59394) × (i < 256) ⌝ }
+    ensures { λ r. ⌜ r ≡ has-content (row-bytes-at (now (tree .entry)) i) ⌝ }
+{
+    let at = 2 + ROW * i;
+    let content = tree::content_at(tree, i);
+    if !syntax::is_content(content) {
+        return false;
+    }
+    if !fits_kind(tree::kind_at(tree, i), tree::mode_at(tree, i), content) {
+        return false;
+    }
+    let n = content.len();
+    is_zero(tree, at + 72 + n, at + ROW)
+}
+
+// Whether the bytes of a row are those of a node in range.
+pub fn is_row(tree: &[u8], i: usize) -> bool
+    requires { ⌜ (length (now tree) ≡ 59394) × (i < 256) ⌝ }
+    ensures { λ r. ⌜ r ≡ is-row (row-bytes-at (now (tree .entry)) i) ⌝ }
+{
+    if !has_numbers(tree, i) {
+        return false;
+    }
+    if !name_is_filled(tree, i) {
+        return false;
+    }
+    if !has_tag(tree, i) {
+        return false;
+    }
+    has_content(tree, i)
+}
