@@ -12,7 +12,7 @@ use Rattle.accounts.specs.Cases.{case}
 use Rattle.syntax.specs.Number.{is-mode}
 use Rattle.syntax.specs.Path.{entry-path}
 use Rattle.syntax.specs.Field.{is-content}
-use Rattle.syntax.specs.Setup.{is-some}
+use Rattle.syntax.specs.Form.{is-some}
 use Rattle.tree.specs.WellFormed.{last-revision, fits-kind}
 use Rattle.tree.specs.Fields.{text-at}
 use Rattle.tree.specs.Encoding.{row-width, row-of}

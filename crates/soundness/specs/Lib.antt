@@ -2,7 +2,6 @@ pub mod Sound
 pub mod OrderLaws
 pub mod SoundLaws
 pub mod Tests
-pub mod EntryTextLaws
 pub mod RowTestLaws
 pub mod FieldTestLaws
 pub mod OrderTestLaws

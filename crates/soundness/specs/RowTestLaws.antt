@@ -17,7 +17,7 @@ use Rattle.syntax.specs.TextLaws.{same-text-refl, every-append}
 use Rattle.syntax.specs.Form.{_>>=_}
 use Rattle.syntax.specs.Number.{is-mode}
 use Rattle.syntax.specs.Field.{is-content}
-use Rattle.syntax.specs.Setup.{is-some}
+use Rattle.syntax.specs.Form.{is-some}
 use Rattle.syntax.specs.Path.{Entry-path, entry-path}
 use Rattle.syntax.specs.PathLaws.{entry-is-entry}
 use Rattle.tree.specs.WellFormed.{last-revision, is-tag, fits-kind, is-node}
@@ -25,7 +25,7 @@ use Rattle.tree.specs.Fields.{two-bytes, number-at, padded, unpadded, text-at}
 use Rattle.tree.specs.FieldsLaws.{length-padded, length-two-bytes}
 use Rattle.tree.specs.Encoding.{kind-byte, kind-of, tag-bytes, tag-of, row-bytes, row-of}
 use Rattle.soundness.specs.Sound.{is-row, all-zero}
-use Rattle.soundness.specs.EntryTextLaws.{text-of-entry}
+use Rattle.syntax.specs.ParentLaws.{text-of-entry}
 use Rattle.soundness.specs.Tests.{zeros-at, is-filled, has-numbers, has-tag, has-content, row-test}
 
 -- ---- bytes written and read
@@ -169,7 +169,7 @@ module _ (x : List ℕ) (h : length x ≡ 232) (small : (k : ℕ) → getD x k 0
       ap (same-text (P ++ N)) (take-add 54 2 y)
       ∙ same-append P N (take 54 y) (take 2 (drop 54 y)) (long ∙ sym (length-take-le 54 y (omega (arith, length-drop 16 x))))
       ∙ ap₂ _&&_ (same-filled 16 54 x (omega arith)) (ap (λ (z : List ℕ). same-text N (take 2 z)) (drop-drop 54 16 x) ∙ number-part 70 (omega arith)) in
-      rw (e, text-of-entry t v e, entry-is-entry t v e) (
+      rw (e, ← text-of-entry t v e, entry-is-entry t v e) (
         length-append P N ∙ omega (arith, length-two-bytes n),
         ap (λ (b : Bool). leb n last-revision && b) same ∙ and-swap (leb n last-revision) (is-filled 16 54 x),
       )

@@ -11,7 +11,7 @@ use lib.ListN.{length, take, drop, replicate, take-append-drop, length-drop}
 use lib.Seq.{take-add, take-at, drop-at, drop-drop}
 use borrow.Author.Tests.{leb-true, le-leb, eqb-true, eq-eqb}
 use Rattle.accounts.specs.Cases.{case, and-both, contra}
-use Rattle.syntax.specs.Setup.{is-some}
+use Rattle.syntax.specs.Form.{is-some}
 use Rattle.syntax.specs.Text.{same-text, every}
 use Rattle.syntax.specs.TextLaws.{same-text-refl, same-text-sound}
 use Rattle.syntax.specs.FormLaws.{no-answer}

@@ -8,7 +8,7 @@ use Rattle.syntax.specs.Number.{is-mode}
 use Rattle.syntax.specs.Text.{every}
 use Rattle.syntax.specs.Path.{Name, entry-path}
 use Rattle.syntax.specs.Field.{is-content}
-use Rattle.syntax.specs.Setup.{is-some}
+use Rattle.syntax.specs.Form.{is-some}
 use Rattle.tree.specs.WellFormed.{last-revision, fits-kind}
 use Rattle.tree.specs.Fields.{number-at, text-at}
 use Rattle.tree.specs.Encoding.{kind-of}

@@ -1,7 +1,7 @@
 // Whether a lent buffer holds a well-formed tree; docs/FORMAT.md has the layout.
 ghost use mathlib.Core.Path.{_≡_};
 ghost use lib.ListN.{length};
-ghost use Rattle.syntax.specs.Setup.{is-some};
+ghost use Rattle.syntax.specs.Form.{is-some};
 ghost use Rattle.tree.specs.Encoding.{decode-tree};
 ghost use Rattle.tree.specs.RowAt.{row-at};
 ghost use Rattle.soundness.specs.Sound.{is-top};

@@ -13,9 +13,9 @@ use Rattle.accounts.specs.Cases.{case, and-both, contra}
 use Rattle.syntax.specs.Text.{Text, bytes, same-text, every, pieces, joined}
 use Rattle.syntax.specs.TextLaws.{same-text-sound, every-getD, lacks}
 use Rattle.syntax.specs.Form.{_>>_, check}
-use Rattle.syntax.specs.FormLaws.{no-answer, checked, answered}
-use Rattle.syntax.specs.Path.{Name, Path, root, _▹_, parent, last, depth, is-name, most-names, has-names, is-path, extended, names-from-top, path, names-text, path-text}
-use Rattle.syntax.specs.PathLaws.{name-lacks, path-of-text, path-is-path}
+use Rattle.syntax.specs.FormLaws.{no-answer, both-read, checked, answered}
+use Rattle.syntax.specs.Path.{Name, Path, root, _▹_, Entry-path, parent, last, depth, is-name, most-names, has-names, is-path, extended, names-from-top, path, entry-at, entry-path, names-text, path-text, entry-text}
+use Rattle.syntax.specs.PathLaws.{name-lacks, path-of-text, path-is-path, entry-at-sound}
 use Rattle.syntax.specs.declared.Names.{Names}
 use Rattle.syntax.specs.declared.NextName.the-variants
 use Rattle.syntax.specs.Parts.{part, piece-length, next-name, slash-before, last-slash}
@@ -187,6 +187,13 @@ unfolding path path-text
 text-of-path t p e = case (same-text t (bytes "/"))
     (λ i. let q : some root ≡ some p = rw i at e in rw (answered q) (same-text-sound t (bytes "/") i))
     (λ i. sym (joined-pieces 47 t) ∙ names-top-text (pieces 47 t) p (rw i at e))
+
+-- and what is read as an entry path is its text
+pub text-of-entry : (t : Text) (e : Entry-path) → entry-path t ≡ some e → t ≡ entry-text e
+unfolding entry-path entry-text
+text-of-entry t e h =
+    let i = both-read (path t) entry-at e h in
+    text-of-path t (i .0) (i .1) ∙ ap path-text (sym (entry-at-sound (i .0) e (i .2)))
 
 -- a path with one name more has a path and a name
 path-parts : (q : Path) (n : Name) → is-path (q ▹ n) ≡ true → (is-path q ≡ true) × (is-name n ≡ true)

@@ -8,7 +8,7 @@ use Rattle.syntax.specs.PartsLaws.{answers-false, answers-true}
 use lib.Dec.{leb}
 use Rattle.syntax.specs.Text.{Text}
 use Rattle.syntax.specs.Path.{entry-path}
-use Rattle.syntax.specs.Setup.{is-some}
+use Rattle.syntax.specs.Form.{is-some}
 use Rattle.tree.specs.RowAt.{tag-text-at}
 use Rattle.soundness.specs.FieldTestLaws.{text-fits, tag-none, tag-unfilled, tag-filled}
 use borrow.Author.Needs.{needs}
