@@ -42,8 +42,12 @@ unfoldable pub homes : Setup → ℕ → Forest Node
 homes s zero = node rep rep-node nil nil
 homes s (suc k) = with-home (record { 0 = k }) (person s (record { 0 = k })) (homes s k)
 
+-- `/` with a forest below it
+abbrev pub topped : Forest Node → Place Node
+topped f = record { here = top-node; below = f }
+
 unfoldable pub initial-tree : Setup → Place Node
-initial-tree s = record { here = top-node; below = homes s accounts }
+initial-tree s = topped (homes s accounts)
 
 unfoldable pub no-sessions : Sessions
 no-sessions = replicate accounts none

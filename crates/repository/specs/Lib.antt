@@ -15,6 +15,8 @@ pub mod Judges
 pub mod Callers
 pub mod Entries
 pub mod InitialLaws
+pub mod InitialRows
+pub mod InitialRowsLaws
 pub mod Keeping
 pub mod Simulation
 pub mod Lists

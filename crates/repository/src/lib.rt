@@ -1,5 +1,7 @@
 // The pattern repository: setup, commands and listing on a lent store.
+mod initial;
 
+pub use initial::write_initial;
 use tree::Cause;
 
 // What a call answers.
