@@ -23,7 +23,7 @@ use Rattle.tree.specs.WellFormed.{most-nodes, is-node, is-tree}
 use Rattle.tree.specs.WellFormedLaws.{place-parts, place-of-parts, tree-parts, tree-of-parts, most-nodes-is}
 use Rattle.tree.specs.Fields.{two-bytes, all-bytes, all-from}
 use Rattle.tree.specs.TableLaws.{length-all-bytes}
-use Rattle.tree.specs.Encoding.{row-width, tree-width, row-bytes, row-of, encode-tree, decode-tree}
+use Rattle.tree.specs.Encoding.{row-width, tree-width, row-bytes, row-of, encode-rows, encode-tree, decode-tree}
 use Rattle.tree.specs.EncodingLaws.{fits, fits-parts, tree-fits, length-fitting, fitting-back, tree-width-is, length-encode-tree, decode-encode, encode-decode}
 use Rattle.tree.specs.RowAt.{row-count, all-rows}
 use Rattle.tree.specs.RowAtLaws.{length-all-rows, all-rows-of-tree, row-count-of-tree}
@@ -169,7 +169,7 @@ assembled b Z n c z =
 
 -- bytes that pass are those of a well-formed tree
 pub sound-encodes : (b : List ℕ) → is-sound b ≡ true → (t : Place Node) × ((is-tree t ≡ true) × (encode-tree t ≡ b))
-unfolding encode-tree most-nodes row-width row-stretches all-rows
+unfolding encode-tree encode-rows most-nodes row-width row-stretches all-rows
 sound-encodes b h =
     let s = sound-parts b h in
     let n = row-count b in
@@ -189,12 +189,12 @@ sound-encodes b h =
 module _ (t : Place Node) (h : is-tree t ≡ true) where
   -- the bytes of a well-formed tree begin with the number of its rows
   encoded-count : take 2 (encode-tree t) ≡ two-bytes (length (rows t))
-  unfolding encode-tree two-bytes
+  unfolding encode-tree encode-rows two-bytes
   encoded-count = refl
 
   -- then come its rows and zeros
   encoded-rows : drop 2 (encode-tree t) ≡ all-bytes row-bytes (rows t) ++ replicate ((256 - length (rows t)) * 232) 0
-  unfolding encode-tree two-bytes most-nodes row-width
+  unfolding encode-tree encode-rows two-bytes most-nodes row-width
   encoded-rows = refl
 
   -- so they pass
