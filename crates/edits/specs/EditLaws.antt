@@ -1,14 +1,15 @@
 -- Which change of a well-formed tree each change of its bytes is.
 --
--- In order: a place put in (spot-bound, put-law, child-law) and taken out (take-law); one attribute of the node at a path changed
--- (owner-law to copy-content-law).
+-- In order: a place put in (spot-bound, put-law, child-law) and taken out (take-law), its rows read (place-fits, place-law); one
+-- attribute of the node at a path changed (owner-law to copy-content-law).
 use mathlib.Core.Path.{_≡_, refl, sym, _∙_, ap}
 use mathlib.Core.List.{List, [], _∷_, _++_, append-assoc, append-nil}
 use mathlib.Core.Option.{Option, none, some}
 use mathlib.Core.Bool.{true}
-use Prim.Native.Nat.{ℕ, suc, _+_, _≤_, _<_}
+use Prim.Native.Nat.{ℕ, suc, _+_, _*_, _≤_, _<_}
 use native.Mathlib.Omega.{arith}
-use lib.ListN.{length, replicate, length-append}
+use lib.ListN.{length, take, replicate, length-append}
+use lib.ListN as L
 use Rattle.accounts.specs.declared.Uid.{Uid}
 use Rattle.accounts.specs.declared.Gid.{Gid}
 use Rattle.accounts.specs.Cases.{and-both}
@@ -34,7 +35,7 @@ use Rattle.tree.specs.EncodingLaws.{fits, fits-parts, fits-of, forest-fits, tre
 use Rattle.edits.specs.declared.Fresh.{Fresh}
 use Rattle.edits.specs.Changes.{rows-put, rows-taken, field-at, field-put, fresh-node}
 use Rattle.edits.specs.Written.{fresh-row, length-fresh}
-use Rattle.edits.specs.EncodedRows.{Wide, encode-tree-rows, table-put, table-taken, table-field-at, table-field-put}
+use Rattle.edits.specs.EncodedRows.{Wide, encode-tree-rows, table-put, table-part, table-taken, table-field-at, table-field-put}
 
 -- ---- rows that take their widths
 
@@ -129,6 +130,28 @@ module _ (t : Place Node) (p : Path) (d : Place Node) (n : Name) (h : is-tree t 
       ∙ ap (λ (j : ℕ). rows-taken (encode-rows (xs ++ (ms ++ ys))) (length xs) j) (sym lm)
       ∙ table-taken xs ms ys (fitting-wide xs (f .0)) (fitting-wide ms (k .0)) (fitting-wide ys (k .1)) (omega (arith, few-rows t h, length-append ms ys))
       ∙ sym (encode-tree-rows (update p (drop n) t) ∙ ap encode-rows (r .1))
+
+-- ---- a place read
+
+module _ (t : Place Node) (p : Path) (d : Place Node) (h : is-tree t ≡ true) (there : place-at t p ≡ some d) where
+  -- its rows fit
+  pub place-fits : every fits (place-rows (depth p) (last p) d) ≡ true
+  place-fits =
+      let c = around t p d there in
+      let ms = place-rows (depth p) (last p) d in
+      let f = cut-fits t h (c .pre) (ms ++ c .post) (c .was) in
+      and-both (every fits ms) (every fits (c .post)) (sym (every-append fits ms (c .post)) ∙ f .1) .0
+
+  -- and their bytes stand from its index on
+  pub place-law : take (232 * suc (size (d .below))) (L.drop (2 + 232 * index-of t p) (encode-tree t)) ≡ all-bytes row-bytes (place-rows (depth p) (last p) d)
+  place-law =
+      let c = around t p d there in
+      let ms = place-rows (depth p) (last p) d in
+      let f = cut-fits t h (c .pre) (ms ++ c .post) (c .was) in
+      ap (λ (b : List ℕ). take (232 * suc (size (d .below))) (L.drop (2 + 232 * index-of t p) b)) (encode-tree-rows t ∙ ap encode-rows (c .was))
+      ∙ ap (λ (i : ℕ). take (232 * suc (size (d .below))) (L.drop (2 + 232 * i) (encode-rows (c .pre ++ (ms ++ c .post))))) (sym (c .index))
+      ∙ ap (λ (k : ℕ). take (232 * k) (L.drop (2 + 232 * length (c .pre)) (encode-rows (c .pre ++ (ms ++ c .post))))) (sym (length-place-rows (depth p) (last p) d))
+      ∙ table-part (c .pre) ms (c .post) (fitting-wide (c .pre) (f .0)) (fitting-wide ms place-fits)
 
 -- ---- a node changed
 

@@ -6,7 +6,7 @@ use Prim.Native.Nat.{ℕ, zero, suc, _+_, _-_, _*_, _≤_}
 use native.Mathlib.Omega.{arith}
 use native.Mathlib.Nat.{zero-add, suc-add}
 use lib.ListN.{length, take, drop, replicate, length-append, length-replicate}
-use lib.Seq.{take-at, drop-at, take-length}
+use lib.Seq.{take-at, drop-at}
 use Rattle.tree.specs.Forest.{Place}
 use Rattle.tree.specs.Node.{Node}
 use Rattle.tree.specs.Rows.{Row, rows}
@@ -16,6 +16,7 @@ use Rattle.tree.specs.FieldsLaws.{length-two-bytes, number-at-bytes}
 use Rattle.tree.specs.Encoding.{row-width, row-bytes, encode-rows, encode-tree}
 use Rattle.tree.specs.RowAt.{row-count}
 use Rattle.edits.specs.Changes.{row-start, rows-put, rows-taken, field-at, field-put}
+use Rattle.edits.specs.Paste.{paste-piece}
 
 -- ---- bytes in pieces
 
@@ -76,13 +77,7 @@ module _ (A B old : List ℕ) (i k : ℕ) (l : length A ≡ 2 + 232 * i + k) whe
   -- and written there
   field-pieces : (new : List ℕ) → length old ≡ length new → field-put (A ++ (old ++ B)) i k new ≡ A ++ (new ++ B)
   unfolding field-put row-start row-width
-  field-pieces new e =
-      let at = 2 + 232 * i + k in
-      let first = take-at A (old ++ B) at l in
-      let all = take-length new in
-      let rest : drop (at + length new) (A ++ (old ++ B)) ≡ B =
-      ap (drop (at + length new)) (sym (append-assoc A old B)) ∙ drop-at (A ++ old) B (at + length new) (length-append A old ∙ omega arith) in
-      rw (first, all, rest) (append-assoc A new B)
+  field-pieces new e = paste-piece A B old new (2 + 232 * i + k) (length new) l e refl
 
 -- ---- the encoding of rows
 
@@ -120,6 +115,24 @@ encoded rs n B l e = rw (l, e)
 count-of : (n : ℕ) (R : List ℕ) → row-count (two-bytes n ++ R) ≡ n
 unfolding row-count
 count-of n R = number-at-bytes [] R 0 n refl
+
+-- rows read from where they stand
+pub table-part : (xs ms ys : List (Row Node)) → Wide xs → Wide ms
+    → take (232 * length ms) (drop (2 + 232 * length xs) (encode-rows (xs ++ (ms ++ ys)))) ≡ all-bytes row-bytes ms
+unfolding row-width
+table-part xs ms ys wx wm =
+    let X = all-bytes row-bytes xs in
+    let M = all-bytes row-bytes ms in
+    let Y = all-bytes row-bytes ys in
+    let c = length (xs ++ (ms ++ ys)) in
+    let Z : List ℕ = replicate ((256 - c) * 232) 0 in
+    let a : all-bytes row-bytes (xs ++ (ms ++ ys)) ≡ X ++ (M ++ Y) = all-append xs (ms ++ ys) ∙ ap (λ (l : List ℕ). X ++ l) (all-append ms ys) in
+    let g : (X ++ (M ++ Y)) ++ Z ≡ X ++ (M ++ (Y ++ Z)) = simp append-assoc in
+    let is : encode-rows (xs ++ (ms ++ ys)) ≡ two-bytes c ++ (X ++ (M ++ (Y ++ Z))) =
+    encoded (xs ++ (ms ++ ys)) c (X ++ (M ++ Y)) refl a ∙ ap (λ (l : List ℕ). two-bytes c ++ l) g in
+    ap (λ (b : List ℕ). take (232 * length ms) (drop (2 + 232 * length xs) b)) is
+    ∙ ap (take (232 * length ms)) (from-row (two-bytes c) (length-two-bytes c) X (M ++ (Y ++ Z)) (length xs) (omega arith))
+    ∙ take-at M (Y ++ Z) (232 * length ms) (omega arith)
 
 -- rows put in
 pub table-put : (xs ns ys : List (Row Node)) (Q : List ℕ) → Wide xs → Wide ns → Wide ys → length xs + length ys + length ns ≤ 256

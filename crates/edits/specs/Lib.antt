@@ -3,3 +3,5 @@ pub mod Paste
 pub mod Written
 pub mod EncodedRows
 pub mod EditLaws
+pub mod Relabel
+pub mod Moving

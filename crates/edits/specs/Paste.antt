@@ -5,7 +5,7 @@ use Prim.Native.Nat.{ℕ, zero, suc, _+_, _-_, _/_, _%_, _≤_, _<_}
 use native.Mathlib.Omega.{arith}
 use native.Mathlib.Numerals.{add-one}
 use lib.ListN.{length, getD, take, drop, set, replicate, length-append, length-drop, length-replicate, getD-replicate, take-append-drop, List·getD-append}
-use lib.Seq.{paste, paste-suc, length-paste-head, getD-append-add, getD-drop, getD-take, take-suc, drop-cons, set-at, length-take-le, take-append-le, take-take, drop-at, length-paste, take-paste, drop-paste, drop-drop, take-all, set-split}
+use lib.Seq.{paste, paste-suc, length-paste-head, getD-append-add, getD-drop, getD-take, take-suc, drop-cons, set-at, length-take-le, take-append-le, take-take, take-at, drop-at, length-paste, take-paste, drop-paste, drop-drop, take-all, set-split}
 use Rattle.tree.specs.Fields.{two-bytes, padded}
 
 -- ---- the loops
@@ -95,6 +95,15 @@ paste-join s a b at n m ea eb fits =
     let tab : take (n + m) (a ++ b) ≡ a ++ b = take-all (n + m) (a ++ b) (simp length-append (omega arith)) in
     let q : at + n + m ≡ at + (n + m) = omega arith in
     paste-two s a b at n m (omega arith) fits ∙ rw (ta, tb, tab, q) (simp append-assoc)
+
+-- a piece written over one as long
+pub paste-piece : (A B old new : List ℕ) (at n : ℕ) → length A ≡ at → length old ≡ n → length new ≡ n → paste (A ++ (old ++ B)) at new n ≡ A ++ (new ++ B)
+paste-piece A B old new at n l e f =
+    let first = take-at A (old ++ B) at l in
+    let all = take-all n new (omega arith) in
+    let rest : drop (at + n) (A ++ (old ++ B)) ≡ B =
+    ap (drop (at + n)) (sym (append-assoc A old B)) ∙ drop-at (A ++ old) B (at + n) (length-append A old ∙ omega arith) in
+    rw (first, all, rest) (append-assoc A new B)
 
 -- a byte stored is a piece of one
 pub set-paste : (s : List ℕ) (i v : ℕ) → i < length s → set s i v ≡ paste s i (v ∷ []) 1

@@ -1,6 +1,7 @@
 // Changes of a tree that lies as rows in preorder in a lent buffer of 59,394 bytes; docs/FORMAT.md has the layout.
 mod bytes;
 mod fields;
+mod moving;
 mod rows;
 
 use accounts::Gid;
@@ -13,6 +14,7 @@ pub use fields::set_owner;
 pub use fields::set_revision;
 pub use fields::set_tag;
 pub use fields::set_tag_revision;
+pub use moving::move_place;
 pub use rows::plant;
 pub use rows::put_child;
 pub use rows::put_rows;

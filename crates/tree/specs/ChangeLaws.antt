@@ -273,7 +273,7 @@ none-fewer : (n : Name) {E F : Forest Node} → Fewer E F → is-forest F ≡ tr
 none-fewer n {E = E} l h e = by-option (get n E) (λ a. a) (λ d a. no-answer (sym e ∙ get-fewer n l h d a .1))
 
 -- what is taken out is no longer counted
-nodes-drop : (t : Place Node) (p : Path) (n : Name) (d : Place Node) → place-at t (p ▹ n) ≡ some d
+pub nodes-drop : (t : Place Node) (p : Path) (n : Name) (d : Place Node) → place-at t (p ▹ n) ≡ some d
     → nodes (update p (drop n) t) + suc (size (d .below)) ≡ nodes t
 unfolding nodes drop under
 nodes-drop t p n d e =

@@ -1,13 +1,16 @@
--- What stands at a path after a change at another, and where a walk does not lead: a judge that does not pass a directory
--- leads nowhere below it.
+-- What stands at a path after a change at another, and where a walk leads: a judge that does not pass a directory leads
+-- nowhere below it, and root's leads to every place.
 use mathlib.Core.Path.{_≡_, refl, sym, _∙_, ap}
 use mathlib.Core.Option.{none, some}
 use mathlib.Core.Bool.{Bool, true, false}
 use mathlib.Core.Logic.{_⊎_, inl, inr, ⊎-elim}
+use Rattle.accounts.specs.declared.Right.the-variants.{X}
+use Rattle.accounts.specs.declared.Account.{Account}
+use Rattle.accounts.specs.Access.{is-root, may-root}
 use Rattle.accounts.specs.Cases.{case, contra}
 use Rattle.syntax.specs.Text.{same-text}
 use Rattle.syntax.specs.TextLaws.{same-text-sound}
-use Rattle.syntax.specs.Path.{Name, Path, root, _▹_, same-path, within}
+use Rattle.syntax.specs.Path.{Name, Path, root, _▹_, parent, same-path, within}
 use Rattle.syntax.specs.WithinLaws.{Lies, itself, deeper, same-path-sound, same-path-refl, lies, lies-outside, lies-top}
 use Rattle.syntax.specs.Form.{_>>=_}
 use Rattle.syntax.specs.FormLaws.{no-answer, answered}
@@ -16,8 +19,9 @@ use Rattle.tree.specs.ResultLaws.{done-then, refused-then, done-bind, re
 use Rattle.tree.specs.Forest.{Forest, nil, node, Place, get, is-empty, at, under, update, place-at, alter, put, drop}
 use Rattle.tree.specs.ForestLaws.{get-at, get-at-other, get-insert, get-insert-other, get-remove-other}
 use Rattle.tree.specs.Node.{is-directory, Node}
-use Rattle.tree.specs.Walk.{Judge, enter, walk}
-use Rattle.tree.specs.StepLaws.{look-some, walked, entered, enters, walk-root, walk-step}
+use Rattle.tree.specs.Walk.{Judge, by-modes, enter, walk, parent-walk}
+use Rattle.tree.specs.JudgeLaws.{allows-is, kind-by-modes, passes-by-modes}
+use Rattle.tree.specs.StepLaws.{look-some, walked, entered, enters, walk-root, walk-step, walks-on}
 use Rattle.tree.specs.WellFormed.{is-tree}
 use Rattle.tree.specs.UpdateLaws.{by-option, at-top, at-child, child-at, walked-at, update-none}
 use Rattle.tree.specs.WellFormedLaws.{place-parts, tree-parts, place-below}
@@ -52,12 +56,12 @@ module _ {A : Type 0} (t : Place A) where
       let i = child-at t q n d e in
       at-child (update q (under (at n f)) t) q n _ (changed-at q (under (at n f)) (i .0) (i .1)) ∙ get-at n f (i .0 .below) d (i .2)
 
-  -- a place above a change stays a place
-  changed-some : {p q : Path} → Lies p q → (f : Place A → Place A) (c : Place A) → place-at t p ≡ some c
-      → (d : Place A) × (place-at (update q f t) p ≡ some d)
-  unfolding update
-  changed-some {p} itself f c e = (f c, changed-at p f c e)
-  changed-some (deeper {n = n} l) f c e = changed-some l (under (at n f)) c e
+  -- a place above a change that keeps the payload stays a place with its payload
+  changed-some : {p q : Path} → Lies p q → (f : Place A → Place A) → ((x : Place A) → f x .here ≡ x .here) → (c : Place A) → place-at t p ≡ some c
+      → (d : Place A) × (place-at (update q f t) p ≡ some d) × (d .here ≡ c .here)
+  unfolding update under
+  changed-some {p} itself f h c e = (f c, changed-at p f c e, h c)
+  changed-some (deeper {n = n} l) f h c e = changed-some l (under (at n f)) (λ x. refl) c e
 
   -- and none is made there
   changed-none : {p q : Path} → Lies p q → (f : Place A → Place A) → place-at t p ≡ none → place-at (update q f t) p ≡ none
@@ -135,16 +139,19 @@ below-elsewhere t s x b (deeper {q = q} {n = n} l) h k d e =
     (r .0 ▹ n, at-child s (r .0) n (i .0) (r .1) ∙ i .2)
 
 module _ {A : Type 0} (t : Place A) where
-  drop-none : (p q : Path) (n : Name) → within (q ▹ n) p ≡ false → place-at t p ≡ none → place-at (update q (drop n) t) p ≡ none
+  -- a child taken out makes no place
+  pub drop-none : (p q : Path) (n : Name) → within (q ▹ n) p ≡ false → place-at t p ≡ none → place-at (update q (drop n) t) p ≡ none
   drop-none p q n o e = case (within p q)
       (λ i. changed-none t (lies p q i) (drop n) e)
       (λ i. drop-same t p q n i o ∙ e)
 
-  drop-some : (p : Path) (d : Place A) (q : Path) (n : Name) → within (q ▹ n) p ≡ false → place-at t p ≡ some d
-      → (c : Place A) × (place-at (update q (drop n) t) p ≡ some c)
+  -- and leaves every place that is not within the child, with its payload
+  pub drop-some : (p : Path) (d : Place A) (q : Path) (n : Name) → within (q ▹ n) p ≡ false → place-at t p ≡ some d
+      → (c : Place A) × (place-at (update q (drop n) t) p ≡ some c) × (c .here ≡ d .here)
+  unfolding drop under
   drop-some p d q n o e = case (within p q)
-      (λ i. changed-some t (lies p q i) (drop n) d e)
-      (λ i. (d, drop-same t p q n i o ∙ e))
+      (λ i. changed-some t (lies p q i) (drop n) (λ x. refl) d e)
+      (λ i. (d, drop-same t p q n i o ∙ e, refl))
 
   -- a child moved: a place at p stays, or stands below the child where that was put
   pub move-keeps : (p : Path) (d : Place A) (q : Path) (n : Name) (x : Place A) (r : Path) (f : Place A) (k : Name) → place-at t p ≡ some d
@@ -216,3 +223,28 @@ module _ (j : Judge Node) (kinds : (n : Node) → j .kind n ≡ n .kind) (t : Pl
   pub walk-shut : (p : Path) (d : Place Node) → place-at t p ≡ some d → is-directory (d .here .kind) ≡ true → j .passes (d .here) ≡ false
       → (q : Path) → within p q ≡ true → same-path p q ≡ false → walk j t q ≡ refused 5
   walk-shut p d h k b q i o = walk-below p d h k b (lies p q i) o
+
+  -- a walk that passes everywhere leads to every place
+  walk-open : ((n : Node) → j .passes n ≡ true) → (p : Path) (d : Place Node) → place-at t p ≡ some d → walk j t p ≡ done d
+  walk-open all root d e = walk-root j t ∙ ap done (answered (sym e ∙ at-top t))
+  walk-open all (p ▹ n) d e =
+      let i = child-at t p n d e in
+      let k = parent-directory p (i .0) n d (i .1) (i .2) in
+      walks-on j t p n (walk-open all p (i .0) (i .1)) (enters j (i .0 .here) k (all (i .0 .here))) (i .2)
+
+module _ (a : Account) (top : is-root (a .uid) ≡ true) (t : Place Node) (whole : is-tree t ≡ true) where
+  root-passes : (n : Node) → by-modes a .passes n ≡ true
+  root-passes n = passes-by-modes a n ∙ allows-is a n X ∙ may-root a X (n .owner) (n .group) (n .mode) top
+
+  -- root's walk leads to every place
+  pub root-walks : (p : Path) (d : Place Node) → place-at t p ≡ some d → walk (by-modes a) t p ≡ done d
+  root-walks p d e = walk-open (by-modes a) (kind-by-modes a) t whole root-passes p d e
+
+  -- and root's parent walk to every directory
+  pub root-parent-walks : (p : Path) (d : Place Node) → place-at t (parent p) ≡ some d → is-directory (d .here .kind) ≡ true
+      → parent-walk (by-modes a) t p ≡ done d
+  unfolding parent-walk
+  root-parent-walks p d e k =
+      let j = by-modes a in
+      let i : enter j (d .here) ≡ done tt = enters j (d .here) (ap is-directory (kind-by-modes a (d .here)) ∙ k) (root-passes (d .here)) in
+      rw (root-walks (parent p) d e, done-bind d (λ x. enter j (x .here) >> done x), i) (done-then (done d))
