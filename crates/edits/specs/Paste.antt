@@ -69,10 +69,6 @@ clear-again b s at n i fits h e =
     let p = paste-suc s at (replicate n 0) i 0 (omega arith) (omega arith) in
     rw (e, add-one i) (rw (getD-replicate {A = ℕ} n i 0 0 h) at p)
 
-pub write-again : (b s t : List ℕ) (at n i : ℕ) → at + n ≤ length s → n ≤ length t → i < n → b ≡ paste s at t i
-    → set b (at + i) (getD t i 0) ≡ paste s at t (i + 1)
-write-again b s t at n i fits long h e = rw (e, add-one i) (paste-suc s at t i 0 (omega arith) (omega arith))
-
 -- ---- several pastes as one
 
 -- two pieces written one behind the other

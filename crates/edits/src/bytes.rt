@@ -4,6 +4,7 @@ ghost use Prim.Native.Nat.{_+_, _≤_};
 ghost use lib.ListN.{length, drop, replicate};
 ghost use lib.Seq.{paste};
 ghost use Rattle.tree.specs.Fields.{two-bytes, padded};
+use tree::write;
 
 // Moves n bytes to a higher place, the last one first.
 fn move_up(b: &mut [u8], from: usize, to: usize, n: usize)
@@ -51,19 +52,6 @@ pub fn clear(b: &mut [u8], at: usize, n: usize)
     let mut i: usize = 0;
     while i < n {
         b[at + i] = 0;
-        i += 1;
-    }
-}
-
-// Writes the first n bytes of another slice.
-pub fn write(b: &mut [u8], at: usize, s: &[u8], n: usize)
-    requires { ⌜ (at + n ≤ length (now b)) × (n ≤ length (now s)) ⌝ }
-    ensures { λ _. ⌜ now (b .exit) ≡ paste (now (b .entry)) at (now (s .entry)) n ⌝ }
-{
-    let mut i: usize = 0;
-    while i < n {
-        let x = s[i];
-        b[at + i] = x;
         i += 1;
     }
 }

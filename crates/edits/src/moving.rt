@@ -10,7 +10,6 @@ ghost use Rattle.tree.specs.RowContext.{index-of};
 ghost use Rattle.tree.specs.RowEdits.{lesser};
 ghost use Rattle.edits.specs.Relabel.{shifted, depths-shifted, relabelled};
 ghost use Rattle.edits.specs.Moving.{Vacant, Movable};
-use crate::bytes::write;
 use crate::bytes::write_padded;
 use crate::rows::put_rows;
 use crate::rows::take_rows;
@@ -23,6 +22,7 @@ use tree::depth_at;
 use tree::find_child;
 use tree::parent_walk;
 use tree::subtree_end;
+use tree::write;
 
 // The bytes of a row.
 const ROW: usize = 232;

@@ -11,11 +11,11 @@ ghost use Rattle.edits.specs.Changes.{rows-put, rows-taken, fresh-node, 
 use crate::Fresh;
 use crate::bytes::clear;
 use crate::bytes::move_bytes;
-use crate::bytes::write;
 use crate::bytes::write_number;
 use crate::bytes::write_padded;
 use tree::Kind;
 use tree::count;
+use tree::write;
 
 // The bytes of a row.
 const ROW: usize = 232;

@@ -5,7 +5,8 @@ ghost use Prim.Native.Nat.{_+_, _-_, _≤_, _<_};
 ghost use lib.ListN.{length, drop};
 ghost use Rattle.tree.specs.Forest.{larger};
 ghost use Rattle.tree.specs.RowAt.{row-count, row-at, all-rows};
-ghost use Rattle.tree.specs.RowBelow.{has-children, height-in, names-at, child-text, over, Adds};
+ghost use Rattle.tree.specs.RowBelow.{has-children, height-in, names-at, child-text, Adds};
+use crate::bytes::write;
 use crate::rows::count;
 use crate::rows::depth_at;
 use crate::rows::name_at;
@@ -50,29 +51,17 @@ pub fn height_below(tree: &[u8], at: usize) -> usize
     (most - depth) as usize
 }
 
-// Writes a text over a buffer from a place on.
-fn write_over(buffer: &mut [u8], place: usize, text: &[u8])
-    requires { ⌜ place + length (now text) ≤ length (now buffer) ⌝ }
-    ensures { λ r. ⌜ now (buffer .exit) ≡ over place (now (text .entry)) (now (buffer .entry)) ⌝ }
-{
-    let mut i: usize = 0;
-    while i < text.len() {
-        buffer[place + i] = text[i];
-        i += 1;
-    }
-}
-
 // Adds a name to those written, with a comma before it unless it is the first; tells where the next would stand.
 fn add_name(answer: &mut [u8], place: usize, name: &[u8]) -> usize
     requires { ⌜ (place + length (now name) ≤ length (now answer)) × (length (now name) ≤ 8) ⌝ }
     ensures { λ r. ⌜ Adds (now (name .entry) ∷ []) (now (answer .entry)) place (now (answer .exit)) r × (r ≤ place + 9) ⌝ }
 {
     if place == 0 {
-        write_over(answer, 0, name);
+        write(answer, 0, name, name.len());
         return name.len() + 1;
     }
     answer[place - 1] = b',';
-    write_over(answer, place, name);
+    write(answer, place, name, name.len());
     place + name.len() + 1
 }
 

@@ -1,6 +1,7 @@
 // The file tree as rows in preorder in a lent buffer of 59,394 bytes; docs/FORMAT.md has the layout.
 mod access;
 mod below;
+mod bytes;
 mod rows;
 mod scan;
 mod walks;
@@ -10,6 +11,7 @@ pub use access::readable_at;
 pub use below::child_names;
 pub use below::has_children;
 pub use below::height_below;
+pub use bytes::write;
 pub use rows::content_at;
 pub use rows::count;
 pub use rows::depth_at;

@@ -1,15 +1,16 @@
 -- `tree::below::add_name` meets its contract: the first name is written as it is, another behind a comma.
 use mathlib.Core.Path.{_∙_}
 use native.Mathlib.Omega.{arith}
-use lib.ListN.{length-set}
+use Prim.Native.Nat.{_-_}
+use lib.ListN.{set, length-set}
 use denote.Ref.{now}
-use Rattle.tree.specs.RowBelowLaws.{named-first, named-more}
+use Rattle.tree.specs.RowBelowLaws.{named-first, named-more, over-paste}
 use borrow.Author.Needs.{needs}
 use Rattle.tree.proofs.below.add_name.Statement.{statement}
 use Rattle.tree.proofs.below.add_name.Tie as tie
 
-write-over-requires : tie.Need-write-over-requires
-write-over-requires c κs = search needs
+write-requires : tie.Need-write-requires
+write-requires c κs = search needs
 
 add-result : tie.Need-add-result
 add-result c = search needs
@@ -19,9 +20,9 @@ same-length c = search needs
 
 returns : tie.Need-returns
 returns c =
-    let w = c .before .before .write-over in
+    let w = c .before .before .write in
     let g = c .before .before .before .before .before .before .before .args in
-    (λ a ns v. named-first a (now (g .answer)) (w .last .0) (now (g .name)) (g .place) ns v (omega arith) (w .ensures), omega arith)
+    (λ a ns v. named-first a (now (g .answer)) (w .last .0) (now (g .name)) (g .place) ns v (omega arith) (w .ensures ∙ over-paste (now (g .answer)) (now (g .name)) 0), omega arith)
 
 sub-answer : tie.Need-sub-answer
 sub-answer c = search needs
@@ -29,8 +30,8 @@ sub-answer c = search needs
 slice-write-answer : tie.Need-slice-write-answer
 slice-write-answer c = search needs
 
-write-over-requires-2 : tie.Need-write-over-requires-2
-write-over-requires-2 c κs = search needs
+write-requires-2 : tie.Need-write-requires-2
+write-requires-2 c κs = search needs
 
 add-result-2 : tie.Need-add-result-2
 add-result-2 c = search needs
@@ -39,25 +40,25 @@ add-result-3 : tie.Need-add-result-3
 add-result-3 c = search needs
 
 same-length-2 : tie.Need-same-length-2
-same-length-2 c = c .before .before .write-over2 .kept .0 ∙ simp length-set
+same-length-2 c = c .before .before .write2 .kept .0 ∙ simp length-set
 
 returns-2 : tie.Need-returns-2
 returns-2 c =
-    let w = c .before .before .write-over2 in
+    let w = c .before .before .write2 in
     let g = c .before .before .before .before .before .before .before .args in
-    (λ a ns v. named-more a (now (g .answer)) (w .last .0) (now (g .name)) (g .place) ns v (λ e. omega arith) (omega arith) (w .ensures), omega arith)
+    (λ a ns v. named-more a (now (g .answer)) (w .last .0) (now (g .name)) (g .place) ns v (λ e. omega arith) (omega arith) (w .ensures ∙ over-paste (set (now (g .answer)) (g .place - 1) 44) (now (g .name)) (g .place)), omega arith)
 
 pub add-name-spec : {M : Type 1} → statement M
 add-name-spec =
     tie.close
     (tie.spec
-    write-over-requires
+    write-requires
     add-result
     same-length
     returns
     sub-answer
     slice-write-answer
-    write-over-requires-2
+    write-requires-2
     add-result-2
     add-result-3
     same-length-2

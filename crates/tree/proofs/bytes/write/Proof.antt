@@ -1,13 +1,13 @@
--- `edits::bytes::write` meets its contract: a turn writes one byte more.
+-- `tree::bytes::write` meets its contract: a turn writes one byte more.
 use mathlib.Core.Path.{_≡_, refl}
 use Prim.Native.Nat.{_-_, _≤_}
 use native.Mathlib.Omega.{arith}
+use native.Mathlib.Numerals.{add-one}
 use lib.ListN.{length, length-set}
-use lib.Seq.{paste, paste-zero}
+use lib.Seq.{paste, paste-zero, paste-suc}
 use denote.Ref.{now}
-use Rattle.edits.specs.Paste.{write-again}
-use Rattle.edits.proofs.bytes.write.Statement.{statement}
-use Rattle.edits.proofs.bytes.write.Tie as tie
+use Rattle.tree.proofs.bytes.write.Statement.{statement}
+use Rattle.tree.proofs.bytes.write.Tie as tie
 
 abbrev Inv-loop : tie.InvT-loop
 Inv-loop b₀ at s n i₀ b i = (i ≤ n) × (length b ≡ length b₀) × (b ≡ paste b₀ at s i)
@@ -38,7 +38,7 @@ loop-again c =
     let l = c .before .before in
     let a = l .before .args in
     let i = l .loop .inv in
-    (omega arith, simp length-set (i .1), write-again (l .loop .b) (now (a .b)) (now (a .s)) (a .at) (a .n) (l .loop .i) (omega arith) (omega arith) (omega arith) (i .2))
+    (omega arith, simp length-set (i .1), rw (i .2, add-one (l .loop .i)) (paste-suc (now (a .b)) (a .at) (now (a .s)) (l .loop .i) 0 (omega arith) (omega arith)))
 
 same-length : tie.Need-same-length Inv-loop μ-loop
 same-length c = omega arith
