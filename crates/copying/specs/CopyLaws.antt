@@ -24,7 +24,8 @@ use Rattle.shell.specs.Caller.{new-node}
 use Rattle.shell.specs.Keeping.{is-caller, new-node-fits}
 use Rattle.copying.specs.Copying.{below-rep, nodes-by, copy-mode, copy-node, copied, copy-children, copy}
 
-copy-mode-fits : (k : Kind) → (is-mode (copy-mode k) ≡ true) × (set-gid (copy-mode k) ≡ false)
+-- a copy's mode is one, and without set-gid
+pub copy-mode-fits : (k : Kind) → (is-mode (copy-mode k) ≡ true) × (set-gid (copy-mode k) ≡ false)
 unfolding copy-mode is-mode set-gid
 copy-mode-fits File = (refl, refl)
 copy-mode-fits Directory = (refl, refl)

@@ -1,1 +1,12 @@
 // Copies of what may be read, for `co`.
+mod copies;
+
+use accounts::Account;
+pub use copies::copy_entry;
+use shell::Caller;
+
+// Who copies: the account that reads, and the caller whose the copies are.
+pub struct Copier {
+    pub reader: Account,
+    pub caller: Caller,
+}

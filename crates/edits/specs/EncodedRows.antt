@@ -75,7 +75,7 @@ module _ (A B old : List ℕ) (i k : ℕ) (l : length A ≡ 2 + 232 * i + k) whe
   field-read = ap (take (length old)) (drop-at A (old ++ B) (2 + 232 * i + k) l) ∙ take-at old B (length old) refl
 
   -- and written there
-  field-pieces : (new : List ℕ) → length old ≡ length new → field-put (A ++ (old ++ B)) i k new ≡ A ++ (new ++ B)
+  pub field-pieces : (new : List ℕ) → length old ≡ length new → field-put (A ++ (old ++ B)) i k new ≡ A ++ (new ++ B)
   unfolding field-put row-start row-width
   field-pieces new e = paste-piece A B old new (2 + 232 * i + k) (length new) l e refl
 
@@ -90,7 +90,8 @@ encode-tree-rows t = refl
 abbrev pub Wide : List (Row Node) → Type 0
 Wide rs = length (all-bytes row-bytes rs) ≡ length rs * row-width
 
-all-append : (xs ys : List (Row Node)) → all-bytes row-bytes (xs ++ ys) ≡ all-bytes row-bytes xs ++ all-bytes row-bytes ys
+-- the bytes of rows one behind the other
+pub all-append : (xs ys : List (Row Node)) → all-bytes row-bytes (xs ++ ys) ≡ all-bytes row-bytes xs ++ all-bytes row-bytes ys
 unfolding all-bytes
 all-append [] ys = refl
 all-append (x ∷ xs) ys =

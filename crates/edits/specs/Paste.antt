@@ -106,7 +106,7 @@ pub set-paste : (s : List ℕ) (i v : ℕ) → i < length s → set s i v ≡ pa
 set-paste s i v h = let e : i + 1 ≡ suc i = add-one i in set-split s i v h ∙ rw e (simp append-assoc)
 
 -- a byte stored right behind a piece is one more of it
-set-behind : (s a : List ℕ) (at n v : ℕ) → length a ≡ n → at + n + 1 ≤ length s
+pub set-behind : (s a : List ℕ) (at n v : ℕ) → length a ≡ n → at + n + 1 ≤ length s
     → set (paste s at a n) (at + n) v ≡ paste s at (a ++ (v ∷ [])) (n + 1)
 set-behind s a at n v e fits =
     set-paste (paste s at a n) (at + n) v (omega (arith, length-paste s at a n (omega arith) (omega arith)))

@@ -13,10 +13,11 @@ use Rattle.tree.specs.WellFormed.{most-nodes}
 use Rattle.tree.specs.Fields.{two-bytes, padded, all-bytes}
 use Rattle.tree.specs.FieldsLaws.{length-padded, length-two-bytes}
 use Rattle.tree.specs.Encoding.{row-width, kind-byte, tag-bytes, row-bytes, encode-rows, encode-tree}
-use Rattle.tree.specs.RowAt.{row-count}
+use Rattle.tree.specs.RowAt.{row-count, tag-text-at}
+use Rattle.tree.specs.RowAtLaws.{text-in-row, text-part}
 use Rattle.edits.specs.declared.Fresh.{Fresh}
 use Rattle.edits.specs.Changes.{row-start, rows-put, rows-taken, field-at, field-put, fresh-node, head-bytes}
-use Rattle.edits.specs.Paste.{paste-two, paste-join, set-paste, gap-filled}
+use Rattle.edits.specs.Paste.{paste-two, paste-join, set-paste, set-behind, gap-filled}
 
 -- ---- a field
 
@@ -45,6 +46,42 @@ tag-put b t i n e h l =
     ap (λ (at : ℕ). paste (paste b (2 + 232 * i + 16) T 54) at (two-bytes n) 2) q
     ∙ paste-join b T (two-bytes n) (2 + 232 * i + 16) 54 2 lT lN (omega arith)
     ∙ piece-put b i 16 (T ++ two-bytes n) 56 (length-append T (two-bytes n) ∙ omega arith)
+
+-- a text copied, a byte behind it, and a name filled up are one text filled up
+joined-put : (b t m : List ℕ) (at n from c : ℕ) → length t ≡ n → take n (drop from b) ≡ t → n + length m < 54 → at + 54 ≤ length b
+    → paste (set (paste b at (drop from b) n) (at + n) c) (at + 1 + n) (padded (53 - n) m) (53 - n) ≡ paste b at (padded 54 (t ++ (c ∷ m))) 54
+unfolding padded
+joined-put b t m at n from c e w h fits =
+    let q : at + 1 + n ≡ at + (n + 1) = omega arith in
+    let p : take n (drop from b) ≡ take n t = w ∙ sym (take-all n t (omega arith)) in
+    let a : paste b at (drop from b) n ≡ paste b at t n = ap (λ (l : List ℕ). take at b ++ l ++ drop (at + n) b) p in
+    let first : set (paste b at (drop from b) n) (at + n) c ≡ paste b at (t ++ (c ∷ [])) (n + 1) =
+    ap (λ (l : List ℕ). set l (at + n) c) a ∙ set-behind b t at n c e (omega arith) in
+    let lm = length-padded (53 - n) m (omega arith) in
+    let lt = length-append t (c ∷ []) in
+    let z : 53 - n - length m ≡ 54 - length (t ++ (c ∷ m)) = omega (arith, length-append t (c ∷ m)) in
+    let r : n + 1 + (53 - n) ≡ 54 = omega arith in
+    let g : (t ++ (c ∷ [])) ++ (m ++ replicate (54 - length (t ++ (c ∷ m))) 0) ≡ (t ++ (c ∷ m)) ++ replicate (54 - length (t ++ (c ∷ m))) 0 = simp append-assoc in
+    ap (λ (l : List ℕ). paste l (at + 1 + n) (padded (53 - n) m) (53 - n)) first
+    ∙ ap (λ (i : ℕ). paste (paste b at (t ++ (c ∷ [])) (n + 1)) i (padded (53 - n) m) (53 - n)) q
+    ∙ (paste-join b (t ++ (c ∷ [])) (padded (53 - n) m) at (n + 1) (53 - n) (omega arith) lm (omega arith))
+    ∙ rw r (ap (λ (l : List ℕ). paste b at l 54) (ap (λ (k : ℕ). (t ++ (c ∷ [])) ++ (m ++ replicate k 0)) z ∙ g))
+
+-- the tag of a child: the text of another row's tag, a slash and a name
+pub tag-below-put : (b m : List ℕ) (i above n v : ℕ) → length b ≡ 59394 → i < 256 → n ≡ length (tag-text-at b above) → n + length m < 54
+    → paste (paste (set (paste b (2 + 232 * i + 16) (drop (2 + 232 * above + 16) b) n) (2 + 232 * i + 16 + n) 47) (2 + 232 * i + 17 + n) (padded (53 - n) m) (53 - n))
+    (2 + 232 * i + 70) (two-bytes v) 2
+    ≡ field-put b i 16 (padded 54 (tag-text-at b above ++ (47 ∷ m)) ++ two-bytes v)
+unfolding tag-text-at
+tag-below-put b m i above n v e h q l =
+    let t = tag-text-at b above in
+    let at = 2 + 232 * i + 16 in
+    let same = text-in-row b above 16 54 (omega arith) in
+    let part = text-part b (2 + 232 * above + 16) 54 n (q ∙ ap length same) (omega arith) ∙ sym same in
+    let u : 2 + 232 * i + 17 + n ≡ at + 1 + n = omega arith in
+    ap (λ (j : ℕ). paste (paste (set (paste b at (drop (2 + 232 * above + 16) b) n) (at + n) 47) j (padded (53 - n) m) (53 - n)) (2 + 232 * i + 70) (two-bytes v) 2) u
+    ∙ ap (λ (s : List ℕ). paste s (2 + 232 * i + 70) (two-bytes v) 2) (joined-put b t m at n (2 + 232 * above + 16) 47 (sym q) part l (omega arith))
+    ∙ tag-put b (t ++ (47 ∷ m)) i v e h (omega (arith, length-append t (47 ∷ m)))
 
 -- a content copied from another row
 pub content-copied : (b : List ℕ) (from to : ℕ) → length b ≡ 59394 → from < 256

@@ -1,15 +1,17 @@
 // The fields of a row written.
 ghost use mathlib.Core.Path.{_≡_};
 ghost use mathlib.Core.List.{[], _∷_, _++_};
-ghost use Prim.Native.Nat.{_≤_, _<_};
+ghost use Prim.Native.Nat.{_+_, _≤_, _<_};
 ghost use lib.ListN.{length};
 ghost use Rattle.tree.specs.Fields.{two-bytes, padded};
+ghost use Rattle.tree.specs.RowAt.{tag-text-at};
 ghost use Rattle.edits.specs.Changes.{field-at, field-put};
 use crate::bytes::move_bytes;
 use crate::bytes::write_number;
 use crate::bytes::write_padded;
 use accounts::Gid;
 use accounts::Uid;
+use tree::tag_path_at;
 
 // The bytes of a row.
 const ROW: usize = 232;
@@ -49,6 +51,19 @@ pub fn set_tag(tree: &mut [u8], i: usize, path: &[u8], revision: u16)
 {
     let at = 2 + ROW * i;
     write_padded(tree, at + 16, 54, path);
+    write_number(tree, at + 70, revision);
+}
+
+// The tag of a child: the path of the tag at another row, a slash and a name.
+pub fn set_tag_below(tree: &mut [u8], i: usize, above: usize, name: &[u8], revision: u16)
+    requires { ⌜ (length (now tree) ≡ 59394) × ((i < 256) × ((above < 256) × (length (tag-text-at (now tree) above) + length (now name) < 54))) ⌝ }
+    ensures { λ _. ⌜ now (tree .exit) ≡ field-put (now (tree .entry)) i 16 (padded 54 (tag-text-at (now (tree .entry)) above ++ (47 ∷ now (name .entry))) ++ two-bytes revision) ⌝ }
+{
+    let at = 2 + ROW * i;
+    let n = tag_path_at(tree, above).len();
+    move_bytes(tree, 2 + ROW * above + 16, at + 16, n);
+    tree[at + 16 + n] = b'/';
+    write_padded(tree, at + 17 + n, 53 - n, name);
     write_number(tree, at + 70, revision);
 }
 

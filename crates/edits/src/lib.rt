@@ -13,12 +13,14 @@ pub use fields::set_mode;
 pub use fields::set_owner;
 pub use fields::set_revision;
 pub use fields::set_tag;
+pub use fields::set_tag_below;
 pub use fields::set_tag_revision;
 pub use moving::move_place;
 pub use rows::plant;
 pub use rows::put_child;
 pub use rows::put_rows;
 pub use rows::take_rows;
+pub use rows::write_row;
 use tree::Kind;
 
 // A new node, without tag and content.

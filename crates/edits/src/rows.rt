@@ -80,7 +80,7 @@ fn write_head(tree: &mut [u8], at: usize, depth: u8, node: Fresh)
 }
 
 // Writes the row of a new node.
-fn write_row(tree: &mut [u8], at: usize, depth: u8, name: &[u8], node: Fresh)
+pub fn write_row(tree: &mut [u8], at: usize, depth: u8, name: &[u8], node: Fresh)
     requires { ⌜ (at + 232 ≤ length (now tree)) × (length (now name) ≤ 8) ⌝ }
     ensures { λ _. ⌜ now (tree .exit) ≡ paste (now (tree .entry)) at (row-bytes (record { depth = depth; name = now (name .entry); here = fresh-node node })) 232 ⌝ }
 {

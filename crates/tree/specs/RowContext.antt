@@ -87,7 +87,7 @@ module _ {A : Type 0} where
   ends-suc k (r ∷ rs) h = let l = leb-true (r .depth) k h in le-leb (r .depth) (suc k) (omega arith)
 
   -- and so do they behind the rows of siblings at that depth
-  ends-flatten : (k : ℕ) (F : Forest A) (B : List (Row A)) → ends k B ≡ true → ends (suc k) (flatten (suc k) F ++ B) ≡ true
+  pub ends-flatten : (k : ℕ) (F : Forest A) (B : List (Row A)) → ends k B ≡ true → ends (suc k) (flatten (suc k) F ++ B) ≡ true
   unfolding ends flatten
   ends-flatten k nil B h = ends-suc k B h
   ends-flatten k (node m x cs rest) B h = le-leb (suc k) (suc k) (omega arith)

@@ -84,6 +84,11 @@ module _ {A : Type 0} where
   ends-deeper k [] h = refl
   ends-deeper k (r ∷ rs) h = le-ltb k (r .depth) (leb-true (r .depth) k h)
 
+  -- what a scan for deeper rows passes are the rows of siblings one level down
+  pub below-span : (k : ℕ) (F : Forest A) (B : List (Row A)) → ends k B ≡ true → span (deeper k) (flatten (suc k) F ++ B) ≡ size F
+  below-span k F B h =
+      span-append (deeper k) (flatten (suc k) F) B (flatten-deeper k (suc k) F (omega arith)) (ends-deeper k B h) ∙ length-flatten (suc k) F
+
   module _ (k : ℕ) (n : Name) where
     -- the scan goes past rows further down
     passes-deeper : (r : Row A) → deeper k r ≡ true → passes k n r ≡ true
@@ -212,11 +217,7 @@ module _ {A : Type 0} {t : Place A} {p : Path} {d : Place A} (c : Around t p d) 
 
   -- the rows below a place are the deeper ones that follow its own
   pub subtree-span : span (deeper (depth p)) (drop (suc (index-of t p)) (rows t)) ≡ size (d .below)
-  subtree-span =
-      rw rows-from-children
-      (span-append (deeper (depth p)) (flatten (suc (depth p)) (d .below)) (c .post)
-      (flatten-deeper (depth p) (suc (depth p)) (d .below) (omega arith)) (ends-deeper (depth p) (c .post) (c .stops))
-      ∙ length-flatten (suc (depth p)) (d .below))
+  subtree-span = rw rows-from-children (below-span (depth p) (d .below) (c .post) (c .stops))
 
   module _ (n : Name) where
     -- the rows of a place's children, the lesser ones apart

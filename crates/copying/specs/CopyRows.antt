@@ -1,0 +1,118 @@
+-- The rows of copies: where the place that is copied stands among rows, which rows its copies are, and what the code asks for and
+-- leaves. Only the entry as a whole is found by its path in the tree; all below it is found by its rows.
+use mathlib.Core.Path.{_≡_}
+use mathlib.Core.List.{List, _++_}
+use mathlib.Core.Option.{none, some}
+use mathlib.Core.Bool.{true, false}
+use Prim.Native.Nat.{ℕ, suc, _+_, _*_, _≤_}
+use lib.ListN.{length, drop}
+use lib.Seq.{paste}
+use Rattle.accounts.specs.declared.Uid.{Uid}
+use Rattle.accounts.specs.declared.Gid.{Gid}
+use Rattle.syntax.specs.Number.{set-gid}
+use Rattle.syntax.specs.Path.{Name, Path, Entry-path, depth, entry-location, is-entry-path, entry-text}
+use Rattle.tree.specs.Forest.{Forest, nil, node, Place, place-at, size, height}
+use Rattle.tree.specs.Node.{Node, set-tag}
+use Rattle.tree.specs.Walk.{by-modes}
+use Rattle.tree.specs.WellFormed.{is-forest, is-tree}
+use Rattle.tree.specs.Rows.{Row, flatten}
+use Rattle.tree.specs.RowContext.{place-rows, ends, index-of}
+use Rattle.tree.specs.Fields.{all-bytes}
+use Rattle.tree.specs.Encoding.{row-width, row-bytes, encode-tree}
+use Rattle.tree.specs.RowAt.{row-at, all-rows, tag-text-at}
+use Rattle.shell.specs.Caller.{new-node}
+use Rattle.edits.specs.Changes.{row-start}
+use Rattle.copying.specs.declared.Copier.{Copier}
+use Rattle.copying.specs.Copying.{below-rep, Source, nodes-by, copy-mode, copy-children, copy}
+
+-- the place d, named n, stands from row `at` on at depth k
+pub record Stands (rs : List (Row Node)) (at k : ℕ) (n : Name) (d : Place Node) : Type 0 where
+  pub post : List (Row Node)
+  pub here : drop at rs ≡ place-rows k n d ++ post
+  pub stops : ends k post ≡ true
+
+-- the entry path of a child
+unfoldable pub child-entry : Entry-path → Name → Entry-path
+child-entry e n = record { folder = below-rep e; name = n }
+
+-- the nodes that a copier reads
+abbrev pub read-by : Copier → Source Node
+read-by w = nodes-by (by-modes (w .reader))
+
+-- the rows of the copies of siblings: their directory, whose entry path is e, is copied as x at depth m
+unfoldable pub copy-rows : Copier → ℕ → Node → Entry-path → Forest Node → List (Row Node)
+copy-rows w m x e F = flatten (suc m) (copy-children (w .caller) (read-by w) x (below-rep e) F)
+
+-- a copy but for its tag
+unfoldable pub untagged : Uid → Gid → Node → Node
+untagged owner group x = record { kind = x .kind; owner = owner; group = group; mode = copy-mode (x .kind); revision = 0; tag = none; content = x .content }
+
+-- the row of a copy: where it goes, its group, its entry path and the original
+unfoldable pub tagged-row : Copier → ℕ → Name → Gid → Entry-path → Node → Row Node
+tagged-row w k n group e x = record {
+  depth = k;
+  name = n;
+  here = set-tag (record { path = e; revision = x .revision }) (untagged (w .caller .account .uid) group x);
+}
+
+-- the row of the copy of a child, below a copy at depth m of the entry e
+abbrev pub copy-of-row : Copier → ℕ → Entry-path → Row Node → Row Node
+copy-of-row w m e r = tagged-row w (suc m) (r .name) (w .caller .primary) (child-entry e (r .name)) (r .here)
+
+-- what is copied: the children of a place, or the place alone
+abbrev pub children : Name → Place Node → Forest Node
+children n d = d .below
+
+abbrev pub alone : Name → Place Node → Forest Node
+alone n d = node n (d .here) (d .below) nil
+
+-- the copies of siblings F fit below the copy at row `above` of o, from row `to` on; `left` levels at most
+pub record Below (o : List ℕ) (above to left : ℕ) (F : Forest Node) : Type 0 where
+  pub entry : Entry-path
+  pub parent : Node
+  pub tagged : tag-text-at o above ≡ entry-text entry
+  pub valid : is-entry-path entry ≡ true
+  pub plain : set-gid (parent .mode) ≡ false
+  pub whole : is-forest F ≡ true
+  pub short : depth (entry-location entry) + height F ≤ 6
+  pub deep : height F ≤ left
+  pub low : row-at o above .depth + height F ≤ 255
+  pub room : to + size F ≤ 256
+
+-- the place at row `at` of b, and where the copies go
+pub record Job (what : Name → Place Node → Forest Node) (b o : List ℕ) (at above to left : ℕ) : Type 0 where
+  pub level : ℕ
+  pub name : Name
+  pub place : Place Node
+  pub stands : Stands (all-rows b) at level name place
+  pub below : Below o above to left (what name place)
+
+-- the rows that a job is to write
+unfoldable pub job-rows : {what : Name → Place Node → Forest Node} {b o : List ℕ} {at above to left : ℕ} → Copier → Job what b o at above to left → List (Row Node)
+job-rows {what} {b} {o} {at} {above} {to} {left} w j = copy-rows w (row-at o above .depth) (j .below .parent) (j .below .entry) (what (j .name) (j .place))
+
+-- rows written from row `to` on, and nothing else: r is the row behind them
+pub record Written (o : List ℕ) (to : ℕ) (rs : List (Row Node)) (r : ℕ) (z : List ℕ) : Type 0 where
+  pub next : r ≡ to + length rs
+  pub bytes : z ≡ paste o (row-start to) (all-bytes row-bytes rs) (row-width * length rs)
+  pub wide : length (all-bytes row-bytes rs) ≡ row-width * length rs
+
+-- an entry to copy: the place at row `at` of a tree's bytes, with its path as text, and the group of a new node in the directory that the copy goes to
+pub record Entry-job (w : Copier) (b : List ℕ) (at : ℕ) (group : Gid) (path : List ℕ) : Type 0 where
+  pub top : Place Node
+  pub spot : Path
+  pub place : Place Node
+  pub entry : Entry-path
+  pub parent : Node
+  pub well : is-tree top ≡ true
+  pub bytes : b ≡ encode-tree top
+  pub there : place-at top spot ≡ some place
+  pub index : at ≡ index-of top spot
+  pub text : path ≡ entry-text entry
+  pub valid : is-entry-path entry ≡ true
+  pub short : depth (entry-location entry) + height (place .below) ≤ 6
+  pub given : group ≡ new-node (w .caller) parent (place .here .kind) (copy-mode (place .here .kind)) .group
+
+-- its copy
+unfoldable pub entry-copy : {w : Copier} {b : List ℕ} {at : ℕ} {group : Gid} {path : List ℕ} → Entry-job w b at group path → Place Node
+entry-copy {w} j = copy (w .caller) (read-by w) (j .parent) (j .entry) (j .place)
