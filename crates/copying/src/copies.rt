@@ -26,9 +26,9 @@ use tree::content_at;
 use tree::depth_at;
 use tree::kind_at;
 use tree::name_at;
-use tree::readable_at;
 use tree::revision_at;
 use tree::subtree_end;
+use walks::readable_at;
 
 // The bytes of a row.
 const ROW: usize = 232;

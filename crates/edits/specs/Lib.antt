@@ -3,5 +3,3 @@ pub mod Paste
 pub mod Written
 pub mod EncodedRows
 pub mod EditLaws
-pub mod Relabel
-pub mod Moving

@@ -1,11 +1,11 @@
 // Changes of a tree that lies as rows in preorder in a lent buffer of 59,394 bytes; docs/FORMAT.md has the layout.
 mod bytes;
 mod fields;
-mod moving;
 mod rows;
 
 use accounts::Gid;
 use accounts::Uid;
+pub use bytes::write_padded;
 pub use fields::copy_content;
 pub use fields::set_content;
 pub use fields::set_group;
@@ -15,7 +15,6 @@ pub use fields::set_revision;
 pub use fields::set_tag;
 pub use fields::set_tag_below;
 pub use fields::set_tag_revision;
-pub use moving::move_place;
 pub use rows::plant;
 pub use rows::put_child;
 pub use rows::put_rows;

@@ -32,9 +32,5 @@ pub mod RowBytesLaws
 pub mod EncodingLaws
 pub mod RowAt
 pub mod RowAtLaws
-pub mod RowBelow
-pub mod RowBelowLaws
-pub mod RowWalk
-pub mod RowWalkLaws
 pub mod TreeAtLaws
 pub mod Compute

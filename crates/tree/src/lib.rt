@@ -1,16 +1,8 @@
 // The file tree as rows in preorder in a lent buffer of 59,394 bytes; docs/FORMAT.md has the layout.
-mod access;
-mod below;
 mod bytes;
 mod rows;
 mod scan;
-mod walks;
 
-pub use access::may_at;
-pub use access::readable_at;
-pub use below::child_names;
-pub use below::has_children;
-pub use below::height_below;
 pub use bytes::write;
 pub use rows::content_at;
 pub use rows::count;
@@ -26,8 +18,6 @@ pub use rows::tag_revision_at;
 pub use scan::compare;
 pub use scan::find_child;
 pub use scan::subtree_end;
-pub use walks::parent_walk;
-pub use walks::walk;
 
 // What a node is.
 pub enum Kind {
@@ -69,10 +59,4 @@ pub enum Order {
 pub enum Child {
     Found(usize),
     Missing(usize),
-}
-
-// Where a walk came to: the row of the place and that of the directory above it, or why it was refused.
-pub enum Walked {
-    At { row: usize, above: usize },
-    Refused(Cause),
 }

@@ -21,7 +21,7 @@ use Rattle.copying.proofs.copies.copy_node.Reads as copy-node
 use Rattle.copying.proofs.copies.copy_node.Kinds as copy-node-kinds
 use Rattle.copying.proofs.copies.+copy_children+copy_node.Lts-copy_node as copy-node-lts
 use Rattle.copying.proofs.copies.copy_row.Reads as copy-row-reads
-use Rattle.tree.proofs.readable_at.Reads as readable-at-reads
+use Rattle.walks.proofs.readable_at.Reads as readable-at-reads
 use Rattle.tree.proofs.subtree_end.Reads as subtree-end-reads
 use Rattle.copying.proofs.copies.+copy_children+copy_node.{statement}
 use Rattle.copying.proofs.copies.+copy_children+copy_node.Tie.{close}

@@ -4,7 +4,7 @@ use native.Mathlib.Omega.{arith}
 use lib.ListN.{length}
 use denote.Ref.{now}
 use Rattle.tree.specs.RowAt.{row-at}
-use Rattle.tree.specs.RowBelowLaws.{row-name-fits}
+use Rattle.walks.specs.RowBelowLaws.{row-name-fits}
 use Rattle.copying.specs.CopyBytes.{row-copied}
 use borrow.Author.Needs.{needs}
 use Rattle.copying.proofs.copies.copy_row.Statement.{statement}

@@ -1,0 +1,5 @@
+pub mod RowBelow
+pub mod RowBelowLaws
+pub mod RowWalk
+pub mod RowWalkLaws
+pub mod WalkAtLaws

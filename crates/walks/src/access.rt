@@ -1,0 +1,39 @@
+// What an account may do at a row.
+ghost use mathlib.Core.Path.{_≡_};
+ghost use Prim.Native.Nat.{_<_};
+ghost use lib.ListN.{length};
+ghost use Rattle.tree.specs.Node.{allows};
+ghost use Rattle.tree.specs.Walk.{by-modes};
+ghost use Rattle.tree.specs.RowAt.{row-at};
+use accounts::Account;
+use accounts::Right;
+use tree::Kind;
+use tree::group_at;
+use tree::kind_at;
+use tree::mode_at;
+use tree::owner_at;
+
+// The access test.
+pub fn may_at(tree: &[u8], i: usize, account: Account, right: Right) -> bool
+    requires { ⌜ (length (now tree) ≡ 59394) × (i < 256) ⌝ }
+    ensures { λ r. ⌜ r ≡ allows account right (row-at (now (tree .entry)) i .here) ⌝ }
+{
+    let owner = owner_at(tree, i);
+    let group = group_at(tree, i);
+    let mode = mode_at(tree, i);
+    account.may(right, owner, group, mode)
+}
+
+// Whether a file may be read, with r, or a directory listed, with r and x.
+pub fn readable_at(tree: &[u8], i: usize, account: Account) -> bool
+    requires { ⌜ (length (now tree) ≡ 59394) × (i < 256) ⌝ }
+    ensures { λ r. ⌜ r ≡ by-modes account .readable (row-at (now (tree .entry)) i .here) ⌝ }
+{
+    if !may_at(tree, i, account, Right::R) {
+        return false;
+    }
+    match kind_at(tree, i) {
+        Kind::File => true,
+        Kind::Directory => may_at(tree, i, account, Right::X),
+    }
+}
