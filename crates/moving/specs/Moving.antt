@@ -14,7 +14,8 @@ use Rattle.accounts.specs.Cases.{case, contra}
 use Rattle.syntax.specs.Text.{Text, bytes}
 use Rattle.syntax.specs.Path.{Name, Path, root, _▹_, parent, last, depth, is-top, within, path, is-name, names-text, path-text}
 use Rattle.syntax.specs.PathLaws.{name-fits, path-is-path, path-depth, last-is-name, parent-depth}
-use Rattle.syntax.specs.ParentLaws.{text-of-path}
+use Rattle.syntax.specs.Parts.{last-slash}
+use Rattle.syntax.specs.ParentLaws.{text-of-path, last-name}
 use Rattle.syntax.specs.WithinLaws.{deeper, lies, lies-outside}
 use Rattle.tree.specs.declared.Cause.{Cause}
 use Rattle.tree.specs.declared.Child.{Child}
@@ -34,7 +35,7 @@ use Rattle.tree.specs.RowContext.{index-of, place-rows}
 use Rattle.tree.specs.RowLaws.{length-rows}
 use Rattle.tree.specs.RowEdits.{lesser}
 use Rattle.tree.specs.Fields.{all-bytes}
-use Rattle.tree.specs.Encoding.{row-bytes, encode-tree}
+use Rattle.tree.specs.Encoding.{row-width, row-bytes, encode-tree}
 use Rattle.tree.specs.RowAt as rows
 use Rattle.tree.specs.RowAt.{row-count, row-at, all-rows, end-of-subtree}
 use Rattle.tree.specs.RowAtLaws.{row-count-of-tree}
@@ -78,6 +79,14 @@ pub record Movable (bytes : List ℕ) (at : ℕ) (to : Text) : Type 0 where
   pub outside : within a b ≡ false
   pub low : depth b + height (d .below) ≤ 6
 
+-- what stands behind the last `/` of a text
+unfoldable pub behind-slash : Text → Text
+behind-slash t = L.drop (suc (last-slash t)) t
+
+-- the bytes of the buffer that has held the rows of the place: its rows as they were put in, then what stood there
+unfoldable pub held-after : {s : List ℕ} {at : ℕ} {to : Text} → Movable s at to → List ℕ → List ℕ
+held-after m Z = all-bytes row-bytes (place-rows (depth (m .b)) (last (m .b)) (m .d)) ++ L.drop (row-width * suc (size (m .d .below))) Z
+
 -- ---- paths
 
 -- a path below `/` is its parent with its last name
@@ -85,6 +94,11 @@ below-top : (p : Path) → is-top p ≡ false → p ≡ parent p ▹ last p
 unfolding is-top parent last
 below-top root h = contra {b = true} refl h
 below-top (p ▹ n) h = refl
+
+-- behind the last `/` of its text stands its last name
+pub behind-slash-is : (to : Text) (p : Path) → path to ≡ some p → behind-slash to ≡ last p
+unfolding behind-slash
+behind-slash-is to p e = last-name to p e
 
 text-begins : (p : Path) → 0 < length (path-text p)
 unfolding path-text names-text bytes
@@ -272,6 +286,15 @@ module _ {s : List ℕ} {at : ℕ} {to : Text} (m : Movable s at to) where
         ∙ ap (λ (x : Text). relabelled c (depth (m .b)) x (all-bytes row-bytes (place-rows (depth (m .a)) (last (m .a)) (m .d)) ++ Q)) w
         ∙ relabelled-place (depth (m .a)) (depth (m .b)) (last (m .a)) (last (m .b)) (m .d) Q (place-fits (m .t) (m .a) (m .d) (m .whole) (m .moved))
         (name-fits (last (m .b)) movable-name .0) (omega (arith, m .low))
+
+    -- so they stand in the buffer
+    pub held-law : (k : ℕ) (Z h w : List ℕ) (name : Text) → k ≡ depth (left .b) → h ≡ paste Z 0 (L.drop (2 + 232 * at) s) (232 * n) → name ≡ last (m .b)
+        → w ≡ relabelled n k name h → w ≡ held-after m Z
+    unfolding left held-after row-width
+    held-law k Z h w name e q named is =
+        let i : 0 + 232 * n ≡ 232 * suc (size (m .d .below)) = omega arith in
+        is ∙ held-rows k Z h name e q named
+        ∙ ap (λ (j : ℕ). all-bytes row-bytes (place-rows (depth (m .b)) (last (m .b)) (m .d)) ++ L.drop j Z) i
 
     -- put in there: the tree with the place moved
     pub move-law : (i k : ℕ) (Z h w : List ℕ) (name : Text)

@@ -9,7 +9,7 @@ ghost use Rattle.tree.specs.Encoding.{row-width, encode-tree};
 ghost use Rattle.tree.specs.RowContext.{index-of};
 ghost use Rattle.tree.specs.RowEdits.{lesser};
 ghost use Rattle.moving.specs.Relabel.{shifted, depths-shifted, relabelled};
-ghost use Rattle.moving.specs.Moving.{Vacant, Movable};
+ghost use Rattle.moving.specs.Moving.{behind-slash, Vacant, Movable, held-after};
 use accounts::Account;
 use accounts::Groups;
 use accounts::Uid;
@@ -63,10 +63,10 @@ fn relabel(rows: &mut [u8], n: usize, depth: u8, name: &[u8])
     write_padded(rows, 8, 8, name);
 }
 
-// The last name of a path.
+// The last name of a path: what stands behind the last `/` of a text.
 fn last_name(to: &[u8]) -> &[u8]
     requires { ⌜ 0 < length (now to) ⌝ }
-    ensures { λ r. ⌜ ((b : Path) → path (now (to .entry)) ≡ some b → now r ≡ last b) ⌝ }
+    ensures { λ r. ⌜ now r ≡ behind-slash (now (to .entry)) ⌝ }
 {
     let slash = syntax::last_slash(to);
     &to[slash + 1..]
@@ -99,6 +99,7 @@ fn gap_for(tree: &[u8], to: &[u8]) -> Gap
 fn move_by(tree: &mut [u8], at: usize, to: &[u8], held: &mut [u8])
     requires { ⌜ Movable (now tree) at (now to) × (length (now held) ≡ 59392) ⌝ }
     ensures { λ _. ⌜ ((m : Movable (now (tree .entry)) at (now (to .entry))) → now (tree .exit) ≡ encode-tree (update (parent (m .b)) (put (last (m .b)) (m .d)) (update (parent (m .a)) (drop (last (m .a))) (m .t)))) ⌝ }
+    ensures { λ _. ⌜ ((m : Movable (now (tree .entry)) at (now (to .entry))) → now (held .exit) ≡ held-after m (now (held .entry))) ⌝ }
 {
     let n = subtree_end(tree, at) - at;
     write(held, 0, &tree[2 + ROW * at..], ROW * n);

@@ -6,7 +6,7 @@ use denote.Ref.{now}
 use Rattle.accounts.specs.declared.Account.{Account}
 use Rattle.accounts.specs.Access.{is-root}
 use Rattle.walks.specs.RowWalk.{outcome}
-use Rattle.moving.specs.Moving.{path-not-empty, vacant-sized, vacant-reached, vacant-row, vacant-index, vacant-depth, vacant-missing, vacant-free}
+use Rattle.moving.specs.Moving.{path-not-empty, behind-slash-is, vacant-sized, vacant-reached, vacant-row, vacant-index, vacant-depth, vacant-missing, vacant-free}
 use borrow.Author.Needs.{needs}
 use Rattle.moving.proofs.subtree.gap_for.Statement.{statement}
 use Rattle.moving.proofs.subtree.gap_for.Tie as tie
@@ -59,7 +59,7 @@ returns-2 c v =
     let r = vacant-row v superuser (t .0 .0) (t .0 .1 .0) is-superuser (ap outcome (sym (t .1)) ∙ c .before .before .before .before .before .before .before .parent-walk .ensures) in
     let name = c .before .before .before .last-name in
     let f = c .enum-told2 .given in
-    vacant-free v (t .0 .0) (f .0 .0) (now (name .result)) r (name .ensures (v .b) (v .reads)) (sym (f .1) ∙ c .before .before .find-child .ensures)
+    vacant-free v (t .0 .0) (f .0 .0) (now (name .result)) r (name .ensures ∙ behind-slash-is _ (v .b) (v .reads)) (sym (f .1) ∙ c .before .before .find-child .ensures)
 
 depth-at-requires : tie.Need-depth-at-requires
 depth-at-requires c κs =
@@ -82,7 +82,7 @@ returns-3 c v =
     let r = vacant-row v superuser (t .0 .0) (t .0 .1 .0) is-superuser (ap outcome (sym (t .1)) ∙ c .before .before .before .before .before .before .before .before .before .parent-walk .ensures) in
     let name = c .before .before .before .before .before .last-name in
     let g = c .before .before .at .given in (
-      vacant-missing v (t .0 .0) (g .0 .0) (now (name .result)) r (name .ensures (v .b) (v .reads)) (sym (g .1) ∙ c .before .before .before .before .find-child .ensures),
+      vacant-missing v (t .0 .0) (g .0 .0) (now (name .result)) r (name .ensures ∙ behind-slash-is _ (v .b) (v .reads)) (sym (g .1) ∙ c .before .before .before .before .find-child .ensures),
       vacant-depth v (t .0 .0) (c .depth-at .result) r (c .depth-at .ensures) .0,
     )
 

@@ -6,7 +6,8 @@ use lib.ListN.{length, drop, length-drop}
 use lib.Seq.{take-all}
 use denote.Ref.{now}
 use Rattle.syntax.specs.Parts.{last-slash}
-use Rattle.syntax.specs.ParentLaws.{last-slash-less, last-name}
+use Rattle.syntax.specs.ParentLaws.{last-slash-less}
+use Rattle.moving.specs.Moving.{behind-slash}
 use borrow.Author.Needs.{needs}
 use Rattle.moving.proofs.subtree.last_name.Statement.{statement}
 use Rattle.moving.proofs.subtree.last_name.Tie as tie
@@ -27,14 +28,14 @@ part-result-end : tie.Need-part-result-end
 part-result-end c = search needs
 
 returns : tie.Need-returns
-returns c b e =
+unfolding behind-slash
+returns c =
     let s = now (c .before .before .before .args .to) in
     let k = c .before .last-slash .result in
     let D = drop (k + 1) s in
     let q : k + 1 ≡ suc (last-slash s) = omega (arith, c .before .last-slash .ensures) in
     take-all (length s - (k + 1)) D (omega (arith, length-drop (k + 1) s))
     ∙ ap (λ (i : ℕ). drop i s) q
-    ∙ last-name s b e
 
 pub last-name-spec : {M : Type 1} → statement M
 last-name-spec =

@@ -10,7 +10,7 @@ use Rattle.syntax.specs.Path.{last}
 use Rattle.syntax.specs.PathLaws.{name-fits}
 use Rattle.tree.specs.Forest.{size}
 use Rattle.tree.specs.Encoding.{row-width}
-use Rattle.moving.specs.Moving.{path-not-empty, vacant-sized, vacant-spot, movable-sized, movable-row, movable-end, movable-name, left, left-room, move-law}
+use Rattle.moving.specs.Moving.{path-not-empty, behind-slash-is, held-law, vacant-sized, vacant-spot, movable-sized, movable-row, movable-end, movable-name, left, left-room, move-law}
 use borrow.Author.Needs.{needs}
 use Rattle.moving.proofs.subtree.move_by.Statement.{statement}
 use Rattle.moving.proofs.subtree.move_by.Tie as tie
@@ -125,7 +125,7 @@ relabel-requires c κs =
     let e = c .before .before .before .before .before .before .before .before .before .before .before .before .before .before .subtree-end in
     let q = movable-end m (e .result) (e .ensures .0) in
     let w = c .before .before .before .before .before .before .before .before .before .before .write .kept .0 in
-    let n = ap length (c .before .last-name .ensures (m .b) (m .reads)) in
+    let n = ap length (c .before .last-name .ensures ∙ behind-slash-is (now (s .args .to)) (m .b) (m .reads)) in
     (omega (arith, q, z .few-rows, w, s .pre .1), (omega (arith, w, s .pre .1), omega (arith, n, name-fits (last (m .b)) (movable-name m) .0)))
 
 put-rows-requires : tie.Need-put-rows-requires
@@ -160,14 +160,11 @@ same-length-2 : tie.Need-same-length-2
 same-length-2 c = search needs
 
 returns : tie.Need-returns
-returns c m =
+returns c =
     let s = c .before .before .before .before .before .before .before .before .before .before .before .before .before .before .before .before .before .before .before .before .before .before .before .before .before .before .before in
     let e = c .before .before .before .before .before .before .before .before .before .before .before .before .before .before .before .before .before .before .before .before .before .before .subtree-end in
-    let q = movable-end m (e .result) (e .ensures .0) in
     let n = e .result - s .args .at in
     let k = c .before .before .before .before .before .before .before .before .before .before .before .before .before .before .take-rows in
-    let count : n ≡ suc (size (m .d .below)) = omega arith in
-    let v = left m n count (k .last .0) (k .ensures) in
     let w = c .before .before .before .before .before .before .before .before .before .before .before .before .before .before .before .before .before .before .write in
     let g = c .before .before .before .before .before .before .before .before .before .before .gap-for in
     let l = c .before .before .before .before .before .before .before .relabel in
@@ -176,10 +173,21 @@ returns c m =
     let i = 2 + 232 * s .args .at in
     let Z = now (s .args .held) in
     let all : take (length T - i) (drop i T) ≡ drop i T = take-all (length T - i) (drop i T) (omega (arith, length-drop i T)) in
-    let held : w .last .0 ≡ paste Z 0 (drop i T) (232 * n) = w .ensures ∙ ap (λ (x : List ℕ). paste Z 0 x (232 * n)) all in
-    c .before .before .put-rows .ensures
-    ∙ move-law m n count (k .last .0) (k .ensures) (g .result .at) (g .result .depth) Z (w .last .0) (l .last .0) (now (name .result))
-    (g .ensures v .0) (g .ensures v .1) held (name .ensures (m .b) (m .reads)) (l .ensures)
+    let held : w .last .0 ≡ paste Z 0 (drop i T) (232 * n) = w .ensures ∙ ap (λ (x : List ℕ). paste Z 0 x (232 * n)) all in (
+      λ m.
+          let q = movable-end m (e .result) (e .ensures .0) in
+          let count : n ≡ suc (size (m .d .below)) = omega arith in
+          let v = left m n count (k .last .0) (k .ensures) in
+          c .before .before .put-rows .ensures
+          ∙ move-law m n count (k .last .0) (k .ensures) (g .result .at) (g .result .depth) Z (w .last .0) (l .last .0) (now (name .result))
+          (g .ensures v .0) (g .ensures v .1) held (name .ensures ∙ behind-slash-is (now (s .args .to)) (m .b) (m .reads)) (l .ensures),
+      λ m.
+          let q = movable-end m (e .result) (e .ensures .0) in
+          let count : n ≡ suc (size (m .d .below)) = omega arith in
+          let v = left m n count (k .last .0) (k .ensures) in
+          held-law m n count (k .last .0) (k .ensures) (g .result .depth) Z (w .last .0) (l .last .0) (now (name .result))
+          (g .ensures v .1) held (name .ensures ∙ behind-slash-is (now (s .args .to)) (m .b) (m .reads)) (l .ensures),
+    )
 
 pub move-by-spec : {M : Type 1} → statement M
 move-by-spec =
