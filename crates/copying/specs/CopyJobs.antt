@@ -27,7 +27,7 @@ use Rattle.shell.specs.Caller.{new-node}
 use Rattle.edits.specs.Changes.{row-start}
 use Rattle.copying.specs.declared.Copier.{Copier}
 use Rattle.copying.specs.Copying.{copy-mode, copied, copy}
-use Rattle.copying.specs.CopyRows.{child-entry, read-by, copy-rows, tagged-row, copy-of-row, children, alone, Below, Job, job-rows, Written}
+use Rattle.copying.specs.CopyRows.{Spelled, child-entry, read-by, copy-rows, tagged-row, copy-of-row, children, alone, Below, Job, job-rows, Written}
 use Rattle.copying.specs.CopyRowLaws.{row-stands, children-stand, stands-end, first-stands, others-stand, primary-group, copied-plain, copy-place-rows, copy-rows-nil, copy-rows-few, copy-rows-more, copy-rows-read, copy-rows-skipped}
 use Rattle.copying.specs.CopyBytes.{child-text, child-depth, child-valid, length-copy, tag-there, depth-there, written-nothing, written-one, written-join, tag-kept, depth-kept}
 
@@ -151,6 +151,9 @@ module _ (w : Copier) (b o : List ℕ) (at above to left : ℕ) (h : at < row-co
     -- the entry path of its copy, by the name that is read
     pub node-valid : is-entry-path (child-entry (j .below .entry) (row-at b at .name)) ≡ true
     node-valid = ap (λ (r : Row Node). is-entry-path (child-entry (j .below .entry) (r .name))) node-row ∙ node-place wide .valid
+
+    abbrev pub node-spelled : Spelled o above (row-at b at .name)
+    node-spelled = record { entry = j .below .entry; spells = j .below .tagged; valid = node-valid }
 
     -- what the copy of the row asks for
     pub node-fits : (row-at o above .depth < 255) × ((length (tag-text-at o above) + length (row-at b at .name) < 54) × ((length (row-at b at .here .content) ≤ 80) × (to < 256)))

@@ -59,6 +59,12 @@ tagged-row w k n group e x = record {
 abbrev pub copy-of-row : Copier → ℕ → Entry-path → Row Node → Row Node
 copy-of-row w m e r = tagged-row w (suc m) (r .name) (w .caller .primary) (child-entry e (r .name)) (r .here)
 
+-- the tag at row `above` of o spells an entry path that may have a child of the name
+pub record Spelled (o : List ℕ) (above : ℕ) (n : Name) : Type 0 where
+  pub entry : Entry-path
+  pub spells : tag-text-at o above ≡ entry-text entry
+  pub valid : is-entry-path (child-entry entry n) ≡ true
+
 -- what is copied: the children of a place, or the place alone
 abbrev pub children : Name → Place Node → Forest Node
 children n d = d .below

@@ -1,10 +1,8 @@
 // The copies of an entry and of all below it that may be read, written as rows into a buffer of their own.
 ghost use mathlib.Core.Path.{_≡_};
-ghost use mathlib.Core.Bool.{true};
 ghost use Prim.Native.Nat.{ℕ, suc, _+_, _*_, _≤_, _<_};
 ghost use lib.ListN.{length};
 ghost use lib.Seq.{paste};
-ghost use Rattle.syntax.specs.Path.{Entry-path, is-entry-path, entry-text};
 ghost use Rattle.tree.specs.Forest.{size};
 ghost use Rattle.tree.specs.Fields.{all-bytes};
 ghost use Rattle.tree.specs.Encoding.{row-width, row-bytes};
@@ -12,7 +10,7 @@ ghost use Rattle.tree.specs.RowContext.{place-rows};
 ghost use Rattle.tree.specs.RowAt.{row-count, row-at, tag-text-at};
 ghost use Rattle.edits.specs.Changes.{row-start};
 ghost use Rattle.copying.specs.Copying.{copy-mode};
-ghost use Rattle.copying.specs.CopyRows.{child-entry, untagged, copy-of-row, children, alone, Job, job-rows, Written, Entry-job, entry-copy};
+ghost use Rattle.copying.specs.CopyRows.{untagged, copy-of-row, Spelled, children, alone, Job, job-rows, Written, Entry-job, entry-copy};
 use crate::Copier;
 use accounts::Gid;
 use accounts::Uid;
@@ -74,9 +72,9 @@ fn copy_untagged(
 // Writes the copy of the node at row `at` as row `to`, a child of the copy at row `above`.
 fn copy_row(tree: &[u8], at: usize, who: Copier, out: &mut [u8], above: usize, to: usize)
     requires { ⌜ (length (now tree) ≡ 59394) × ((at < 256) × ((length (now out) ≡ 59394) × ((above < to) × ((to < 256) × ((row-at (now out) above .depth < 255)
-        × ((length (tag-text-at (now out) above) + length (row-at (now tree) at .name) < 54) × (length (row-at (now tree) at .here .content) ≤ 80))))))) ⌝ }
-    ensures { λ _. ⌜ ((e : Entry-path) → tag-text-at (now (out .entry)) above ≡ entry-text e → is-entry-path (child-entry e (row-at (now (tree .entry)) at .name)) ≡ true
-        → now (out .exit) ≡ paste (now (out .entry)) (row-start to) (row-bytes (copy-of-row who (row-at (now (out .entry)) above .depth) e (row-at (now (tree .entry)) at))) row-width) ⌝ }
+        × ((length (tag-text-at (now out) above) + length (row-at (now tree) at .name) < 54) × ((length (row-at (now tree) at .here .content) ≤ 80) × Spelled (now out) above (row-at (now tree) at .name)))))))) ⌝ }
+    ensures { λ _. ⌜ ((g : Spelled (now (out .entry)) above (row-at (now (tree .entry)) at .name))
+        → now (out .exit) ≡ paste (now (out .entry)) (row-start to) (row-bytes (copy-of-row who (row-at (now (out .entry)) above .depth) (g .entry) (row-at (now (tree .entry)) at))) row-width) ⌝ }
 {
     let depth = depth_at(out, above) + 1;
     let name = name_at(tree, at);

@@ -10,7 +10,7 @@ use Rattle.tree.specs.RowAt.{all-rows}
 use Rattle.copying.specs.declared.Copier.{Copier}
 use Rattle.copying.specs.CopyRows.{children, Job}
 use Rattle.copying.specs.CopyRowLaws.{stands-end, end-above}
-use Rattle.copying.specs.CopyJobs.{Turn, node-valid, node-fits, node-skipped, node-children, node-written, no-level, turn-start, turn-end, turn-job, turn-again}
+use Rattle.copying.specs.CopyJobs.{Turn, node-spelled, node-fits, node-skipped, node-children, node-written, no-level, turn-start, turn-end, turn-job, turn-again}
 use Prim.Native.Nat.{ℕ, suc, _<_, _+_, _-_}
 use borrow.Fn.Kinds.{In}
 use borrow.Fn.PlainCycle.{Measures, is, falls, and}
@@ -251,7 +251,7 @@ copy-node-copy-row-requires t c κs =
     let p = s .pre .1 in
     let j = p .1 .1 .1 .1 .1 in
     let f = node-fits (a .who) (now (a .tree)) (now (a .out)) (a .at) (a .above) (a .to) (a .left) (p .1 .1 .0) j (p .1 .1 .1 .0) in
-    (p .0, (omega (arith, p .1 .0, p .1 .1 .0), (p .1 .1 .1 .0, (p .1 .1 .1 .1 .0, (f .1 .1 .1, (f .0, (f .1 .0, f .1 .1 .0)))))))
+    (p .0, (omega (arith, p .1 .0, p .1 .1 .0), (p .1 .1 .1 .0, (p .1 .1 .1 .1 .0, (f .1 .1 .1, (f .0, (f .1 .0, (f .1 .1 .0, node-spelled (a .who) (now (a .tree)) (now (a .out)) (a .at) (a .above) (a .to) (a .left) (p .1 .1 .0) j (p .1 .1 .1 .0)))))))))
 
 copy-node-add-copy-children : (t : ℕ) → copy-node-lts.Need-add-copy-children (
   readable-at-reads.Asked,
@@ -284,7 +284,7 @@ copy-node-copy-children-requires t c κs =
     let m = c .before .before .before .copy-row in
     let z = m .last .1 .1 .1 .0 in
     let j = p .1 .1 .1 .1 .1 in
-    (omega (arith, s .pre .0), (p .0, (p .1 .0, (p .1 .1 .0, (m .kept .1 .1 .1 .0 ∙ p .1 .1 .1 .0, (omega arith, node-children (a .who) (now (a .tree)) (now (a .out)) (a .at) (a .above) (a .to) (a .left) (p .1 .1 .0) j (p .1 .1 .1 .0) z (m .ensures (j .below .entry) (j .below .tagged) (node-valid (a .who) (now (a .tree)) (now (a .out)) (a .at) (a .above) (a .to) (a .left) (p .1 .1 .0) j (p .1 .1 .1 .0)))))))))
+    (omega (arith, s .pre .0), (p .0, (p .1 .0, (p .1 .1 .0, (m .kept .1 .1 .1 .0 ∙ p .1 .1 .1 .0, (omega arith, node-children (a .who) (now (a .tree)) (now (a .out)) (a .at) (a .above) (a .to) (a .left) (p .1 .1 .0) j (p .1 .1 .1 .0) z (m .ensures (node-spelled (a .who) (now (a .tree)) (now (a .out)) (a .at) (a .above) (a .to) (a .left) (p .1 .1 .0) j (p .1 .1 .1 .0)))))))))
 
 copy-node-same-length : (t : ℕ) → copy-node-lts.Need-same-length (
   readable-at-reads.Asked,
@@ -313,9 +313,9 @@ copy-node-returns-2 t c =
     let z = m .last .1 .1 .1 .0 in
     let k = c .before .before .copy-children in
     λ j.
-    node-written (a .who) (now (a .tree)) (now (a .out)) (a .at) (a .above) (a .to) (a .left) (p .1 .1 .0) j (p .1 .1 .1 .0) z (m .ensures (j .below .entry) (j .below .tagged) (node-valid (a .who) (now (a .tree)) (now (a .out)) (a .at) (a .above) (a .to) (a .left) (p .1 .1 .0) j (p .1 .1 .1 .0))) (k .last .1 .1 .1 .1 .0) (k .result)
+    node-written (a .who) (now (a .tree)) (now (a .out)) (a .at) (a .above) (a .to) (a .left) (p .1 .1 .0) j (p .1 .1 .1 .0) z (m .ensures (node-spelled (a .who) (now (a .tree)) (now (a .out)) (a .at) (a .above) (a .to) (a .left) (p .1 .1 .0) j (p .1 .1 .1 .0))) (k .last .1 .1 .1 .1 .0) (k .result)
     (sym (c .before .before .before .before .before .before .before .before .before .readable-at .ensures) ∙ not-false (c .before .before .before .before .before .before .before .before .before .readable-at .result) (c .before .before .before .before .before .before .before .before .if1 .left))
-    (k .ensures (node-children (a .who) (now (a .tree)) (now (a .out)) (a .at) (a .above) (a .to) (a .left) (p .1 .1 .0) j (p .1 .1 .1 .0) z (m .ensures (j .below .entry) (j .below .tagged) (node-valid (a .who) (now (a .tree)) (now (a .out)) (a .at) (a .above) (a .to) (a .left) (p .1 .1 .0) j (p .1 .1 .1 .0)))))
+    (k .ensures (node-children (a .who) (now (a .tree)) (now (a .out)) (a .at) (a .above) (a .to) (a .left) (p .1 .1 .0) j (p .1 .1 .1 .0) z (m .ensures (node-spelled (a .who) (now (a .tree)) (now (a .out)) (a .at) (a .above) (a .to) (a .left) (p .1 .1 .0) j (p .1 .1 .1 .0)))))
 
 pub +copy-children+copy-node-spec : {M : Type 1} → statement M
 +copy-children+copy-node-spec = close μ-copy-children μ-copy-node (λ t. copy-children-lts.spec (

@@ -23,7 +23,8 @@ copy-untagged-requires : tie.Need-copy-untagged-requires
 copy-untagged-requires c κs =
     let n = c .before .before .before .before .before in
     let a = n .before .before .before .before .before .args in
-    omega (arith, ap length (n .name-at .ensures), row-name-fits (now (a .tree)) (a .at))
+    let p = n .before .before .before .before .before .pre .1 .1 in
+    omega (arith, ap length (n .name-at .ensures), row-name-fits (now (a .tree)) (a .at), p .1 .1 .1 .1 .1 .0)
 
 revision-at-requires : tie.Need-revision-at-requires
 revision-at-requires c κs = search needs
@@ -40,7 +41,7 @@ same-length : tie.Need-same-length
 same-length c = search needs
 
 returns : tie.Need-returns
-returns c = λ e text valid.
+returns c = λ g.
     let t = c .before .before in
     let v = t .before in
     let u = v .before .before .before .before in
@@ -50,8 +51,8 @@ returns c = λ e text valid.
     let r = row-at (now (a .tree)) (a .at) in
     let p = n .before .before .before .before .before .pre .1 .1 in
     row-copied (a .who) (now (a .out)) (u .copy-untagged .last .1 .1 .1 .1 .0) (t .set-tag-below .last .0) (a .above) (a .to) (d .depth-at .result) (v .revision-at .result)
-    (now (n .name-at .result)) e r (n .name-at .ensures) (d .depth-at .ensures) (v .revision-at .ensures) (row-name-fits (now (a .tree)) (a .at)) (p .1 .1 .1 .1 .1) (p .1 .1 .0) (p .0)
-    text (u .copy-untagged .ensures .1 (a .above) (p .1 .0)) valid (u .copy-untagged .ensures .0) (t .set-tag-below .ensures)
+    (now (n .name-at .result)) (g .entry) r (n .name-at .ensures) (d .depth-at .ensures) (v .revision-at .ensures) (row-name-fits (now (a .tree)) (a .at)) (p .1 .1 .1 .1 .1 .0) (p .1 .1 .0) (p .0)
+    (g .spells) (u .copy-untagged .ensures .1 (a .above) (p .1 .0)) (g .valid) (u .copy-untagged .ensures .0) (t .set-tag-below .ensures)
 
 pub copy-row-spec : {M : Type 1} → statement M
 copy-row-spec =
