@@ -21,6 +21,7 @@ use Rattle.syntax.specs.Text.{every}
 use Rattle.syntax.specs.TextLaws.{every-getD}
 use Rattle.syntax.specs.Form.{is-some}
 use Rattle.setup.specs.Setup.{Person, Setup, accounts, person, is-person, is-slot, is-setup}
+use Rattle.tree.specs.declared.Cause.the-variants.{UnknownCaller}
 use Rattle.tree.specs.Node.{allows}
 use Rattle.tree.specs.Result.{done, present}
 use Rattle.tree.specs.ResultLaws.{present-some, bind-done}
@@ -46,9 +47,9 @@ module _ (u : Setup) (v : Uid) (c : Caller) (h : caller u v ≡ done c) where
   person-calls : is-root v ≡ false → (p : Person) × (person u v ≡ some p) × (c ≡ person-caller v p)
   unfolding caller known-caller
   person-calls r =
-      let b : _ = bind-done (present (person u v) 2) (λ q. done (person-caller v q)) (rw r at h) in
+      let b : _ = bind-done (present (person u v) UnknownCaller) (λ q. done (person-caller v q)) (rw r at h) in
       let e : done (person-caller v (b .0)) ≡ done c = b .2 in
-      (b .0, present-some (person u v) 2 (b .1), cc)
+      (b .0, present-some (person u v) UnknownCaller (b .1), cc)
 
   -- a caller has the number that calls
   pub caller-uid : c .account .uid ≡ v

@@ -8,6 +8,8 @@ use Rattle.accounts.specs.Access.{is-root}
 use Rattle.syntax.specs.Text.{Text}
 use Rattle.commands.specs.Command.{Line, line}
 use Rattle.setup.specs.Setup.{Setup}
+use Rattle.tree.specs.declared.Cause.{Cause}
+use Rattle.tree.specs.declared.Cause.the-variants.{NoForm, ShortAnswer}
 use Rattle.tree.specs.Result.{Result, refused, done, _>>=_, _>>_, require, present}
 use Rattle.shell.specs.Caller.{Outcome}
 use Rattle.repository.specs.Machine.{Machine, caller, run}
@@ -21,18 +23,18 @@ pub record Call : Type 0 where
 unfoldable pub least-room : ℕ
 least-room = 4096
 
--- what a call answers: done, with the text if the command gives one, or refused by a number
+-- what a call replies: done, with the text if the command gives one, or refused for a cause
 pub data Reply : Type 0 where
   ok : Option Text → Reply
-  refusal : ℕ → Reply
+  refusal : Cause → Reply
 
 unfoldable pub reply : {S : Type 0} → Result (Outcome S) → Reply
-reply (refused n) = refusal n
+reply (refused why) = refusal why
 reply (done o) = ok (o .text)
 
 -- a refused line changes nothing
 unfoldable pub after : {S : Type 0} → S → Result (Outcome S) → S
-after s (refused n) = s
+after s (refused why) = s
 after s (done o) = o .state
 
 -- the replies to a list of calls, and the state after it
@@ -44,14 +46,14 @@ module _ {S A : Type 0} (M : Machine S A) (u : Setup) where
   -- before the command's checks: no listed form 1, an unknown caller 2
   unfoldable pub perform : S → Text → Result (Outcome S)
   perform s t = do
-    l ← present (line t) 1
+    l ← present (line t) NoForm
     c ← caller u (l .caller)
     run M u s c (l .command)
 
   -- and before these: answer buffer too short 20
   unfoldable pub step : S → Call → Result (Outcome S)
   step s call = do
-    require (leb least-room (call .room)) 20
+    require (leb least-room (call .room)) ShortAnswer
     perform s (call .line)
 
   unfoldable pub runs : S → List Call → Ran S

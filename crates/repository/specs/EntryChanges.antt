@@ -22,6 +22,7 @@ use Rattle.setup.specs.Setup.{Setup}
 use Rattle.setup.specs.SetupLaws.{accepted-is-setup}
 use Rattle.tree.specs.declared.Kind.{Kind}
 use Rattle.tree.specs.declared.Kind.the-variants.{File, Directory}
+use Rattle.tree.specs.declared.Cause.the-variants.{Access, WrongKind, NotEmpty, Reserved, Full, NoSession, NoGrant, Stale, RevisionsSpent, TooDeep}
 use Rattle.tree.specs.Result.{done}
 use Rattle.tree.specs.ResultLaws.{present-some}
 use Rattle.tree.specs.Forest.{Place, place-at, map-place}
@@ -90,8 +91,8 @@ original-reads : (u : Setup) (h : Abstract) (c : Caller) (z : Bounded-role) (e :
 unfolding original
 original-reads u h c z e =
     after-do (walk (by-dominance u z) (h .entries) (below-rep e)) λ a w.
-    after-check 7 _ λ _.
-    after-check 5 _ λ b.
+    after-check WrongKind _ λ _.
+    after-check Access _ λ b.
     ensured (w, b)
 
 -- where a walk finds the name unused there is no entry
@@ -118,7 +119,7 @@ module _ (u : Setup) (h : Abstract) (c : Caller) (e : Entry-path) (x : Entry) (r
       let its-role : a .here .role ≡ some r = ap (λ d. d .here .role) its-place ∙ ap (λ y. y .role) (there .here) ∙ role in
       record {
         role = z;
-        session = present-some (getD (h .sessions) (c .account .uid .0) none) 12 i;
+        session = present-some (getD (h .sessions) (c .account .uid .0) none) NoSession i;
         dominates = ap (role-readable u z) (sym its-role) ∙ b;
       }
 
@@ -127,13 +128,13 @@ module _ (u : Setup) (h : Abstract) (c : Caller) (e : Entry-path) (x : Entry) (r
   add-guarded w e′ role′ =
       after-do (session abstract u h c) λ z _.
       after-do (walk (by-modes (c .account)) (h .workspace) w) λ d _.
-      after-check 9 _ λ _.
-      after-check 5 _ λ _.
-      after-check 9 _ λ _.
+      after-check Reserved _ λ _.
+      after-check Access _ λ _.
+      after-check Reserved _ λ _.
       after-do (parent-walk (by-dominance u z) (h .entries) (below-rep e′)) λ f i.
       after-guard (unused (e′ .name) (f .below)) λ j.
-      after-check 5 _ λ _.
-      after-check 10 _ λ _.
+      after-check Access _ λ _.
+      after-check Full _ λ _.
       ensured (inl (of-holds _ e x (holds-put (below-rep e) (e′ .folder) there (e′ .name) _ (free (by-dominance u z) (h .entries) e′ f i j))))
 
   co-guarded : (e′ : Entry-path) (d : Path) → Ensures (Guarded (repository (co e′ d))) (check-out abstract u h c e′ d)
@@ -142,9 +143,9 @@ module _ (u : Setup) (h : Abstract) (c : Caller) (e : Entry-path) (x : Entry) (r
       after-do (session abstract u h c) λ z _.
       after-do (room c _ (h .workspace) d) λ f _.
       after-do (walk (by-dominance u z) (h .entries) (below-rep e′)) λ a _.
-      after-check 5 _ λ _.
-      after-check 19 _ λ _.
-      after-check 10 _ λ _.
+      after-check Access _ λ _.
+      after-check TooDeep _ λ _.
+      after-check Full _ λ _.
       ensured (inl same)
 
   commit-guarded : (w : Path) → Ensures (Guarded (repository (commit w))) (commit-file abstract u h c w)
@@ -154,9 +155,9 @@ module _ (u : Setup) (h : Abstract) (c : Caller) (e : Entry-path) (x : Entry) (r
       after-do (working abstract u h c R w) λ k _.
       after-facts (original-reads u h c z (k .tag .path)) λ a b.
       after-do (walk (by-dominance u z) (h .entries) (k .tag .path .folder)) λ f _.
-      after-check 5 _ λ _.
-      after-check 14 _ λ _.
-      after-check 16 _ λ _.
+      after-check Access _ λ _.
+      after-check Stale _ λ _.
+      after-check RevisionsSpent _ λ _.
       ensured (case (same-path (below-rep e) (below-rep (k .tag .path)))
       (λ s. inr (by-commit, rightful z i a (rw (same-path-sound (below-rep e) (below-rep (k .tag .path)) s) (b .0)) (b .1)))
       (λ s. inl (of-holds _ e x (holds-alter (below-rep e) (below-rep (k .tag .path)) there _ s))))
@@ -174,10 +175,10 @@ module _ (u : Setup) (h : Abstract) (c : Caller) (e : Entry-path) (x : Entry) (r
   del-guarded e′ =
       after-do (session abstract u h c) λ z i.
       after-do (walk (by-dominance u z) (h .entries) (below-rep e′)) λ a w.
-      after-check 5 _ λ b.
+      after-check Access _ λ b.
       after-do (walk (by-dominance u z) (h .entries) (e′ .folder)) λ f _.
-      after-check 5 _ λ _.
-      after-check 8 _ λ alone.
+      after-check Access _ λ _.
+      after-check NotEmpty _ λ alone.
       ensured (case (same-path (below-rep e) (below-rep e′))
       (λ s.
       let q = same-path-sound (below-rep e) (below-rep e′) s in
@@ -188,7 +189,7 @@ module _ (u : Setup) (h : Abstract) (c : Caller) (e : Entry-path) (x : Entry) (r
   run-guarded : (command : Command) → Ensures (Guarded command) (run abstract u h c command)
   unfolding run run-repository log-in log-out entry-of Guarded
   run-guarded (shell command) = after-do (run-shell c _ (h .workspace) command) λ o _. ensured (inl same)
-  run-guarded (repository (login z password)) = after-check 13 _ λ _. ensured (inl same)
+  run-guarded (repository (login z password)) = after-check NoGrant _ λ _. ensured (inl same)
   run-guarded (repository logout) = ensured (inl same)
   run-guarded (repository (add w e′ role′)) = add-guarded w e′ role′
   run-guarded (repository (co e′ d)) = co-guarded e′ d

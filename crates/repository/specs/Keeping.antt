@@ -22,6 +22,7 @@ use Rattle.commands.specs.Command.{line, Repository-command, login, logout, add
 use Rattle.commands.specs.CommandLaws.{line-is-line}
 use Rattle.setup.specs.Setup.{Setup, accounts, is-setup}
 use Rattle.setup.specs.SetupLaws.{accepted-is-setup}
+use Rattle.tree.specs.declared.Cause.the-variants.{NoForm, Access, WrongKind, NotEmpty, Reserved, Full, NoGrant, Stale, Untagged, RevisionsSpent, TooDeep, ShortAnswer}
 use Rattle.tree.specs.Result.{Result, done}
 use Rattle.tree.specs.ResultLaws.{present-some}
 use Rattle.tree.specs.Forest.{Place, update, alter, leaf, size, height}
@@ -79,7 +80,7 @@ module _ (u : Setup) (g : is-setup u ≡ true) (s : Store) (w : well-formed (rec
 
   log-in-keeps : (z : Bounded-role) (password : Text) → Keeps (log-in store u s c z password)
   unfolding log-in
-  log-in-keeps z password = after-check 13 _ λ _. session-set (c .account .uid .0) (some z)
+  log-in-keeps z password = after-check NoGrant _ λ _. session-set (c .account .uid .0) (some z)
 
   log-out-keeps : Keeps (log-out store u s c)
   unfolding log-out
@@ -102,13 +103,13 @@ module _ (u : Setup) (g : is-setup u ≡ true) (s : Store) (w : well-formed (rec
   file-entry-keeps p e role k =
       after-do _ λ z _.
       after-do _ λ d i.
-      after-check 9 _ λ _.
-      after-check 5 _ λ _.
-      after-check 9 _ λ _.
+      after-check Reserved _ λ _.
+      after-check Access _ λ _.
+      after-check Reserved _ λ _.
       after-do _ λ f l.
       after-guard _ λ free.
-      after-check 5 _ λ _.
-      after-check 10 _ λ fits.
+      after-check Access _ λ _.
+      after-check Full _ λ fits.
       let j = by-modes (service (u .pairs) z) in
       let to = parent-walked j (s .tree) (in-rep (e .folder) ▹ e .name) l in
       let r = node-ranges (d .here) (node-at (by-modes (c .account)) p d i) in
@@ -125,9 +126,9 @@ module _ (u : Setup) (g : is-setup u ≡ true) (s : Store) (w : well-formed (rec
       after-do _ λ z _.
       after-do _ λ f r.
       after-do _ λ d a.
-      after-check 5 _ λ _.
-      after-check 19 _ λ l.
-      after-check 10 _ λ fits.
+      after-check Access _ λ _.
+      after-check TooDeep _ λ l.
+      after-check Full _ λ fits.
       let j = by-modes (service (u .pairs) z) in
       let x = copy c (source store j) (f .here) e d in
       changed none _ (room-keeps c 0 (s .tree) p f x tree i r
@@ -140,10 +141,10 @@ module _ (u : Setup) (g : is-setup u ≡ true) (s : Store) (w : well-formed (rec
   delete-entry-keeps e =
       after-do _ λ z _.
       after-do _ λ d _.
-      after-check 5 _ λ _.
+      after-check Access _ λ _.
       after-do _ λ f _.
-      after-check 5 _ λ _.
-      after-check 8 _ λ _.
+      after-check Access _ λ _.
+      after-check NotEmpty _ λ _.
       changed none _ (keep-drop (s .tree) (in-rep (e .folder)) (e .name) tree)
 
   -- a working file is where the walk leads, with its tag
@@ -154,10 +155,10 @@ module _ (u : Setup) (g : is-setup u ≡ true) (s : Store) (w : well-formed (rec
   unfolding working
   worked right p =
       after-do _ λ d e.
-      after-check 7 _ λ b.
-      after-check 5 _ λ _.
+      after-check WrongKind _ λ b.
+      after-check Access _ λ _.
       after-do _ λ t i.
-      ensured (d, e, refl, not-true (is-directory (d .here .kind)) b, present-some (d .here .tag) 15 i)
+      ensured (d, e, refl, not-true (is-directory (d .here .kind)) b, present-some (d .here .tag) Untagged i)
 
   -- its original is a file where the account's walk leads
   abbrev Filed : Bounded-role → Entry-path → Place Node → Type 0
@@ -167,8 +168,8 @@ module _ (u : Setup) (g : is-setup u ≡ true) (s : Store) (w : well-formed (rec
   unfolding original
   filed z e =
       after-do _ λ d i.
-      after-check 7 _ λ b.
-      after-check 5 _ λ _.
+      after-check WrongKind _ λ b.
+      after-check Access _ λ _.
       ensured (i, not-true (is-directory (d .here .kind)) (rw (kind-by-modes (service (u .pairs) z) (d .here)) at b))
 
   update-file-keeps : (p : Path) → Keeps (update-file store u s c p)
@@ -196,9 +197,9 @@ module _ (u : Setup) (g : is-setup u ≡ true) (s : Store) (w : well-formed (rec
       after-facts (worked R p) λ k h.
       after-facts (filed z (k .tag .path)) λ a i.
       after-do _ λ f _.
-      after-check 5 _ λ _.
-      after-check 14 _ λ _.
-      after-check 16 _ λ b.
+      after-check Access _ λ _.
+      after-check Stale _ λ _.
+      after-check RevisionsSpent _ λ b.
       let j = by-modes (service (u .pairs) z) in
       let d = h .0 in
       let r = node-ranges (d .here) (node-at (by-modes (c .account)) p d (h .1)) in
@@ -255,14 +256,14 @@ unfolding perform is-line
 perform-keeps u g s w t =
     after-do _ λ l e.
     after-do _ λ c f.
-    let i = and-both (ltb (l .caller .0) 24) (is-command (l .command)) (line-is-line t l (present-some (line t) 1 e)) in
+    let i = and-both (ltb (l .caller .0) 24) (is-command (l .command)) (line-is-line t l (present-some (line t) NoForm e)) in
     run-keeps u g s w c (caller-fits u g (l .caller) c f) (l .command) (i .1)
 
 -- so does a call
 pub step-keeps : (u : Setup) → is-setup u ≡ true → (s : Store) → well-formed (record { setup = u; store = s }) ≡ true → (call : Call)
     → well-formed (record { setup = u; store = after s (step store u s call) }) ≡ true
 unfolding step
-step-keeps u g s w call = after-keeps (λ t. well-formed (record { setup = u; store = t }) ≡ true) s w (after-check 20 _ λ _. perform-keeps u g s w (call .line))
+step-keeps u g s w call = after-keeps (λ t. well-formed (record { setup = u; store = t }) ≡ true) s w (after-check ShortAnswer _ λ _. perform-keeps u g s w (call .line))
 
 -- and a list of calls
 pub runs-keep : (u : Setup) → is-setup u ≡ true → (s : Store) → well-formed (record { setup = u; store = s }) ≡ true → (calls : List Call)

@@ -14,6 +14,8 @@ use Rattle.setup.specs.Setup.{Setup}
 use Rattle.setup.specs.SetupLaws.{accepted-is-setup}
 use Rattle.tree.specs.declared.Kind.{Kind}
 use Rattle.tree.specs.declared.Kind.the-variants.{File, Directory}
+use Rattle.tree.specs.declared.Cause.{Cause}
+use Rattle.tree.specs.declared.Cause.the-variants.{Exists, Reserved}
 use Rattle.tree.specs.Result.{Result, refused, done, _>>=_}
 use Rattle.tree.specs.Forest.{Place, place-at, map-place}
 use Rattle.tree.specs.Node.{Node, allows}
@@ -66,7 +68,7 @@ parent-within q n b =
     rw (not-true (same-path (root ▹ rep) (q ▹ n)) (h .1)) at (h .0)
 
 -- an outcome that is never done is a refusal
-never-done : {A : Type 0} {r : Result A} → Ensures (λ _. ⊥) r → (n : ℕ) × (r ≡ refused n)
+never-done : {A : Type 0} {r : Result A} → Ensures (λ _. ⊥) r → (why : Cause) × (r ≡ refused why)
 never-done (no-matter n) = (n, refl)
 never-done (ensured h) = absurd h
 
@@ -106,15 +108,15 @@ module _ (c : Caller) (t f : Place Node) (there : place-at t (root ▹ rep) ≡ 
   module _ (m : ℕ) where
     never-made : (kind : Kind) (p : Path) (mode : ℕ) → lies-in-rep p ≡ true → Ensures (λ _. ⊥) (make c m t kind p mode)
     unfolding make room
-    never-made kind p mode b = after-facts (after-check 6 _ λ _. never-parent-walked _ p b) λ d z. absurd z
+    never-made kind p mode b = after-facts (after-check Exists _ λ _. never-parent-walked _ p b) λ d z. absurd z
 
     never-unlinked : (kind : Kind) (p : Path) → lies-in-rep p ≡ true → Ensures (λ _. ⊥) (unlink c m t kind p)
     unfolding unlink
-    never-unlinked kind p b = after-check 9 _ λ _. never-walked _ p b
+    never-unlinked kind p b = after-check Reserved _ λ _. never-walked _ p b
 
     never-moved : (a b : Path) → (lies-in-rep a || lies-in-rep b) ≡ true → Ensures (λ _. ⊥) (move c m t a b)
     unfolding move
-    never-moved a b i = after-check 9 _ λ _. case (lies-in-rep a)
+    never-moved a b i = after-check Reserved _ λ _. case (lies-in-rep a)
         (λ e. never-walked _ a e)
         (λ e. after-do (walk (by-modes (c .account)) t a) λ _ _. never-parent-walked _ b (rw e at i))
 
@@ -143,7 +145,7 @@ rep-place h k =
 
 -- a person's shell line with a path below `/rep` is refused
 pub shell-refused : (u : Setup) (s : Store) → Reached-without-root u s → (v : Uid) (c : Caller) → is-root v ≡ false → caller u v ≡ done c
-    → (command : Shell-command) → names-entry command ≡ true → (n : ℕ) × (run store u s c (shell command) ≡ refused n)
+    → (command : Shell-command) → names-entry command ≡ true → (why : Cause) × (run store u s c (shell command) ≡ refused why)
 unfolding run
 shell-refused u s reached v c r i command names =
     let h = reached-tie u s reached in

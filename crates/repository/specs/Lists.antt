@@ -14,6 +14,7 @@ use Rattle.syntax.specs.Path.{root, rep, in-rep}
 use Rattle.commands.specs.Command.{Line, line}
 use Rattle.setup.specs.Setup.{Person, Setup, accounts, person, is-setup, accepted, setup}
 use Rattle.setup.specs.SetupLaws.{accepted-is-setup}
+use Rattle.tree.specs.declared.Cause.the-variants.{NoForm, ShortAnswer}
 use Rattle.tree.specs.Result.{Result, present}
 use Rattle.tree.specs.ResultLaws.{present-some}
 use Rattle.tree.specs.Forest.{Forest, nil, Place, get, leaf, map-place}
@@ -80,10 +81,10 @@ module _ (u : Setup) (e : is-setup u ≡ true) where
   unfolding step perform root's
   step-agrees call r {h} t =
       rw (t .same) (
-      check 20 refl λ _.
-      each (present (line (call .line)) 1) λ l i.
+      check ShortAnswer refl λ _.
+      each (present (line (call .line)) NoForm) λ l i.
       each (caller u (l .caller)) λ c j.
-      run-agrees u e (l .caller) c (not-of-root (line (call .line)) l (present-some (line (call .line)) 1 i) r) j h (t .kept) (l .command))
+      run-agrees u e (l .caller) c (not-of-root (line (call .line)) l (present-some (line (call .line)) NoForm i) r) j h (t .kept) (l .command))
 
   -- ---- a list of calls
 

@@ -19,6 +19,7 @@ use Rattle.syntax.specs.Path.{Path, Entry-path, parent, last, depth, most-names
 use Rattle.commands.specs.Command.{Repository-command, login, logout, add, co, commit, up, del, Command, shell, repository}
 use Rattle.setup.specs.Setup.{Person, Grant, Setup, person}
 use Rattle.tree.specs.declared.Kind.{Kind}
+use Rattle.tree.specs.declared.Cause.the-variants.{UnknownCaller, Access, WrongKind, NotEmpty, Reserved, Full, NoSession, NoGrant, Stale, Untagged, RevisionsSpent, TooDeep}
 use Rattle.tree.specs.Result.{Result, done, _>>=_, _>>_, require, present}
 use Rattle.tree.specs.Forest.{Place, is-empty, update, alter, put, drop, leaf, size, height}
 use Rattle.tree.specs.Node.{is-directory, Tag, Node, allows, set-tag, set-content}
@@ -62,7 +63,7 @@ person-caller u p = record {
 
 unfoldable pub known-caller : Uid → Option Person → Result Caller
 known-caller u p = do
-  q ← present p 2
+  q ← present p UnknownCaller
   done (person-caller u q)
 
 unfoldable pub caller : Setup → Uid → Result Caller
@@ -105,7 +106,7 @@ module _ {S A : Type 0} (M : Machine S A) (u : Setup) (s : S) (c : Caller) where
 
   unfoldable pub log-in : Bounded-role → Text → Result (Outcome S)
   log-in z password = do
-    require (granted (u .grants) (c .account .uid) z password) 13
+    require (granted (u .grants) (c .account .uid) z password) NoGrant
     ok (session-becomes (some z))
 
   unfoldable pub log-out : Result (Outcome S)
@@ -113,19 +114,19 @@ module _ {S A : Type 0} (M : Machine S A) (u : Setup) (s : S) (c : Caller) where
 
   -- the session's role
   unfoldable pub session : Result Bounded-role
-  session = present (getD (M .sessions s) (c .account .uid .0) none) 12
+  session = present (getD (M .sessions s) (c .account .uid .0) none) NoSession
 
   unfoldable pub file-entry : Path → Entry-path → Bounded-role → Result (Outcome S)
   file-entry w e role = do
     z ← session
     d ← walks w
-    require (owns (c .account) (d .here)) 9
-    require (by-modes (c .account) .readable (d .here)) 5
-    require (dominates (u .pairs) (z .role) (role .role)) 9
+    require (owns (c .account) (d .here)) Reserved
+    require (by-modes (c .account) .readable (d .here)) Access
+    require (dominates (u .pairs) (z .role) (role .role)) Reserved
     f ← account-parent-walks z (below-rep e)
     unused (e .name) (f .below)
-    require (M .judge u z .writable (f .here)) 5
-    require (fits 1) 10
+    require (M .judge u z .writable (f .here)) Access
+    require (fits 1) Full
     ok (M .on-workspace (update w (alter (set-tag (record { path = e; revision = 1 }))))
         (M .on-entries (update (M .locate (e .folder)) (put (e .name) (leaf (M .entry (d .here .kind) role (d .here .content))))) s))
 
@@ -134,27 +135,27 @@ module _ {S A : Type 0} (M : Machine S A) (u : Setup) (s : S) (c : Caller) where
     z ← session
     f ← room c (M .elsewhere s) (M .workspace s) d
     a ← account-walks z (below-rep e)
-    require (M .judge u z .readable (a .here)) 5
+    require (M .judge u z .readable (a .here)) Access
     let copies = copy c (source M (M .judge u z)) (f .here) e a
-    require (leb (depth d + height (copies .below)) most-names) 19
-    require (fits (suc (size (copies .below)))) 10
+    require (leb (depth d + height (copies .below)) most-names) TooDeep
+    require (fits (suc (size (copies .below)))) Full
     ok (M .on-workspace (update (parent d) (put (last d) copies)) s)
 
   -- the person's part of commit and up: walk; directory 7; the right 5; no tag 15
   unfoldable pub working : Right → Path → Result Working
   working right w = do
     d ← walks w
-    require (not (is-directory (d .here .kind))) 7
-    require (allows (c .account) right (d .here)) 5
-    t ← present (d .here .tag) 15
+    require (not (is-directory (d .here .kind))) WrongKind
+    require (allows (c .account) right (d .here)) Access
+    t ← present (d .here .tag) Untagged
     done (record { file = d .here; tag = t })
 
   -- the account's walk to the tag's entry: directory 7; r 5
   unfoldable pub original : Bounded-role → Entry-path → Result (Place A)
   original z e = do
     filed ← account-walks z (below-rep e)
-    require (not (is-directory (M .judge u z .kind (filed .here)))) 7
-    require (M .judge u z .readable (filed .here)) 5
+    require (not (is-directory (M .judge u z .kind (filed .here)))) WrongKind
+    require (M .judge u z .readable (filed .here)) Access
     done filed
 
   unfoldable pub commit-file : Path → Result (Outcome S)
@@ -164,10 +165,10 @@ module _ {S A : Type 0} (M : Machine S A) (u : Setup) (s : S) (c : Caller) where
     let e = k .tag .path
     a ← original z e
     folder ← account-walks z (e .folder)
-    require (M .judge u z .writable (folder .here)) 5
+    require (M .judge u z .writable (folder .here)) Access
     let v = M .revision (a .here)
-    require (eqb (k .tag .revision) v) 14
-    require (not (eqb v last-revision)) 16
+    require (eqb (k .tag .revision) v) Stale
+    require (not (eqb v last-revision)) RevisionsSpent
     ok (M .on-workspace (update w (alter (set-tag (record { path = e; revision = suc v }))))
         (M .on-entries (update (M .locate (below-rep e)) (alter (M .revise (k .file .content)))) s))
 
@@ -184,10 +185,10 @@ module _ {S A : Type 0} (M : Machine S A) (u : Setup) (s : S) (c : Caller) where
   delete-entry e = do
     z ← session
     a ← account-walks z (below-rep e)
-    require (M .judge u z .readable (a .here)) 5
+    require (M .judge u z .readable (a .here)) Access
     f ← account-walks z (e .folder)
-    require (M .judge u z .writable (f .here)) 5
-    require (is-empty (a .below)) 8
+    require (M .judge u z .writable (f .here)) Access
+    require (is-empty (a .below)) NotEmpty
     ok (M .on-entries (update (M .locate (e .folder)) (drop (e .name))) s)
 
   unfoldable pub run-repository : Repository-command → Result (Outcome S)

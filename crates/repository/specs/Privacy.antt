@@ -17,6 +17,7 @@ use Rattle.accounts.specs.Service.{service-uid, service, service-not-root, serv
 use Rattle.syntax.specs.Path.{Path, _▹_, Entry-path, parent, last, within, in-rep}
 use Rattle.commands.specs.Command.{Repository-command, login, logout, add, co, commit, up, del, Command, shell, repository}
 use Rattle.setup.specs.Setup.{Setup}
+use Rattle.tree.specs.declared.Cause.the-variants.{Access, WrongKind, NotEmpty, Reserved, Full, NoGrant, Stale, Untagged, RevisionsSpent, TooDeep}
 use Rattle.tree.specs.Result.{present}
 use Rattle.tree.specs.Forest.{Place, place-at}
 use Rattle.tree.specs.Node.{is-directory, Node}
@@ -51,13 +52,13 @@ module _ (u : Setup) (s : Store) (c : Caller) (p : Path) (d : Place Node) (there
   file-entry-private w e role =
       after-do (session store u s c) λ z _.
       after-do (walk (by-modes (c .account)) (s .tree) w) λ f i.
-      after-check 9 _ λ o.
-      after-check 5 _ λ _.
-      after-check 9 _ λ _.
+      after-check Reserved _ λ o.
+      after-check Access _ λ _.
+      after-check Reserved _ λ _.
       after-do (parent-walk (by-modes (service (u .pairs) z)) (s .tree) (in-rep (e .folder) ▹ e .name)) λ g k.
       after-guard (unused (e .name) (g .below)) λ n.
-      after-check 5 _ λ b.
-      after-check 10 _ λ _.
+      after-check Access _ λ b.
+      after-check Full _ λ _.
       ensured (inr (
         p,
         alter-keeps _ p d w _
@@ -71,9 +72,9 @@ module _ (u : Setup) (s : Store) (c : Caller) (p : Path) (d : Place Node) (there
       after-do (session store u s c) λ z _.
       after-facts (room-private c 0 (s .tree) p d there v q) λ f k.
       after-do (walk (by-modes (service (u .pairs) z)) (s .tree) (in-rep (below-rep e))) λ a _.
-      after-check 5 _ λ _.
-      after-check 19 _ λ _.
-      after-check 10 _ λ _.
+      after-check Access _ λ _.
+      after-check TooDeep _ λ _.
+      after-check Full _ λ _.
       ensured (inr (p, k _))
 
   -- a working file is outside the directory
@@ -81,9 +82,9 @@ module _ (u : Setup) (s : Store) (c : Caller) (p : Path) (d : Place Node) (there
   unfolding working
   working-private right w =
       after-do (walk (by-modes (c .account)) (s .tree) w) λ f i.
-      after-check 7 _ λ b.
-      after-check 5 _ λ _.
-      after-do (present (f .here .tag) 15) λ _ _.
+      after-check WrongKind _ λ b.
+      after-check Access _ λ _.
+      after-do (present (f .here .tag) Untagged) λ _ _.
       ensured (private-outside (s .tree) p d there v (λ n. not (is-directory (n .kind))) (ap not (v .directory)) w f i b)
 
   -- and so is an entry's file
@@ -91,8 +92,8 @@ module _ (u : Setup) (s : Store) (c : Caller) (p : Path) (d : Place Node) (there
   unfolding original
   original-private z e =
       after-do (walk (by-modes (service (u .pairs) z)) (s .tree) (in-rep (below-rep e))) λ f i.
-      after-check 7 _ λ b.
-      after-check 5 _ λ _.
+      after-check WrongKind _ λ b.
+      after-check Access _ λ _.
       ensured (private-outside (s .tree) p d there (shut z) (λ n. not (is-directory (by-modes (service (u .pairs) z) .kind n)))
       (ap (λ k. not (is-directory k)) (kind-by-modes (service (u .pairs) z) (d .here)) ∙ ap not (v .directory)) (in-rep (below-rep e)) f i b)
 
@@ -103,9 +104,9 @@ module _ (u : Setup) (s : Store) (c : Caller) (p : Path) (d : Place Node) (there
       after-facts (working-private R w) λ k o.
       after-facts (original-private z (k .tag .path)) λ a i.
       after-do (walk (by-modes (service (u .pairs) z)) (s .tree) (in-rep (k .tag .path .folder))) λ _ _.
-      after-check 5 _ λ _.
-      after-check 14 _ λ _.
-      after-check 16 _ λ _.
+      after-check Access _ λ _.
+      after-check Stale _ λ _.
+      after-check RevisionsSpent _ λ _.
       ensured (inr (p, alter-keeps _ p d w _ (alter-keeps (s .tree) p d (in-rep (below-rep (k .tag .path))) _ there i) o))
 
   update-file-private : (w : Path) → Ensures (λ o. Stays d (o .state .tree)) (update-file store u s c w)
@@ -121,15 +122,15 @@ module _ (u : Setup) (s : Store) (c : Caller) (p : Path) (d : Place Node) (there
   delete-entry-private e =
       after-do (session store u s c) λ z _.
       after-do (walk (by-modes (service (u .pairs) z)) (s .tree) (in-rep (e .folder) ▹ e .name)) λ a w.
-      after-check 5 _ λ _.
+      after-check Access _ λ _.
       after-do (walk (by-modes (service (u .pairs) z)) (s .tree) (in-rep (e .folder))) λ f i.
-      after-check 5 _ λ b.
-      after-check 8 _ λ n.
+      after-check Access _ λ b.
+      after-check NotEmpty _ λ n.
       ensured (drop-private (s .tree) p d there (shut z) (in-rep (e .folder)) (e .name) a f w i (rw (writable-by-modes (service (u .pairs) z) (f .here)) at b) n)
 
   run-repository-private : (command : Repository-command) → Ensures (λ o. Stays d (o .state .tree)) (run-repository store u s c command)
   unfolding run-repository log-in log-out
-  run-repository-private (login z password) = after-check 13 _ λ _. ensured (inr (p, there))
+  run-repository-private (login z password) = after-check NoGrant _ λ _. ensured (inr (p, there))
   run-repository-private logout = ensured (inr (p, there))
   run-repository-private (add w e role) = file-entry-private w e role
   run-repository-private (co e q) = check-out-private e q

@@ -16,6 +16,7 @@ use Rattle.syntax.specs.Path.{Name, Path, _▹_, Entry-path, parent, rep, in-re
 use Rattle.commands.specs.Command.{Shell-command, Repository-command, login, logout, add, co, commit, up, del, Command, shell, repository}
 use Rattle.setup.specs.Setup.{Setup, is-setup}
 use Rattle.tree.specs.declared.Kind.{Kind}
+use Rattle.tree.specs.declared.Cause.the-variants.{Access, WrongKind, NotEmpty, Reserved, Full, NoGrant, Stale, Untagged, RevisionsSpent, TooDeep}
 use Rattle.tree.specs.Result.{done, present}
 use Rattle.tree.specs.Forest.{Forest, nil, node, Place, get, update, put, leaf, size, map-forest, map-place}
 use Rattle.tree.specs.Node.{is-directory, Node, allows}
@@ -233,24 +234,24 @@ module _ (u : Setup) (c : Caller) (out : Kept-out c top-node (leaf rep-node .her
   unfolding working
   working-agrees right p =
       bind (person-walk p) λ d e s.
-      check 7 (test (λ n. not (is-directory (n .kind))) s) λ i.
-      check 5 (test (allows (c .account) right) s) λ _.
+      check WrongKind (test (λ n. not (is-directory (n .kind))) s) λ i.
+      check Access (test (allows (c .account) right) s) λ _.
       rw (seen-here (rep-alike h k) s) (
-      each (present (e .here .tag) 15) λ t _.
+      each (present (e .here .tag) Untagged) λ t _.
       both (refl, a-file s i))
 
   original-agrees : (z : Bounded-role) (e : Entry-path) → Agree (λ d b. d ≡ map-place in-store b) (original store u (embed h) c z e) (original abstract u h c z e)
   unfolding original
   original-agrees z e =
       bind (account-walk u z h k (below-rep e)) λ d b y.
-      check 7 (rw (y, map-here in-store b) (ap (λ i. not (is-directory i)) (kind-law u z (b .here)))) λ _.
-      check 5 (rw (y, map-here in-store b) (readable-law u z (b .here))) λ _.
+      check WrongKind (rw (y, map-here in-store b) (ap (λ i. not (is-directory i)) (kind-law u z (b .here)))) λ _.
+      check Access (rw (y, map-here in-store b) (readable-law u z (b .here))) λ _.
       both y
 
   -- command by command, line by line
   log-in-agrees : (z : Bounded-role) (password : Text) → Agree Tied (log-in store u (embed h) c z password) (log-in abstract u h c z password)
   unfolding log-in embed
-  log-in-agrees z password = check 13 refl λ _. both (changed (sessions-tie (start h k) _))
+  log-in-agrees z password = check NoGrant refl λ _. both (changed (sessions-tie (start h k) _))
 
   log-out-agrees : Agree Tied (log-out store u (embed h) c) (log-out abstract u h c)
   unfolding log-out embed
@@ -261,14 +262,14 @@ module _ (u : Setup) (c : Caller) (out : Kept-out c top-node (leaf rep-node .her
   file-entry-agrees w e role =
       each (session abstract u h c) λ z _.
       bind (person-walk w) λ d f s.
-      check 9 (test (owns (c .account)) s) λ i.
-      check 5 (test (by-modes (c .account) .readable) s) λ _.
-      check 9 refl λ _.
+      check Reserved (test (owns (c .account)) s) λ i.
+      check Access (test (by-modes (c .account) .readable) s) λ _.
+      check Reserved refl λ _.
       bind (account-parent-walk u z h k e) λ a b y.
       rw y (rw (map-here in-store b, map-below in-store b) (
       guard (unused-map in-store (e .name) (b .below)) λ _.
-      check 5 (writable-law u z (b .here)) λ _.
-      check 10 (fits-agree 1) λ _.
+      check Access (writable-law u z (b .here)) λ _.
+      check Full (fits-agree 1) λ _.
       rw (seen-here (rep-alike h k) s) (
       both (changed (people-tie
       (entries-tie (start h k) (e .folder) _ _ (put-entry (e .name) (f .here .kind) role (f .here .content)) (update-put-here (e .folder) (e .name) _ (h .entries)))
@@ -281,10 +282,10 @@ module _ (u : Setup) (c : Caller) (out : Kept-out c top-node (leaf rep-node .her
       bind (room-agrees p) λ f g s.
       bind (account-walk u z h k (below-rep e)) λ a b y.
       rw y (
-      check 5 (rw (map-here in-store b) (readable-law u z (b .here))) λ _.
+      check Access (rw (map-here in-store b) (readable-law u z (b .here))) λ _.
       rw (s .0, copy-law u z c (g .here) e b) (
-      check 19 refl λ _.
-      check 10 (fits-agree _) λ _.
+      check TooDeep refl λ _.
+      check Full (fits-agree _) λ _.
       both (changed (people-tie (start h k) (parent p) (s .1) _))))
 
   commit-file-agrees : (w : Path) → Agree Tied (commit-file store u (embed h) c w) (commit-file abstract u h c w)
@@ -297,9 +298,9 @@ module _ (u : Setup) (c : Caller) (out : Kept-out c top-node (leaf rep-node .her
       rw y (rw (map-here in-store b, revision-law (b .here)) (
       bind (account-walk u z h k (g .tag .path .folder)) λ d l v.
       rw v (rw (map-here in-store l) (
-      check 5 (writable-law u z (l .here)) λ _.
-      check 14 refl λ _.
-      check 16 refl λ _.
+      check Access (writable-law u z (l .here)) λ _.
+      check Stale refl λ _.
+      check RevisionsSpent refl λ _.
       both (changed (people-tie
       (entries-tie (start h k) (below-rep (g .tag .path)) _ _ (alter-map in-store _ _ (revise-law (g .file .content))) (below-rep-here (g .tag .path) _ (h .entries)))
       w (s .1) _)))))))
@@ -320,11 +321,11 @@ module _ (u : Setup) (c : Caller) (out : Kept-out c top-node (leaf rep-node .her
       each (session abstract u h c) λ z _.
       bind (account-walk u z h k (below-rep e)) λ a b y.
       rw y (rw (map-here in-store b, map-below in-store b) (
-      check 5 (readable-law u z (b .here)) λ _.
+      check Access (readable-law u z (b .here)) λ _.
       bind (account-walk u z h k (e .folder)) λ d l v.
       rw v (rw (map-here in-store l) (
-      check 5 (writable-law u z (l .here)) λ _.
-      check 8 (empty-map in-store (b .below)) λ _.
+      check Access (writable-law u z (l .here)) λ _.
+      check NotEmpty (empty-map in-store (b .below)) λ _.
       both (changed (entries-tie (start h k) (e .folder) _ _ (drop-map in-store (e .name)) (update-drop-here (e .folder) (e .name) (h .entries))))))))
 
   run-repository-agrees : (command : Repository-command) → Agree Tied (run-repository store u (embed h) c command) (run-repository abstract u h c command)

@@ -18,6 +18,8 @@ use Rattle.commands.specs.Command.{Shell-command, read, Command, shell}
 use Rattle.setup.specs.Setup.{Setup, accepted, setup, is-setup}
 use Rattle.setup.specs.SetupLaws.{accepted-is-setup}
 use Rattle.tree.specs.declared.Kind.{Kind}
+use Rattle.tree.specs.declared.Cause.{Cause}
+use Rattle.tree.specs.declared.Cause.the-variants.{Access}
 use Rattle.tree.specs.Result.{refused, done}
 use Rattle.tree.specs.Agree.{Ensures}
 use Rattle.tree.specs.Forest.{Place, place-at}
@@ -27,12 +29,13 @@ use Rattle.shell.specs.declared.Caller.{Caller}
 use Rattle.shell.specs.Caller.{Outcome}
 use Rattle.shell.specs.Steps.{run-shell}
 use Rattle.shell.specs.Privacy.{Private, Stays, read-through}
+use Rattle.repository.specs.declared.Answer.the-variants.{Refused}
 use Rattle.repository.specs.Machine.{caller, run}
 use Rattle.repository.specs.Store.{Store, store, entry-node, initial-store}
 use Rattle.repository.specs.Abstract.{Entry, Abstract, abstract, dominated, initial-abstract, in-store, embed}
 use Rattle.repository.specs.Calls.{Call, after, step, runs}
 use Rattle.repository.specs.Encoding.{encode, well-formed, decode}
-use Rattle.repository.specs.Bytes.{refused-by, run-result, run-call}
+use Rattle.repository.specs.Bytes.{told, run-result, run-call}
 use Rattle.repository.specs.BytesLaws
 use Rattle.repository.specs.Observed.{Compared, without-root, Reached, Reached-without-root}
 use Rattle.repository.specs.Keeping
@@ -72,13 +75,13 @@ unfolding without-root runs every
 initial-is-reached text u e = record { reached = record { text = text; taken = e; calls = []; state = refl }; rootless = refl }
 
 -- A refused call changes nothing: neither the store's bytes nor the answer buffer's.
-pub refused-changes-nothing : (b : List ℕ) (line : Text) (answer : List ℕ) (n : ℕ) → run-result b line (length answer) ≡ refused n →
-    run-call b line answer ≡ record { tells = refused-by n; store = b; answer = answer }
+pub refused-changes-nothing : (b : List ℕ) (line : Text) (answer : List ℕ) (why : Cause) → run-result b line (length answer) ≡ refused why →
+    run-call b line answer ≡ record { tells = told (Refused why); store = b; answer = answer }
 refused-changes-nothing = BytesLaws.refused-changes-nothing
 
 -- A person's shell line with a path below `/rep` is refused.
 pub shell-reaches-no-entry : (u : Setup) (s : Store) → Reached-without-root u s → (v : Uid) (c : Caller) → is-root v ≡ false → caller u v ≡ done c →
-    (command : Shell-command) → names-entry command ≡ true → (n : ℕ) × (run store u s c (shell command) ≡ refused n)
+    (command : Shell-command) → names-entry command ≡ true → (why : Cause) × (run store u s c (shell command) ≡ refused why)
 shell-reaches-no-entry = KeptOut.shell-refused
 
 -- An entry is altered or removed only by a done `commit` or `del` in a session whose role dominates the entry's.
@@ -114,5 +117,5 @@ private-directory-stays = Privacy.run-private
 
 -- And a `read` through it is refused 5.
 pub private-directory-is-not-read : (c : Caller) (m : ℕ) (t : Place Node) (p : Path) (d : Place Node) → is-tree t ≡ true → place-at t p ≡ some d →
-    Private (c .account) d → (q : Path) → within p q ≡ true → same-path p q ≡ false → run-shell c m t (read q) ≡ refused 5
+    Private (c .account) d → (q : Path) → within p q ≡ true → same-path p q ≡ false → run-shell c m t (read q) ≡ refused Access
 private-directory-is-not-read = read-through

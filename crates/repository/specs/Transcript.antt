@@ -5,6 +5,7 @@ use mathlib.Core.Bool.{cond}
 use Rattle.syntax.specs.Text.{Text, bytes, newline, same-text, pieces, joined}
 use Rattle.syntax.specs.Number.{decimal-text}
 use Rattle.setup.specs.Setup.{Setup, Setup-answer, accepted, wrong-line, setup}
+use Rattle.tree.specs.Causes.{number}
 use Rattle.repository.specs.Store.{store, initial-store}
 use Rattle.repository.specs.Calls.{Call, least-room, Reply, ok, refusal, runs}
 use Rattle.repository.specs.Listing.{listing}
@@ -37,7 +38,7 @@ command-lines (t ∷ (s ∷ ts)) = t ∷ command-lines (s ∷ ts)
 unfoldable pub reply-line : Reply → Text
 reply-line (ok none) = bytes "ok"
 reply-line (ok (some t)) = bytes "ok," ++ t
-reply-line (refusal n) = bytes "no," ++ decimal-text n
+reply-line (refusal why) = bytes "no," ++ decimal-text (number why)
 
 -- every line ends with byte 10
 unfoldable pub lines-text : List Text → Text

@@ -18,6 +18,7 @@ use Rattle.syntax.specs.Path.{Path, parent, last, rep, reserved}
 use Rattle.commands.specs.Command.{Shell-command, create, mkdir, read, write, rm, rmdir, mv, chmod, chgrp, chown}
 use Rattle.tree.specs.declared.Kind.{Kind}
 use Rattle.tree.specs.declared.Kind.the-variants.{File, Directory}
+use Rattle.tree.specs.declared.Cause.the-variants.{Access, Exists, WrongKind, NotEmpty, Reserved, Full, IntoItself, TooDeep}
 use Rattle.tree.specs.Result.{done}
 use Rattle.tree.specs.Forest.{Place, get, is-empty, update}
 use Rattle.tree.specs.Node.{is-directory, same-kind, Node, allows}
@@ -125,10 +126,10 @@ module _ (c : Caller) (e f : Place Node) (top : Node) (out : Kept-out c top (f .
     pub room-alike : (p : Path) → Agree (λ d d′. (d .here ≡ d′ .here) × Outside (parent p)) (room c m (graft e t) p) (room c m′ t p)
     unfolding room
     room-alike p =
-        check 6 refl λ _.
+        check Exists refl λ _.
         bind (parent-walk-alike p) λ d d′ s.
         guard (unused-graft there not-passed s (last p)) λ _.
-        check 5 (test (allows (c .account) W) (s .seen)) λ i.
+        check Access (test (allows (c .account) W) (s .seen)) λ i.
         both (seen-here alike (s .seen), writes-outside (s .seen) i)
 
     -- as many more nodes fit in both
@@ -140,70 +141,70 @@ module _ (c : Caller) (e f : Place Node) (top : Node) (out : Kept-out c top (f .
     unfolding make
     make-alike kind p mode =
         bind (room-alike p) λ d d′ s.
-        check 10 (fit-alike 1) λ _.
+        check Full (fit-alike 1) λ _.
         rw (s .0) (changed-alike (update-beside start (parent p) (s .1) _))
 
     show-alike : (p : Path) → Agree (Alike e f top) (show c m (graft e t) p) (show c m′ t p)
     unfolding show
     show-alike p =
         bind (walk-alike p) λ d d′ s.
-        check 5 (test (allows (c .account) R) s) λ i.
+        check Access (test (allows (c .account) R) s) λ i.
         both (record { text = ap some (text-alike s i); state = start })
 
     overwrite-alike : (p : Path) (content : Text) → Agree (Alike e f top) (overwrite c m (graft e t) p content) (overwrite c m′ t p content)
     unfolding overwrite
     overwrite-alike p content =
         bind (walk-alike p) λ d d′ s.
-        check 7 (test (λ n. not (is-directory (n .kind))) s) λ i.
-        check 5 (test (allows (c .account) W) s) λ _.
+        check WrongKind (test (λ n. not (is-directory (n .kind))) s) λ i.
+        check Access (test (allows (c .account) W) s) λ _.
         changed-alike (update-beside start p (file-outside s i) _)
 
     unlink-alike : (kind : Kind) (p : Path) → Agree (Alike e f top) (unlink c m (graft e t) kind p) (unlink c m′ t kind p)
     unfolding unlink
     unlink-alike kind p =
-        check 9 refl λ i.
+        check Reserved refl λ i.
         bind (walk-alike p) λ d d′ s.
-        check 7 (test (λ n. same-kind (n .kind) kind) s) λ _.
+        check WrongKind (test (λ n. same-kind (n .kind) kind) s) λ _.
         bind (walk-alike (parent p)) λ a a′ u.
-        check 5 (test (allows (c .account) W) u) λ w.
-        check 8 (ap (λ b. is-empty (b .below)) (seen-alike s (not-true (reserved p) i))) λ _.
+        check Access (test (allows (c .account) W) u) λ w.
+        check NotEmpty (ap (λ b. is-empty (b .below)) (seen-alike s (not-true (reserved p) i))) λ _.
         changed-alike (update-beside start (parent p) (writes-outside u w) _)
 
     move-alike : (a b : Path) → Agree (Alike e f top) (move c m (graft e t) a b) (move c m′ t a b)
     unfolding move
     move-alike a b =
-        check 9 refl λ i.
+        check Reserved refl λ i.
         bind (walk-alike a) λ d d′ s.
         bind (parent-walk-alike b) λ k k′ u.
         guard (unused-graft there not-passed u (last b)) λ _.
         bind (walk-alike (parent a)) λ l l′ v.
-        check 5 (test (allows (c .account) W) v) λ w.
-        check 5 (test (allows (c .account) W) (u .seen)) λ x.
-        check 11 refl λ _.
+        check Access (test (allows (c .account) W) v) λ w.
+        check Access (test (allows (c .account) W) (u .seen)) λ x.
+        check IntoItself refl λ _.
         rw (seen-alike s (neither (reserved a) (reserved b) i .0)) (
-        check 19 refl λ _.
+        check TooDeep refl λ _.
         changed-alike (update-beside (update-beside start (parent a) (writes-outside v w) _) (parent b) (writes-outside (u .seen) x) _))
 
     change-mode-alike : (p : Path) (mode : ℕ) → Agree (Alike e f top) (change-mode c m (graft e t) p mode) (change-mode c m′ t p mode)
     unfolding change-mode
     change-mode-alike p mode =
         bind (walk-alike p) λ d d′ s.
-        check 7 (test (λ n. is-directory (n .kind) || not (set-gid mode)) s) λ _.
-        check 9 (test (owns (c .account)) s) λ i.
+        check WrongKind (test (λ n. is-directory (n .kind) || not (set-gid mode)) s) λ _.
+        check Reserved (test (owns (c .account)) s) λ i.
         changed-alike (update-beside start p (owned-outside s i) _)
 
     change-group-alike : (p : Path) (group : Gid) → Agree (Alike e f top) (change-group c m (graft e t) p group) (change-group c m′ t p group)
     unfolding change-group owns
     change-group-alike p group =
         bind (walk-alike p) λ d d′ s.
-        check 9 (test (λ n. is-root (c .account .uid) || (same-uid (c .account .uid) (n .owner) && member group (c .account .groups))) s) λ i.
+        check Reserved (test (λ n. is-root (c .account .uid) || (same-uid (c .account .uid) (n .owner) && member group (c .account .groups))) s) λ i.
         changed-alike (update-beside start p (owned-outside s (weaker (is-root (c .account .uid)) _ _ i)) _)
 
     change-owner-alike : (p : Path) (owner : Uid) → Agree (Alike e f top) (change-owner c m (graft e t) p owner) (change-owner c m′ t p owner)
     unfolding change-owner
     change-owner-alike p owner =
         bind (walk-alike p) λ d d′ s.
-        check 9 refl λ i. contra i (out .not-root)
+        check Reserved refl λ i. contra i (out .not-root)
 
     -- a shell command answers the same, and leaves the two trees so
     pub run-shell-alike : (command : Shell-command) → Agree (Alike e f top) (run-shell c m (graft e t) command) (run-shell c m′ t command)

@@ -17,6 +17,7 @@ use Rattle.syntax.specs.Field.{is-content}
 use Rattle.commands.specs.Command.{Shell-command, create, mkdir, read, write, rm, rmdir, mv, chmod, chgrp, chown, is-shell-command}
 use Rattle.tree.specs.declared.Kind.{Kind}
 use Rattle.tree.specs.declared.Kind.the-variants.{File, Directory}
+use Rattle.tree.specs.declared.Cause.the-variants.{Access, Exists, WrongKind, NotEmpty, Reserved, Full, IntoItself, TooDeep}
 use Rattle.tree.specs.Result.{Result, done}
 use Rattle.tree.specs.Forest.{Place, get, update, put, leaf, size, height}
 use Rattle.tree.specs.Node.{is-directory, Node, set-owner, set-group, set-mode, set-content}
@@ -61,10 +62,10 @@ module _ (c : Caller) (m : ℕ) (t : Place Node) where
   room-ensures : (p : Path) → Ensures (Room c t p) (room c m t p)
   unfolding room
   room-ensures p =
-      after-check 6 _ λ a.
+      after-check Exists _ λ a.
       after-do _ λ d e.
       after-guard _ λ b.
-      after-check 5 _ λ _.
+      after-check Access _ λ _.
       let i = parent-walked (by-modes (c .account)) t p e in
       ensured (i .0, entered-directory (c .account) (d .here) (i .1), was-unused (last p) (d .below) b, not-true (is-top p) a)
 
@@ -96,7 +97,7 @@ module _ (c : Caller) (m : ℕ) (t : Place Node) where
     unfolding make
     make-keeps kind p mode a b g =
         after-do _ λ d e.
-        after-check 10 _ λ f.
+        after-check Full _ λ f.
         let x = new-node c (d .here) kind mode in
         ensured (room-keeps p d (leaf x) h a e (leaf-place x (new-node-fits c (d .here) kind mode o (node-at (parent p) d (room-found p d e .0)) b g))
         (omega (arith, leaf-height x, path-depth p a)) (omega (arith, leaf-size x, fit-most 1 f)))
@@ -105,42 +106,42 @@ module _ (c : Caller) (m : ℕ) (t : Place Node) where
     unfolding show
     show-keeps p =
         after-do _ λ d _.
-        after-check 5 _ λ _.
+        after-check Access _ λ _.
         ensured h
 
     overwrite-keeps : (p : Path) (content : Text) → is-content content ≡ true → Keeps (overwrite c m t p content)
     unfolding overwrite
     overwrite-keeps p content a =
         after-do _ λ d e.
-        after-check 7 _ λ b.
-        after-check 5 _ λ _.
+        after-check WrongKind _ λ b.
+        after-check Access _ λ _.
         ensured (keep-alter (by-modes (c .account)) t p d (set-content content) h e
         (node-of-content content (d .here) (node-at p d e) (not-true (is-directory (d .here .kind)) b) a) (kind-of-set-content content (d .here)))
 
     unlink-keeps : (kind : Kind) (p : Path) → Keeps (unlink c m t kind p)
     unfolding unlink
     unlink-keeps kind p =
-        after-check 9 _ λ _.
+        after-check Reserved _ λ _.
         after-do _ λ d _.
-        after-check 7 _ λ _.
+        after-check WrongKind _ λ _.
         after-do _ λ e _.
-        after-check 5 _ λ _.
-        after-check 8 _ λ _.
+        after-check Access _ λ _.
+        after-check NotEmpty _ λ _.
         ensured (keep-drop t (parent p) (last p) h)
 
     move-keeps : (a b : Path) → is-path b ≡ true → Keeps (move c m t a b)
     unfolding move reserved parent last most-names
-    move-keeps root b g = after-check 9 _ λ i. contra refl (sym i)
+    move-keeps root b g = after-check Reserved _ λ i. contra refl (sym i)
     move-keeps (a ▹ n) b g =
-        after-check 9 _ λ i.
+        after-check Reserved _ λ i.
         after-do _ λ d e.
         after-do _ λ f k.
         after-guard _ λ free.
         after-do _ λ _ _.
-        after-check 5 _ λ _.
-        after-check 5 _ λ _.
-        after-check 11 _ λ _.
-        after-check 19 _ λ l.
+        after-check Access _ λ _.
+        after-check Access _ λ _.
+        after-check IntoItself _ λ _.
+        after-check TooDeep _ λ l.
         let to = parent-walked (by-modes (c .account)) t b k in
         let top = not-reserved b (neither (reserved (a ▹ n)) (reserved b) i .1) in
         ensured (keep-move (by-modes (c .account)) t a n (parent b) (last b) d f h e (to .0) (entered-directory (c .account) (f .here) (to .1))
@@ -151,8 +152,8 @@ module _ (c : Caller) (m : ℕ) (t : Place Node) where
     unfolding change-mode
     change-mode-keeps p mode a =
         after-do _ λ d e.
-        after-check 7 _ λ b.
-        after-check 9 _ λ _.
+        after-check WrongKind _ λ b.
+        after-check Reserved _ λ _.
         ensured (keep-alter (by-modes (c .account)) t p d (set-mode mode) h e
         (node-of-mode mode (d .here) (node-at p d e) a b) (kind-of-set-mode mode (d .here)))
 
@@ -160,7 +161,7 @@ module _ (c : Caller) (m : ℕ) (t : Place Node) where
     unfolding change-group
     change-group-keeps p group a =
         after-do _ λ d e.
-        after-check 9 _ λ _.
+        after-check Reserved _ λ _.
         ensured (keep-alter (by-modes (c .account)) t p d (set-group group) h e
         (node-of-group group (d .here) (node-at p d e) a) (kind-of-set-group group (d .here)))
 
@@ -168,7 +169,7 @@ module _ (c : Caller) (m : ℕ) (t : Place Node) where
     unfolding change-owner
     change-owner-keeps p owner a =
         after-do _ λ d e.
-        after-check 9 _ λ _.
+        after-check Reserved _ λ _.
         ensured (keep-alter (by-modes (c .account)) t p d (set-owner owner) h e
         (node-of-owner owner (d .here) (node-at p d e) a) (kind-of-set-owner owner (d .here)))
 

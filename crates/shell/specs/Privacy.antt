@@ -19,6 +19,7 @@ use Rattle.syntax.specs.Path.{Name, Path, root, _▹_, parent, last, same-path,
 use Rattle.commands.specs.Command.{Shell-command, create, mkdir, read, write, rm, rmdir, mv, chmod, chgrp, chown}
 use Rattle.tree.specs.declared.Kind.{Kind}
 use Rattle.tree.specs.declared.Kind.the-variants.{File, Directory}
+use Rattle.tree.specs.declared.Cause.the-variants.{Access, Exists, WrongKind, NotEmpty, Reserved, Full, IntoItself, TooDeep}
 use Rattle.tree.specs.Result.{refused, done}
 use Rattle.tree.specs.Forest.{Place, is-empty, update, place-at, put, drop}
 use Rattle.tree.specs.Node.{is-directory, Node, allows, set-mode, set-group, set-content}
@@ -62,7 +63,7 @@ module _ {a : Account} (t : Place Node) (p : Path) (d : Place Node) where
 
   -- a walk through it is refused, whatever stands below it
   pub walk-through : is-tree t ≡ true → place-at t p ≡ some d → Private a d
-      → (q : Path) → within p q ≡ true → same-path p q ≡ false → walk (by-modes a) t q ≡ refused 5
+      → (q : Path) → within p q ≡ true → same-path p q ≡ false → walk (by-modes a) t q ≡ refused Access
   walk-through h there v = walk-shut (by-modes a) (kind-by-modes a) t h p d there (v .directory) (not-passed v)
 
   module _ (there : place-at t p ≡ some d) (v : Private a d) where
@@ -91,7 +92,7 @@ module _ {a : Account} (t : Place Node) (p : Path) (d : Place Node) where
 module _ (c : Caller) (m : ℕ) (t : Place Node) (p : Path) (d : Place Node) where
   -- the reading of what stands below it is refused too
   pub read-through : is-tree t ≡ true → place-at t p ≡ some d → Private (c .account) d
-      → (q : Path) → within p q ≡ true → same-path p q ≡ false → run-shell c m t (read q) ≡ refused 5
+      → (q : Path) → within p q ≡ true → same-path p q ≡ false → run-shell c m t (read q) ≡ refused Access
   unfolding run-shell show
   read-through h there v q i o = rw (walk-through t p d h there v q i o, refused-bind)
 
@@ -100,60 +101,60 @@ module _ (c : Caller) (m : ℕ) (t : Place Node) (p : Path) (d : Place Node) whe
     pub room-private : (q : Path) → Ensures (λ e. (x : Place Node) → place-at (update (parent q) (put (last q) x) t) p ≡ some d) (room c m t q)
     unfolding room
     room-private q =
-        after-check 6 _ λ _.
+        after-check Exists _ λ _.
         after-do (parent-walk (by-modes (c .account)) t q) λ e w.
         after-guard (unused (last q) (e .below)) λ n.
-        after-check 5 _ λ b.
+        after-check Access _ λ b.
         ensured (put-private t p d there v q e w n b)
 
     make-private : (kind : Kind) (q : Path) (mode : ℕ) → Ensures (λ o. Stays d (o .state)) (make c m t kind q mode)
     unfolding make
     make-private kind q mode =
         after-facts (room-private q) λ e k.
-        after-check 10 _ λ _.
+        after-check Full _ λ _.
         ensured (inr (p, k _))
 
     show-private : (q : Path) → Ensures (λ o. Stays d (o .state)) (show c m t q)
     unfolding show
     show-private q =
         after-do (walk (by-modes (c .account)) t q) λ e w.
-        after-check 5 _ λ _.
+        after-check Access _ λ _.
         ensured (inr (p, there))
 
     overwrite-private : (q : Path) (content : Text) → Ensures (λ o. Stays d (o .state)) (overwrite c m t q content)
     unfolding overwrite
     overwrite-private q content =
         after-do (walk (by-modes (c .account)) t q) λ e w.
-        after-check 7 _ λ _.
-        after-check 5 _ λ b.
+        after-check WrongKind _ λ _.
+        after-check Access _ λ b.
         ensured (inr (p, alter-keeps t p d q (set-content content) there (written-outside t p d there v q e w b)))
 
     unlink-private : (kind : Kind) (q : Path) → Ensures (λ o. Stays d (o .state)) (unlink c m t kind q)
     unfolding unlink reserved parent last
-    unlink-private kind root = after-check 9 _ λ i. contra i refl
+    unlink-private kind root = after-check Reserved _ λ i. contra i refl
     unlink-private kind (q ▹ n) =
-        after-check 9 _ λ _.
+        after-check Reserved _ λ _.
         after-do (walk (by-modes (c .account)) t (q ▹ n)) λ x w.
-        after-check 7 _ λ _.
+        after-check WrongKind _ λ _.
         after-do (walk (by-modes (c .account)) t q) λ e s.
-        after-check 5 _ λ b.
-        after-check 8 _ λ z.
+        after-check Access _ λ b.
+        after-check NotEmpty _ λ z.
         ensured (drop-private t p d there v q n x e w s b z)
 
     move-private : (a b : Path) → Ensures (λ o. Stays d (o .state)) (move c m t a b)
     unfolding move reserved parent last
-    move-private root b = after-check 9 _ λ i. contra i refl
-    move-private (q ▹ n) root = after-check 9 _ λ i. contra i (ap not (or-true (reserved (q ▹ n))))
+    move-private root b = after-check Reserved _ λ i. contra i refl
+    move-private (q ▹ n) root = after-check Reserved _ λ i. contra i (ap not (or-true (reserved (q ▹ n))))
     move-private (q ▹ n) (r ▹ k) =
-        after-check 9 _ λ _.
+        after-check Reserved _ λ _.
         after-do (walk (by-modes (c .account)) t (q ▹ n)) λ x w.
         after-do (parent-walk (by-modes (c .account)) t (r ▹ k)) λ f s.
         after-guard (unused k (f .below)) λ u.
         after-do (walk (by-modes (c .account)) t q) λ e i.
-        after-check 5 _ λ b.
-        after-check 5 _ λ g.
-        after-check 11 _ λ o.
-        after-check 19 _ λ _.
+        after-check Access _ λ b.
+        after-check Access _ λ g.
+        after-check IntoItself _ λ o.
+        after-check TooDeep _ λ _.
         let l = parent-walked (by-modes (c .account)) t (r ▹ k) s .0 in
         let h = walked-at t (by-modes (c .account)) r f l in
         ensured (inr (move-keeps t p d q n x r f k there (written-outside t p d there v q e i b) (written-outside t p d there v r f l g)
@@ -163,15 +164,15 @@ module _ (c : Caller) (m : ℕ) (t : Place Node) (p : Path) (d : Place Node) whe
     unfolding change-mode
     change-mode-private q mode =
         after-do (walk (by-modes (c .account)) t q) λ e w.
-        after-check 7 _ λ _.
-        after-check 9 _ λ b.
+        after-check WrongKind _ λ _.
+        after-check Reserved _ λ b.
         ensured (inr (p, alter-keeps t p d q (set-mode mode) there (private-outside t p d there v (owns (c .account)) (private-foreign v) q e w b)))
 
     change-group-private : (q : Path) (group : Gid) → Ensures (λ o. Stays d (o .state)) (change-group c m t q group)
     unfolding change-group
     change-group-private q group =
         after-do (walk (by-modes (c .account)) t q) λ e w.
-        after-check 9 _ λ b.
+        after-check Reserved _ λ b.
         ensured (inr (
           p,
           alter-keeps t p d q (set-group group) there (private-outside t p d there v
@@ -182,7 +183,7 @@ module _ (c : Caller) (m : ℕ) (t : Place Node) (p : Path) (d : Place Node) whe
     unfolding change-owner
     change-owner-private q owner =
         after-do (walk (by-modes (c .account)) t q) λ e w.
-        after-check 9 _ λ b. contra b (v .not-root)
+        after-check Reserved _ λ b. contra b (v .not-root)
 
     -- every shell command leaves the directory with all that lies below it
     pub run-shell-private : (command : Shell-command) → Ensures (λ o. Stays d (o .state)) (run-shell c m t command)

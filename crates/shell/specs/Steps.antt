@@ -18,6 +18,7 @@ use Rattle.syntax.specs.Path.{Path, parent, last, depth, is-top, within, reserv
 use Rattle.commands.specs.Command.{Shell-command, create, mkdir, read, write, rm, rmdir, mv, chmod, chgrp, chown}
 use Rattle.tree.specs.declared.Kind.{Kind}
 use Rattle.tree.specs.declared.Kind.the-variants.{File, Directory}
+use Rattle.tree.specs.declared.Cause.the-variants.{Access, Exists, WrongKind, NotEmpty, Reserved, Full, IntoItself, TooDeep}
 use Rattle.tree.specs.Result.{Result, done, _>>=_, _>>_, require}
 use Rattle.tree.specs.Forest.{Place, is-empty, update, alter, put, drop, leaf, height, names}
 use Rattle.tree.specs.Node.{is-directory, same-kind, Node, allows, set-owner, set-group, set-mode, set-content}
@@ -48,10 +49,10 @@ module _ (c : Caller) (elsewhere : ℕ) (t : Place Node) where
   -- a directory for a new node: for `/` 6; parent walk; 6 if present; w on parent 5
   unfoldable pub room : Path → Result (Place Node)
   room p = do
-    require (not (is-top p)) 6
+    require (not (is-top p)) Exists
     d ← parent-walks p
     unused (last p) (d .below)
-    require (can W d) 5
+    require (can W d) Access
     done d
 
   -- whether so many more nodes are at most 256
@@ -61,63 +62,63 @@ module _ (c : Caller) (elsewhere : ℕ) (t : Place Node) where
   unfoldable pub make : Kind → Path → ℕ → Result (Outcome (Place Node))
   make kind p mode = do
     d ← room p
-    require (fit 1) 10
+    require (fit 1) Full
     changed (parent p) (put (last p) (leaf (new-node c (d .here) kind mode)))
 
   unfoldable pub show : Path → Result (Outcome (Place Node))
   show p = do
     d ← walks p
-    require (can R d) 5
+    require (can R d) Access
     done (record { text = some (text-of d); state = t })
 
   unfoldable pub overwrite : Path → Text → Result (Outcome (Place Node))
   overwrite p content = do
     d ← walks p
-    require (not (is-directory (d .here .kind))) 7
-    require (can W d) 5
+    require (not (is-directory (d .here .kind))) WrongKind
+    require (can W d) Access
     changed p (alter (set-content content))
 
   unfoldable pub unlink : Kind → Path → Result (Outcome (Place Node))
   unlink kind p = do
-    require (not (reserved p)) 9
+    require (not (reserved p)) Reserved
     d ← walks p
-    require (same-kind (d .here .kind) kind) 7
+    require (same-kind (d .here .kind) kind) WrongKind
     above ← walks (parent p)
-    require (can W above) 5
-    require (is-empty (d .below)) 8
+    require (can W above) Access
+    require (is-empty (d .below)) NotEmpty
     changed (parent p) (drop (last p))
 
   unfoldable pub move : Path → Path → Result (Outcome (Place Node))
   move a b = do
-    require (not (reserved a || reserved b)) 9
+    require (not (reserved a || reserved b)) Reserved
     d ← walks a
     f ← parent-walks b
     unused (last b) (f .below)
     e ← walks (parent a)
-    require (can W e) 5
-    require (can W f) 5
-    require (not (within a b)) 11
-    require (leb (depth b + height (d .below)) most-names) 19
+    require (can W e) Access
+    require (can W f) Access
+    require (not (within a b)) IntoItself
+    require (leb (depth b + height (d .below)) most-names) TooDeep
     done (record { text = none; state = update (parent b) (put (last b) d) (update (parent a) (drop (last a)) t) })
 
   unfoldable pub change-mode : Path → ℕ → Result (Outcome (Place Node))
   change-mode p mode = do
     d ← walks p
-    require (is-directory (d .here .kind) || not (set-gid mode)) 7
-    require (owns (c .account) (d .here)) 9
+    require (is-directory (d .here .kind) || not (set-gid mode)) WrongKind
+    require (owns (c .account) (d .here)) Reserved
     changed p (alter (set-mode mode))
 
   -- root may give any group, an owner any of the own groups
   unfoldable pub change-group : Path → Gid → Result (Outcome (Place Node))
   change-group p group = do
     d ← walks p
-    require (is-root (c .account .uid) || (same-uid (c .account .uid) (d .here .owner) && member group (c .account .groups))) 9
+    require (is-root (c .account .uid) || (same-uid (c .account .uid) (d .here .owner) && member group (c .account .groups))) Reserved
     changed p (alter (set-group group))
 
   unfoldable pub change-owner : Path → Uid → Result (Outcome (Place Node))
   change-owner p owner = do
     d ← walks p
-    require (is-root (c .account .uid)) 9
+    require (is-root (c .account .uid)) Reserved
     changed p (alter (set-owner owner))
 
   unfoldable pub run-shell : Shell-command → Result (Outcome (Place Node))

@@ -2,7 +2,7 @@
 -- thing of which it holds. A proof about a command goes through its steps line by line.
 use mathlib.Core.Path.{_≡_, refl}
 use mathlib.Core.Bool.{Bool, true, false}
-use Prim.Native.Nat.{ℕ}
+use Rattle.tree.specs.declared.Cause.{Cause}
 use Rattle.tree.specs.Result.{Result, refused, done, _>>=_, _>>_, require}
 use Rattle.tree.specs.ResultLaws.{not-done}
 
@@ -10,29 +10,29 @@ use Rattle.tree.specs.ResultLaws.{not-done}
 
 -- the same refusal, or two things done that are related by R
 pub data Agree {X Y : Type 0} (R : X → Y → Type 0) : Result X → Result Y → Type 0 where
-  refusal : (n : ℕ) → Agree R (refused n) (refused n)
+  refusal : (why : Cause) → Agree R (refused why) (refused why)
   both : {x : X} {y : Y} → R x y → Agree R (done x) (done y)
 
 -- one outcome on both sides
 pub itself : {X : Type 0} {R : X → X → Type 0} (a : Result X) → ((x : X) → a ≡ done x → R x x) → Agree R a a
-itself (refused n) k = refusal n
+itself (refused why) k = refusal why
 itself (done x) k = both (k x refl)
 
 -- where the first is done, so is the other, with something related
 pub done-first : {X Y : Type 0} {R : X → Y → Type 0} {a : Result X} {b : Result Y} → Agree R a b → {x : X} → a ≡ done x → (y : Y) × (b ≡ done y) × R x y
-done-first (refusal n) e = not-done e
+done-first (refusal why) e = not-done e
 done-first (both {x = x} {y = y} r) {x = v} e = let q : v ≡ x = cc in (y, refl, rw q r)
 
 -- and the other way round
 pub done-second : {X Y : Type 0} {R : X → Y → Type 0} {a : Result X} {b : Result Y} → Agree R a b → {y : Y} → b ≡ done y → (x : X) × (a ≡ done x) × R x y
-done-second (refusal n) e = not-done e
+done-second (refusal why) e = not-done e
 done-second (both {x = x} {y = y} r) {y = v} e = let q : v ≡ y = cc in (x, refl, rw q r)
 
 -- steps that agree, each followed by steps that agree on what is related
 pub bind : {X Y C D : Type 0} {R : X → Y → Type 0} {Q : C → D → Type 0} {a : Result X} {b : Result Y} {f : X → Result C} {g : Y → Result D}
     → Agree R a b → ((x : X) (y : Y) → R x y → Agree Q (f x) (g y)) → Agree Q (a >>= f) (b >>= g)
 unfolding _>>=_
-bind (refusal n) k = refusal n
+bind (refusal why) k = refusal why
 bind (both {x = x} {y = y} r) k = k x y r
 
 module _ {C D : Type 0} {Q : C → D → Type 0} where
@@ -40,21 +40,21 @@ module _ {C D : Type 0} {Q : C → D → Type 0} where
   pub each : {X : Type 0} {f : X → Result C} {g : X → Result D} (a : Result X)
       → ((x : X) → a ≡ done x → Agree Q (f x) (g x)) → Agree Q (a >>= f) (a >>= g)
   unfolding _>>=_
-  each (refused n) k = refusal n
+  each (refused why) k = refusal why
   each (done x) k = k x refl
 
-  check-one : {v : Result C} {w : Result D} (n : ℕ) (a : Bool) → (a ≡ true → Agree Q v w) → Agree Q (require a n >> v) (require a n >> w)
+  check-one : {v : Result C} {w : Result D} (why : Cause) (a : Bool) → (a ≡ true → Agree Q v w) → Agree Q (require a why >> v) (require a why >> w)
   unfolding _>>_ require
-  check-one n true k = k refl
-  check-one n false k = refusal n
+  check-one why true k = k refl
+  check-one why false k = refusal why
 
   -- a test that comes to the same on both sides
-  pub check : {v : Result C} {w : Result D} {a b : Bool} (n : ℕ) → a ≡ b → (a ≡ true → Agree Q v w) → Agree Q (require a n >> v) (require b n >> w)
-  check {a} n e k = rw (← e) (check-one n a k)
+  pub check : {v : Result C} {w : Result D} {a b : Bool} (why : Cause) → a ≡ b → (a ≡ true → Agree Q v w) → Agree Q (require a why >> v) (require b why >> w)
+  check {a} why e k = rw (← e) (check-one why a k)
 
   guard-one : {v : Result C} {w : Result D} (a : Result (Unit {0})) → (a ≡ done tt → Agree Q v w) → Agree Q (a >> v) (a >> w)
   unfolding _>>_
-  guard-one (refused n) k = refusal n
+  guard-one (refused why) k = refusal why
   guard-one (done u) k = k refl
 
   -- a check that comes to the same on both sides
@@ -65,7 +65,7 @@ module _ {C D : Type 0} {Q : C → D → Type 0} where
 
 -- refused, or done with something of which P holds
 pub data Ensures {X : Type 0} (P : X → Type 0) : Result X → Type 0 where
-  no-matter : (n : ℕ) → Ensures P (refused n)
+  no-matter : (why : Cause) → Ensures P (refused why)
   ensured : {x : X} → P x → Ensures P (done x)
 
 -- what is done has what is ensured
@@ -76,23 +76,23 @@ module _ {Y : Type 0} {P : Y → Type 0} where
   -- after a step that is done
   pub after-do : {X : Type 0} {f : X → Result Y} (a : Result X) → ((x : X) → a ≡ done x → Ensures P (f x)) → Ensures P (a >>= f)
   unfolding _>>=_
-  after-do (refused n) k = no-matter n
+  after-do (refused why) k = no-matter why
   after-do (done x) k = k x refl
 
   -- after a step that ensures something
   pub after-facts : {X : Type 0} {Q : X → Type 0} {a : Result X} {f : X → Result Y} → Ensures Q a → ((x : X) → Q x → Ensures P (f x)) → Ensures P (a >>= f)
   unfolding _>>=_
-  after-facts (no-matter n) k = no-matter n
+  after-facts (no-matter why) k = no-matter why
   after-facts (ensured {x = x} h) k = k x h
 
   -- after a test that passes
-  pub after-check : {r : Result Y} (n : ℕ) (b : Bool) → (b ≡ true → Ensures P r) → Ensures P (require b n >> r)
+  pub after-check : {r : Result Y} (why : Cause) (b : Bool) → (b ≡ true → Ensures P r) → Ensures P (require b why >> r)
   unfolding _>>_ require
-  after-check n true k = k refl
-  after-check n false k = no-matter n
+  after-check why true k = k refl
+  after-check why false k = no-matter why
 
   -- after a check that is done
   pub after-guard : {r : Result Y} (a : Result (Unit {0})) → (a ≡ done tt → Ensures P r) → Ensures P (a >> r)
   unfolding _>>_
-  after-guard (refused n) k = no-matter n
+  after-guard (refused why) k = no-matter why
   after-guard (done u) k = k refl

@@ -23,3 +23,7 @@ number RevisionsSpent = 16
 number Unsound = 18
 number TooDeep = 19
 number ShortAnswer = 20
+
+-- a wrong setup line, which is answered with its number and has no cause of its own
+unfoldable pub wrong-setup : ℕ
+wrong-setup = 17

@@ -2,6 +2,7 @@
 use mathlib.Core.Path.{_≡_, refl}
 use mathlib.Core.Option.{Option, none, some, Option·map}
 use Rattle.syntax.specs.Path.{Name, Path, root, _▹_, parent}
+use Rattle.tree.specs.declared.Cause.the-variants.{Missing, Exists}
 use Rattle.tree.specs.Result.{present, absent}
 use Rattle.tree.specs.Forest.{Forest, nil, node, Place, get, update, alter, put, drop, map-forest, map-place}
 use Rattle.tree.specs.ForestLaws.{get-map, put-map, drop-map, alter-map, update-map}
@@ -48,7 +49,7 @@ module _ {A B : Type 0} (g : A → B) where
 
   -- ---- searches
 
-  absent-map : (c : Option (Place A)) → absent (Option·map (map-place g) c) 6 ≡ absent c 6
+  absent-map : (c : Option (Place A)) → absent (Option·map (map-place g) c) Exists ≡ absent c Exists
   unfolding absent
   absent-map none = refl
   absent-map (some d) = refl
@@ -58,9 +59,9 @@ module _ {A B : Type 0} (g : A → B) where
   unfolding unused
   unused-map n F = rw (get-map g n F) (absent-map (get n F))
 
-  present-map : (c : Option (Place A)) → Agree (λ d e. d ≡ map-place g e) (present (Option·map (map-place g) c) 3) (present c 3)
+  present-map : (c : Option (Place A)) → Agree (λ d e. d ≡ map-place g e) (present (Option·map (map-place g) c) Missing) (present c Missing)
   unfolding present
-  present-map none = refusal 3
+  present-map none = refusal Missing
   present-map (some d) = both refl
 
   -- the child found is the mapped one

@@ -14,6 +14,7 @@ use Rattle.syntax.specs.Path.{Name, Path, root, _▹_, parent, same-path, withi
 use Rattle.syntax.specs.WithinLaws.{Lies, itself, deeper, same-path-sound, same-path-refl, lies, lies-outside, lies-top}
 use Rattle.syntax.specs.Form.{_>>=_}
 use Rattle.syntax.specs.FormLaws.{no-answer, answered}
+use Rattle.tree.specs.declared.Cause.the-variants.{Access}
 use Rattle.tree.specs.Result.{refused, done, _>>_, require}
 use Rattle.tree.specs.ResultLaws.{done-then, refused-then, done-bind, refused-bind}
 use Rattle.tree.specs.Forest.{Forest, nil, node, Place, get, is-empty, at, under, update, place-at, alter, put, drop}
@@ -184,7 +185,7 @@ module _ {A : Type 0} (j : Judge A) (t : Place A) (p : Path) (d : Place A) (ther
       contra b (rw (answered (sym there ∙ s)) a))
       (λ i. i)
 
-enter-shut : {A : Type 0} (j : Judge A) (a : A) → is-directory (j .kind a) ≡ true → j .passes a ≡ false → enter j a ≡ refused 5
+enter-shut : {A : Type 0} (j : Judge A) (a : A) → is-directory (j .kind a) ≡ true → j .passes a ≡ false → enter j a ≡ refused Access
 unfolding enter require _>>_
 enter-shut j a k b = rw (k, b)
 
@@ -196,7 +197,7 @@ module _ (j : Judge Node) (kinds : (n : Node) → j .kind n ≡ n .kind) (t : Pl
       (λ k. no-answer (sym (get-empty n (c .below) (place-parts c (place-below t p c (tree-parts t whole .whole) h) .childless k)) ∙ e)))
 
   -- a walk to a place leads there or is refused for want of x
-  walk-to : (p : Path) (d : Place Node) → place-at t p ≡ some d → (walk j t p ≡ done d) ⊎ (walk j t p ≡ refused 5)
+  walk-to : (p : Path) (d : Place Node) → place-at t p ≡ some d → (walk j t p ≡ done d) ⊎ (walk j t p ≡ refused Access)
   walk-to root d e = inl (walk-root j t ∙ ap done (answered (sym e ∙ at-top t)))
   walk-to (p ▹ n) d e =
       let i = child-at t p n d e in
@@ -205,23 +206,23 @@ module _ (j : Judge Node) (kinds : (n : Node) → j .kind n ≡ n .kind) (t : Pl
       (λ (w : walk j t p ≡ done (i .0)). case (j .passes (i .0 .here))
       (λ b. inl (rw (w, done-bind, enters j (i .0 .here) k b, done-then) (look-some n (i .0 .below) (i .2))))
       (λ b. inr (rw (w, done-bind, enter-shut j (i .0 .here) k b, refused-then))))
-      (λ (w : walk j t p ≡ refused 5). inr (rw (w, refused-bind)))
+      (λ (w : walk j t p ≡ refused Access). inr (rw (w, refused-bind)))
       (walk-to p (i .0) (i .1)))
 
   -- a walk through a directory that may not be passed is refused for want of x
   walk-below : (p : Path) (d : Place Node) → place-at t p ≡ some d → is-directory (d .here .kind) ≡ true → j .passes (d .here) ≡ false
-      → {q : Path} → Lies p q → same-path p q ≡ false → walk j t q ≡ refused 5
+      → {q : Path} → Lies p q → same-path p q ≡ false → walk j t q ≡ refused Access
   walk-below p d h k b itself o = contra (same-path-refl p) o
   walk-below p d h k b (deeper {q = q} {n = n} l) o = rw (walk-step j t q n) (case (same-path p q)
       (λ i. rw (← same-path-sound p q i) (⊎-elim
       (λ (w : walk j t p ≡ done d). rw (w, done-bind, enter-shut j (d .here) (ap is-directory (kinds (d .here)) ∙ k) b, refused-then))
-      (λ (w : walk j t p ≡ refused 5). rw (w, refused-bind))
+      (λ (w : walk j t p ≡ refused Access). rw (w, refused-bind))
       (walk-to p d h)))
       (λ i. rw (walk-below p d h k b l i, refused-bind)))
 
   -- so is the walk to every path below it
   pub walk-shut : (p : Path) (d : Place Node) → place-at t p ≡ some d → is-directory (d .here .kind) ≡ true → j .passes (d .here) ≡ false
-      → (q : Path) → within p q ≡ true → same-path p q ≡ false → walk j t q ≡ refused 5
+      → (q : Path) → within p q ≡ true → same-path p q ≡ false → walk j t q ≡ refused Access
   walk-shut p d h k b q i o = walk-below p d h k b (lies p q i) o
 
   -- a walk that passes everywhere leads to every place

@@ -2,57 +2,57 @@
 use mathlib.Core.Path.{_≡_, refl}
 use mathlib.Core.Option.{Option, none, some}
 use mathlib.Core.Bool.{Bool, true, false}
-use Prim.Native.Nat.{ℕ}
 use Rattle.accounts.specs.Cases.{contra}
+use Rattle.tree.specs.declared.Cause.{Cause}
 use Rattle.tree.specs.Result.{Result, refused, done, _>>=_, _>>_, require, present, absent}
 
 -- a refusal is not done
-pub not-done : {A P : Type 0} {n : ℕ} {a : A} → refused n ≡ done a → P
+pub not-done : {A P : Type 0} {why : Cause} {a : A} → refused why ≡ done a → P
 not-done e = contra {b = true} refl (cc)
 
 -- ---- what has been done
 
 -- what is done as present is there
-pub present-some : {A : Type 0} {a : A} (c : Option A) (n : ℕ) → present c n ≡ done a → c ≡ some a
+pub present-some : {A : Type 0} {a : A} (c : Option A) (why : Cause) → present c why ≡ done a → c ≡ some a
 unfolding present
-present-some none n e = not-done e
-present-some (some b) n e = cc
+present-some none why e = not-done e
+present-some (some b) why e = cc
 
 -- where absence is done there is nothing
-pub was-absent : {A : Type 0} (c : Option A) (n : ℕ) → absent c n ≡ done tt → c ≡ none
+pub was-absent : {A : Type 0} (c : Option A) (why : Cause) → absent c why ≡ done tt → c ≡ none
 unfolding absent
-was-absent none n e = refl
-was-absent (some a) n e = not-done e
+was-absent none why e = refl
+was-absent (some a) why e = not-done e
 
 -- a test that was required passed
-pub required : (b : Bool) (n : ℕ) → require b n ≡ done tt → b ≡ true
+pub required : (b : Bool) (why : Cause) → require b why ≡ done tt → b ≡ true
 unfolding require
-required true n e = refl
-required false n e = not-done e
+required true why e = refl
+required false why e = not-done e
 
 -- two steps that are done were both done
 pub bind-done : {A B : Type 0} (a : Result A) (f : A → Result B) {y : B} → (a >>= f) ≡ done y → (x : A) × (a ≡ done x) × (f x ≡ done y)
 unfolding _>>=_
-bind-done (refused n) f e = not-done e
+bind-done (refused why) f e = not-done e
 bind-done (done x) f e = (x, refl, e)
 
 -- a check and a step that are done were both done
 pub then-done : {A : Type 0} (a : Result (Unit {0})) (r : Result A) {y : A} → (a >> r) ≡ done y → (a ≡ done tt) × (r ≡ done y)
 unfolding _>>_
-then-done (refused n) r e = not-done e
+then-done (refused why) r e = not-done e
 then-done (done u) r e = (refl, e)
 
 -- ---- how outcomes go on
 
 -- what is there is done as present
-pub present-of : {A : Type 0} (a : A) (n : ℕ) → present (some a) n ≡ done a
+pub present-of : {A : Type 0} (a : A) (why : Cause) → present (some a) why ≡ done a
 unfolding present
-present-of a n = refl
+present-of a why = refl
 
 -- what is missing is refused as present
-pub present-none : {A : Type 0} (n : ℕ) → present {A = A} none n ≡ refused n
+pub present-none : {A : Type 0} (why : Cause) → present {A = A} none why ≡ refused why
 unfolding present
-present-none n = refl
+present-none why = refl
 
 -- after a check that is done comes the step
 pub done-then : {A : Type 0} (r : Result A) → (done tt >> r) ≡ r
@@ -60,9 +60,9 @@ unfolding _>>_
 done-then r = refl
 
 -- after a refused check the refusal stays
-pub refused-then : {A : Type 0} (n : ℕ) (r : Result A) → (refused n >> r) ≡ refused n
+pub refused-then : {A : Type 0} (why : Cause) (r : Result A) → (refused why >> r) ≡ refused why
 unfolding _>>_
-refused-then n r = refl
+refused-then why r = refl
 
 -- what is done is handed on
 pub done-bind : {A B : Type 0} (a : A) (f : A → Result B) → (done a >>= f) ≡ f a
@@ -70,28 +70,28 @@ unfolding _>>=_
 done-bind a f = refl
 
 -- a refusal stays
-pub refused-bind : {A B : Type 0} (n : ℕ) (f : A → Result B) → (refused n >>= f) ≡ refused n
+pub refused-bind : {A B : Type 0} (why : Cause) (f : A → Result B) → (refused why >>= f) ≡ refused why
 unfolding _>>=_
-refused-bind n f = refl
+refused-bind why f = refl
 
 -- a test that passes is done
-pub require-true : (n : ℕ) → require true n ≡ done tt
+pub require-true : (why : Cause) → require true why ≡ done tt
 unfolding require
-require-true n = refl
+require-true why = refl
 
 -- a test that fails is refused
-pub require-false : (n : ℕ) → require false n ≡ refused n
+pub require-false : (why : Cause) → require false why ≡ refused why
 unfolding require
-require-false n = refl
+require-false why = refl
 
 -- what holds of every refusal and of all that follows a value holds of both together
-pub holds-bind : {A B : Type 0} (P : Result B → Type 0) (m : Result A) (f : A → Result B) → ((n : ℕ) → P (refused n)) → ((a : A) → P (f a)) → P (m >>= f)
+pub holds-bind : {A B : Type 0} (P : Result B → Type 0) (m : Result A) (f : A → Result B) → ((why : Cause) → P (refused why)) → ((a : A) → P (f a)) → P (m >>= f)
 unfolding _>>=_
-holds-bind P (refused n) f h k = h n
+holds-bind P (refused why) f h k = h why
 holds-bind P (done a) f h k = k a
 
 -- and so after a check
-pub holds-then : {B : Type 0} (P : Result B → Type 0) (m : Result (Unit {0})) (r : Result B) → ((n : ℕ) → P (refused n)) → P r → P (m >> r)
+pub holds-then : {B : Type 0} (P : Result B → Type 0) (m : Result (Unit {0})) (r : Result B) → ((why : Cause) → P (refused why)) → P r → P (m >> r)
 unfolding _>>_
-holds-then P (refused n) r h k = h n
+holds-then P (refused why) r h k = h why
 holds-then P (done u) r h k = k

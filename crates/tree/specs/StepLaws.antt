@@ -3,6 +3,7 @@ use mathlib.Core.Path.{_≡_, refl, sym, _∙_}
 use mathlib.Core.Option.{none, some}
 use mathlib.Core.Bool.{true}
 use Rattle.syntax.specs.Path.{Name, Path, root, _▹_, parent}
+use Rattle.tree.specs.declared.Cause.the-variants.{Missing, NotDirectory, Access, Exists}
 use Rattle.tree.specs.Result.{done, _>>=_, _>>_, require, present, absent}
 use Rattle.tree.specs.ResultLaws.{present-some, was-absent, required, bind-done, then-done, done-then, done-bind}
 use Rattle.tree.specs.Forest.{Forest, Place, get}
@@ -13,7 +14,7 @@ module _ {A : Type 0} where
   -- the child that was found
   pub looked : (n : Name) (F : Forest A) {d : Place A} → look n F ≡ done d → get n F ≡ some d
   unfolding look
-  looked n F i = present-some (get n F) 3 i
+  looked n F i = present-some (get n F) Missing i
 
   -- a child that is there is found
   pub look-some : (n : Name) (F : Forest A) {d : Place A} → get n F ≡ some d → look n F ≡ done d
@@ -23,7 +24,7 @@ module _ {A : Type 0} where
   -- a name that was unused names no child
   pub was-unused : (n : Name) (F : Forest A) → unused n F ≡ done tt → get n F ≡ none
   unfolding unused
-  was-unused n F i = was-absent (get n F) 6 i
+  was-unused n F i = was-absent (get n F) Exists i
 
   -- a name that names no child is unused
   pub unused-none : (n : Name) (F : Forest A) → get n F ≡ none → unused n F ≡ done tt
@@ -35,8 +36,8 @@ module _ {A : Type 0} where
     pub entered : (a : A) → enter j a ≡ done tt → (is-directory (j .kind a) ≡ true) × (j .passes a ≡ true)
     unfolding enter
     entered a i =
-        let w = then-done (require (is-directory (j .kind a)) 4) (require (j .passes a) 5) i in
-        (required (is-directory (j .kind a)) 4 (w .0), required (j .passes a) 5 (w .1))
+        let w = then-done (require (is-directory (j .kind a)) NotDirectory) (require (j .passes a) Access) i in
+        (required (is-directory (j .kind a)) NotDirectory (w .0), required (j .passes a) Access (w .1))
 
     -- a directory that may be passed is entered
     pub enters : (a : A) → is-directory (j .kind a) ≡ true → j .passes a ≡ true → enter j a ≡ done tt

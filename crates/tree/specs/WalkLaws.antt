@@ -3,70 +3,47 @@ use mathlib.Core.Path.{_≡_, refl, sym, _∙_, ap}
 use mathlib.Core.List.{List, [], _∷_, _++_}
 use mathlib.Core.Bool.{true}
 use Rattle.syntax.specs.Path.{Name, Path, root, _▹_, parent, extended}
+use Rattle.tree.specs.declared.Cause.the-variants.{NotDirectory, Access}
 use Rattle.tree.specs.Result.{Result, refused, done, _>>=_, _>>_, require}
 use Rattle.tree.specs.Forest.{Place}
 use Rattle.tree.specs.Node.{is-directory}
-use Rattle.tree.specs.Walk.{Judge, look, enter, walk, parent-walk}
-
--- for each name x on the directory (5), then the name there (3), and, if not the last name, a directory (4)
-unfoldable pub literal-walk : {A : Type 0} → Judge A → Place A → List Name → Result (Place A)
-literal-walk j t [] = done t
-literal-walk j t (n ∷ []) = do
-  require (j .passes (t .here)) 5
-  look n (t .below)
-literal-walk j t (n ∷ (m ∷ p)) = do
-  require (j .passes (t .here)) 5
-  e ← look n (t .below)
-  require (is-directory (j .kind (e .here))) 4
-  literal-walk j e (m ∷ p)
-
--- the same without looking up the last name, with its x test
-unfoldable pub literal-parent-walk : {A : Type 0} → Judge A → Place A → List Name → Result (Place A)
-literal-parent-walk j t [] = done t
-literal-parent-walk j t (n ∷ []) = do
-  require (j .passes (t .here)) 5
-  done t
-literal-parent-walk j t (n ∷ (m ∷ p)) = do
-  require (j .passes (t .here)) 5
-  e ← look n (t .below)
-  require (is-directory (j .kind (e .here))) 4
-  literal-parent-walk j e (m ∷ p)
+use Rattle.tree.specs.Walk.{Judge, look, enter, walk, parent-walk, literal-walk, literal-parent-walk}
 
 -- the rest of a walk: nothing, or on from a directory
 onward : {A : Type 0} → Judge A → List Name → Place A → Result (Place A)
 onward j [] d = done d
 onward j (n ∷ ns) d = do
-  require (is-directory (j .kind (d .here))) 4
+  require (is-directory (j .kind (d .here))) NotDirectory
   literal-walk j d (n ∷ ns)
 
 bind-done : {A : Type 0} (a : Result A) (f : A → Result A) → ((d : A) → f d ≡ done d) → (a >>= f) ≡ a
 unfolding _>>=_
-bind-done (refused n) f e = refl
+bind-done (refused why) f e = refl
 bind-done (done d) f e = e d
 
 -- two binds of one outcome agree where what follows does
 bind-same : {A B : Type 0} (a : Result A) (f g : A → Result B) → ((d : A) → f d ≡ g d) → (a >>= f) ≡ (a >>= g)
 unfolding _>>=_
-bind-same (refused n) f g e = refl
+bind-same (refused why) f g e = refl
 bind-same (done d) f g e = e d
 
 then-then : {A : Type 0} (a b : Result (Unit {0})) (c : Result A) → ((a >> b) >> c) ≡ (a >> (b >> c))
 unfolding _>>_
-then-then (refused n) b c = refl
+then-then (refused why) b c = refl
 then-then (done u) b c = refl
 
 then-bind : {A B : Type 0} (a : Result (Unit {0})) (c : Result A) (k : A → Result B) → ((a >> c) >>= k) ≡ (a >> (c >>= k))
 unfolding _>>=_ _>>_
-then-bind (refused n) c k = refl
+then-bind (refused why) c k = refl
 then-bind (done u) c k = refl
 
 bind-bind : {A B C : Type 0} (a : Result A) (f : A → Result B) (g : B → Result C) → ((a >>= f) >>= g) ≡ (a >>= λ d. f d >>= g)
 unfolding _>>=_
-bind-bind (refused n) f g = refl
+bind-bind (refused why) f g = refl
 bind-bind (done d) f g = refl
 
 literal-step : {A : Type 0} (j : Judge A) (d : Place A) (n : Name) (ns : List Name)
-    → literal-walk j d (n ∷ ns) ≡ (require (j .passes (d .here)) 5 >> (look n (d .below) >>= onward j ns))
+    → literal-walk j d (n ∷ ns) ≡ (require (j .passes (d .here)) Access >> (look n (d .below) >>= onward j ns))
 unfolding literal-walk onward
 literal-step j d n [] = rw (bind-done (look n (d .below)) (onward j []) (λ e. refl))
 literal-step j d n (m ∷ ns) = refl
@@ -97,11 +74,11 @@ enter-last j d = enter j (d .here) >> done d
 
 -- the rest of a parent walk: on from a directory
 onward-parent : {A : Type 0} → Judge A → List Name → Place A → Result (Place A)
-onward-parent j ns d = require (is-directory (j .kind (d .here))) 4 >> literal-parent-walk j d ns
+onward-parent j ns d = require (is-directory (j .kind (d .here))) NotDirectory >> literal-parent-walk j d ns
 
 -- the first of several names
 parent-step : {A : Type 0} (j : Judge A) (d : Place A) (m : Name) (p : List Name) (n : Name)
-    → literal-parent-walk j d (m ∷ (p ++ (n ∷ []))) ≡ (require (j .passes (d .here)) 5 >> (look m (d .below) >>= onward-parent j (p ++ (n ∷ []))))
+    → literal-parent-walk j d (m ∷ (p ++ (n ∷ []))) ≡ (require (j .passes (d .here)) Access >> (look m (d .below) >>= onward-parent j (p ++ (n ∷ []))))
 unfolding literal-parent-walk onward-parent
 parent-step j d m [] n = refl
 parent-step j d m (q ∷ p) n = refl
@@ -109,7 +86,7 @@ parent-step j d m (q ∷ p) n = refl
 onward-last : {A : Type 0} (j : Judge A) (ns : List Name) (n : Name) (d : Place A)
     → (onward j ns d >>= enter-last j) ≡ onward-parent j (ns ++ (n ∷ [])) d
 unfolding onward onward-parent _>>=_ enter-last enter literal-parent-walk
-onward-last j [] n d = then-then (require (is-directory (j .kind (d .here))) 4) (require (j .passes (d .here)) 5) (done d)
+onward-last j [] n d = then-then (require (is-directory (j .kind (d .here))) NotDirectory) (require (j .passes (d .here)) Access) (done d)
 onward-last j (m ∷ p) n d =
     let i = bind-same (look m (d .below)) (λ e. onward j p e >>= enter-last j) (onward-parent j (p ++ (n ∷ []))) (onward-last j p n) in
     rw (literal-step j d m p, parent-step j d m p n) (simp (then-bind, bind-bind, i))

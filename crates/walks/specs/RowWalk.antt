@@ -9,7 +9,7 @@ use Rattle.syntax.specs.Parts.{last-slash}
 use Rattle.syntax.specs.PathPartsLaws.{path-names}
 use Rattle.walks.specs.declared.Walked.{Walked}
 use Rattle.walks.specs.declared.Walked.the-variants.{At, Refused}
-use Rattle.tree.specs.Causes.{number}
+use Rattle.tree.specs.declared.Cause.the-variants.{Missing, NotDirectory}
 use Rattle.tree.specs.Result.{Result, refused, done, _>>=_, _>>_, present}
 use Rattle.tree.specs.Forest.{Place}
 use Rattle.tree.specs.Node.{Node}
@@ -34,7 +34,7 @@ spot-of t p = spot (index-of t p) (index-of t (parent p))
 
 -- into the directory of the first of some rows: a file 4, x 5
 unfoldable pub enter-first : Account → List (Row Node) → Result (Unit {0})
-enter-first a [] = refused 4
+enter-first a [] = refused NotDirectory
 enter-first a (r ∷ rs) = enter (by-modes a) (r .here)
 
 unfoldable pub enter-in : Account → List (Row Node) → Spot → Result Spot
@@ -44,7 +44,7 @@ enter-in a rs s = enter-first a (drop (s .row) rs) >> done s
 unfoldable pub step-in : Account → List (Row Node) → Spot → Name → Result Spot
 step-in a rs s n = do
   enter-first a (drop (s .row) rs)
-  i ← present (child-in rs (s .row) n) 3
+  i ← present (child-in rs (s .row) n) Missing
   done (spot i (s .row))
 
 unfoldable pub walk-rows : Account → List (Row Node) → Spot → List Name → Result Spot
@@ -66,4 +66,4 @@ parent-walk-in a rs s = do
 -- what the code's answer means
 unfoldable pub outcome : Walked → Result Spot
 outcome (At row above) = done (spot row above)
-outcome (Refused cause) = refused (number cause)
+outcome (Refused cause) = refused cause

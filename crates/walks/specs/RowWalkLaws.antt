@@ -23,7 +23,7 @@ use Rattle.tree.specs.declared.Child.{Child}
 use Rattle.tree.specs.declared.Child.the-variants.{Found, Missing}
 use Rattle.walks.specs.declared.Walked.{Walked}
 use Rattle.walks.specs.declared.Walked.the-variants.{At, Refused}
-use Rattle.tree.specs.Causes.{number}
+use Rattle.tree.specs.declared.Cause.the-variants.{Missing, NotDirectory, Access}
 use Rattle.tree.specs.Result.{Result, refused, done, _>>=_, _>>_, require, present}
 use Rattle.tree.specs.ResultLaws.{not-done, present-some, bind-done, then-done}
 use Rattle.tree.specs.Node.{is-directory, Node, allows}
@@ -46,12 +46,12 @@ module _ (a : Account) (b : List ℕ) (at : ℕ) (h : at < row-count b) where
 
   module _ (above : ℕ) where
     -- a file is not entered
-    pub enter-file : row-at b at .here .kind ≡ File → enter-in a (all-rows b) (spot at above) ≡ refused 4
+    pub enter-file : row-at b at .here .kind ≡ File → enter-in a (all-rows b) (spot at above) ≡ refused NotDirectory
     unfolding enter-in enter by-modes is-directory require _>>_
     enter-file k = rw (enter-there, k)
 
     -- nor a directory without x
-    pub enter-shut : row-at b at .here .kind ≡ Directory → allows a X (row-at b at .here) ≡ false → enter-in a (all-rows b) (spot at above) ≡ refused 5
+    pub enter-shut : row-at b at .here .kind ≡ Directory → allows a X (row-at b at .here) ≡ false → enter-in a (all-rows b) (spot at above) ≡ refused Access
     unfolding enter-in enter by-modes is-directory require _>>_
     enter-shut k f = rw (enter-there, k, f)
 
@@ -112,8 +112,8 @@ module _ (a : Account) (rs : List (Row Node)) (s : Spot) where
     unfolding outcome enter-in step-in _>>_
     step-shut c e = go (enter-first a (drop (s .row) rs)) e
       where
-        go : (r : Result (Unit {0})) → refused (number c) ≡ (r >> done s)
-            → refused (number c) ≡ (r >> (present (child-in rs (s .row) n) 3 >>= λ i. done (spot i (s .row))))
+        go : (r : Result (Unit {0})) → refused c ≡ (r >> done s)
+            → refused c ≡ (r >> (present (child-in rs (s .row) n) Missing >>= λ i. done (spot i (s .row))))
         go (refused k) q = cc
         go (done u) q = not-done q
 
@@ -124,7 +124,7 @@ module _ (a : Account) (rs : List (Row Node)) (s : Spot) where
       step-found i f = rw (entered-in (spot row above) (sym e), child-tells rs (s .row) n h, ← f)
 
       -- or missing
-      pub step-missing : (i : ℕ) → Missing i ≡ child-at rs (s .row) n → refused 3 ≡ step-in a rs s n
+      pub step-missing : (i : ℕ) → Missing i ≡ child-at rs (s .row) n → refused Missing ≡ step-in a rs s n
       unfolding outcome step-in _>>_ _>>=_ present found-row
       step-missing i f = rw (entered-in (spot row above) (sym e), child-tells rs (s .row) n h, ← f)
 
@@ -140,10 +140,10 @@ module _ (a : Account) (rs : List (Row Node)) where
   pub step-within : (s d : Spot) (n : Name) → s .row < length rs → step-in a rs s n ≡ done d → Within (length rs) d
   unfolding step-in
   step-within s d n h e =
-      let i = then-done (enter-first a (drop (s .row) rs)) (present (child-in rs (s .row) n) 3 >>= λ k. done (spot k (s .row))) e in
-      let j = bind-done (present (child-in rs (s .row) n) 3) (λ k. done (spot k (s .row))) (i .1) in
+      let i = then-done (enter-first a (drop (s .row) rs)) (present (child-in rs (s .row) n) Missing >>= λ k. done (spot k (s .row))) e in
+      let j = bind-done (present (child-in rs (s .row) n) Missing) (λ k. done (spot k (s .row))) (i .1) in
       let q : d ≡ spot (j .0) (s .row) = cc (j .2) in
-      rw q (record { row-in = child-within rs (s .row) (j .0) n h (present-some (child-in rs (s .row) n) 3 (j .1)); above-in = h })
+      rw q (record { row-in = child-within rs (s .row) (j .0) n h (present-some (child-in rs (s .row) n) Missing (j .1)); above-in = h })
 
   -- and so does a walk
   walk-rows-within : (s d : Spot) (ns : List Name) → Within (length rs) s → walk-rows a rs s ns ≡ done d → Within (length rs) d
@@ -176,7 +176,7 @@ module _ (a : Account) (rs : List (Row Node)) where
   walk-on s d n ns e = rw e
 
   -- and is refused where a step is
-  pub walk-stops : (s : Spot) (k : ℕ) (n : Name) (ns : List Name) → step-in a rs s n ≡ refused k → walk-rows a rs s (n ∷ ns) ≡ refused k
+  pub walk-stops : (s : Spot) (k : Cause) (n : Name) (ns : List Name) → step-in a rs s n ≡ refused k → walk-rows a rs s (n ∷ ns) ≡ refused k
   unfolding walk-rows _>>=_
   walk-stops s k n ns e = rw e
 
@@ -186,7 +186,7 @@ module _ (a : Account) (rs : List (Row Node)) where
   parent-on t slash d e w = rw (← e, w)
 
   -- and is refused where that is
-  pub parent-stops : (t : Text) (slash k : ℕ) → slash ≡ last-slash t → walk-in a rs (take slash t) ≡ refused k → parent-walk-in a rs t ≡ refused k
+  pub parent-stops : (t : Text) (slash : ℕ) (k : Cause) → slash ≡ last-slash t → walk-in a rs (take slash t) ≡ refused k → parent-walk-in a rs t ≡ refused k
   unfolding parent-walk-in _>>=_
   parent-stops t slash k e w = rw (← e, w)
 
@@ -196,7 +196,7 @@ pub outcome-at : (row above : ℕ) → outcome (At row above) ≡ done (spot row
 unfolding outcome
 outcome-at row above = refl
 
-pub outcome-refused : (c : Cause) → outcome (Refused c) ≡ refused (number c)
+pub outcome-refused : (c : Cause) → outcome (Refused c) ≡ refused c
 unfolding outcome
 outcome-refused c = refl
 

@@ -11,6 +11,8 @@ use Rattle.syntax.specs.Path.{Name, Path, root, _▹_, parent, extended, path}
 use Rattle.syntax.specs.Parts.{last-slash}
 use Rattle.syntax.specs.PathPartsLaws.{path-names}
 use Rattle.syntax.specs.ParentLaws.{path-names-of-path, parent-names}
+use Rattle.tree.specs.declared.Cause.{Cause}
+use Rattle.tree.specs.declared.Cause.the-variants.{Missing}
 use Rattle.tree.specs.Result.{Result, refused, done, _>>=_, _>>_, present}
 use Rattle.tree.specs.Forest.{Place, get, place-at}
 use Rattle.tree.specs.Node.{Node}
@@ -28,19 +30,19 @@ use Rattle.tree.specs.RowAtLaws.{all-rows-of-tree}
 use Rattle.walks.specs.RowWalk.{Spot, spot, top-spot, spot-of, enter-first, enter-in, step-in, walk-rows, walk-in, parent-walk-in}
 
 -- by what an outcome is
-by-result : {A P : Type 0} (r : Result A) → ((k : ℕ) → r ≡ refused k → P) → ((a : A) → r ≡ done a → P) → P
+by-result : {A P : Type 0} (r : Result A) → ((k : Cause) → r ≡ refused k → P) → ((a : A) → r ≡ done a → P) → P
 by-result (refused k) f g = f k refl
 by-result (done a) f g = g a refl
 
 -- a walk that is refused is refused further on
-walk-refused : {A : Type 0} (j : Judge A) (t : Place A) (p : Path) (ns : List Name) (k : ℕ) → walk j t p ≡ refused k → walk j t (extended p ns) ≡ refused k
+walk-refused : {A : Type 0} (j : Judge A) (t : Place A) (p : Path) (ns : List Name) (k : Cause) → walk j t p ≡ refused k → walk j t (extended p ns) ≡ refused k
 unfolding extended _>>=_
 walk-refused j t p [] k e = e
 walk-refused j t p (n ∷ ns) k e = walk-refused j t (p ▹ n) ns k (rw (walk-step j t p n, e))
 
 -- a child looked up by its index is the child looked up
 look-joined : {A : Type 0} (r : Result (Unit {0})) (c : Option A) (i above : ℕ)
-    → (r >> (present (Option·map (λ x. i) c) 3 >>= λ k. done (spot k above))) ≡ ((r >> present c 3) >>= λ x. done (spot i above))
+    → (r >> (present (Option·map (λ x. i) c) Missing >>= λ k. done (spot k above))) ≡ ((r >> present c Missing) >>= λ x. done (spot i above))
 unfolding _>>_ _>>=_ present
 look-joined (refused k) c i above = refl
 look-joined (done u) none i above = refl

@@ -3,7 +3,6 @@ use native.Mathlib.Omega.{arith}
 use mathlib.Core.Path.{sym, _∙_}
 use denote.Ref.{now}
 use Rattle.syntax.specs.PartsLaws.{answers-false, answers-true}
-use Rattle.tree.specs.Causes.{number}
 use Rattle.walks.specs.RowWalk.{outcome}
 use Rattle.walks.specs.RowWalkLaws.{enter-file, enter-shut, enter-open}
 use borrow.Author.Needs.{needs}
@@ -23,14 +22,14 @@ may-at-requires : tie.Need-may-at-requires
 may-at-requires c κs = search needs
 
 returns : tie.Need-returns
-unfolding outcome number
+unfolding outcome
 returns c =
     let a = c .before .before .before .before .before .before .args in
     let kind = sym (c .before .before .before .before .kind-at .ensures) ∙ c .before .before .enum-told2 .given .1 in
     sym (enter-shut (a .account) (now (a .tree)) (a .row) (omega arith) (a .above) kind (answers-false (c .before .may-at .ensures) (c .if1 .taken)))
 
 returns-2 : tie.Need-returns-2
-unfolding outcome number
+unfolding outcome
 returns-2 c =
     let a = c .before .before .before .before .args in
     let kind = sym (c .before .before .kind-at .ensures) ∙ c .enum-told .given .1 in

@@ -4,7 +4,6 @@ use mathlib.Core.Path.{sym, ap, _∙_}
 use lib.ListN.{take}
 use lib.Seq.{length-take-le}
 use denote.Ref.{now}
-use Rattle.tree.specs.Causes.{number}
 use Rattle.tree.specs.RowAt.{all-rows}
 use Rattle.walks.specs.RowWalk.{spot, outcome}
 use Rattle.walks.specs.RowWalkLaws.{walk-came, parent-on, parent-stops, outcome-at, outcome-refused}
@@ -51,7 +50,7 @@ returns-2 c =
     let slash = c .before .before .before .before .before .last-slash in
     let walked = sym (c .before .before .before .walk .ensures) ∙ ap outcome (t .1) ∙ outcome-refused (t .0 .0) in
     outcome-refused (t .0 .0)
-    ∙ sym (parent-stops (a .account) (all-rows (now (a .tree))) (now (a .path)) (slash .result) (number (t .0 .0)) (slash .ensures .0) walked)
+    ∙ sym (parent-stops (a .account) (all-rows (now (a .tree))) (now (a .path)) (slash .result) (t .0 .0) (slash .ensures .0) walked)
 
 pub parent-walk-spec : {M : Type 1} → statement M
 parent-walk-spec =

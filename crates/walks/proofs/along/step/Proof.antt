@@ -2,7 +2,6 @@
 use native.Mathlib.Omega.{arith}
 use mathlib.Core.Path.{sym, ap, _∙_}
 use denote.Ref.{now}
-use Rattle.tree.specs.Causes.{number}
 use Rattle.tree.specs.RowAt.{all-rows}
 use Rattle.tree.specs.RowAtLaws.{length-all-rows}
 use Rattle.walks.specs.RowWalk.{spot, outcome}
@@ -38,7 +37,7 @@ returns c =
     (omega (arith, length-all-rows (now (a .tree)))) entered (c .before .i .given .0 .0) (sym (c .before .i .given .1) ∙ c .before .before .before .find-child .ensures)
 
 returns-2 : tie.Need-returns-2
-unfolding outcome number
+unfolding outcome
 returns-2 c =
     let a = c .before .before .before .before .before .before .before .before .args in
     let t = c .before .before .before .enum-told .given in

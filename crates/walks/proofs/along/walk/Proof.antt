@@ -11,7 +11,7 @@ use Rattle.syntax.specs.declared.Names.{Names}
 use Rattle.syntax.specs.declared.NextName.the-variants.{End}
 use Rattle.syntax.specs.Parts.{part, next-name}
 use Rattle.syntax.specs.ParentLaws.{names-from, Named, names-from-first, names-from-end, names-from-next}
-use Rattle.tree.specs.Causes.{number}
+use Rattle.tree.specs.declared.Cause.{Cause}
 use Rattle.tree.specs.Result.{refused, done}
 use Rattle.tree.specs.RowAt.{row-count, all-rows}
 use Rattle.tree.specs.RowAtLaws.{length-all-rows}
@@ -53,7 +53,7 @@ module _ {tree : List ℕ} {account : Account} {path : List ℕ} {row above at :
         }
 
     -- one that is refused
-    stops : (k : ℕ) → step-in account (all-rows tree) (spot row above) (part path start end) ≡ refused k → refused k ≡ walk-in account (all-rows tree) path
+    stops : (k : Cause) → step-in account (all-rows tree) (spot row above) (part path start end) ≡ refused k → refused k ≡ walk-in account (all-rows tree) path
     stops k e =
         sym (walk-stops account (all-rows tree) (spot row above) k (part path start end) (names-from path (rest .at)) e)
         ∙ ap (walk-rows account (all-rows tree) (spot row above)) (sym (n .follow))
@@ -128,7 +128,7 @@ unfolding part
 returns c =
     let t = c .before .cause .given in
     let stepped = sym (c .before .before .before .step .ensures) ∙ ap outcome (t .1) ∙ outcome-refused (t .0 .0) in
-    outcome-refused (t .0 .0) ∙ stops (c .before .before .before .before .before .before .before .before .before .loop .inv) (named (c .before .before .before .before .before .before)) (number (t .0 .0)) stepped
+    outcome-refused (t .0 .0) ∙ stops (c .before .before .before .before .before .before .before .before .before .loop .inv) (named (c .before .before .before .before .before .before)) (t .0 .0) stepped
 
 enum-told : tie.Need-enum-told Inv-loop μ-loop
 enum-told c = search needs
