@@ -2,6 +2,7 @@
 use mathlib.Core.Bool.{Bool, cond}
 use Prim.Native.Nat.{ℕ}
 use Rattle.syntax.specs.Text.{Text}
+use Rattle.syntax.specs.Number.{octal}
 use Rattle.syntax.specs.Path.{Path, _▹_, Entry-path}
 use Rattle.tree.specs.declared.Kind.{Kind}
 use Rattle.tree.specs.declared.Kind.the-variants.{File, Directory}
@@ -28,8 +29,8 @@ nodes-by j = record { kind = j .kind; readable = j .readable; revision = λ n. n
 
 -- copies belong to the person, 0600 or 0700
 unfoldable pub copy-mode : Kind → ℕ
-copy-mode File = 384
-copy-mode Directory = 448
+copy-mode File = octal 0 6 0 0
+copy-mode Directory = octal 0 7 0 0
 
 -- a copy, in a directory of the person's, of what stands at an entry path
 unfoldable pub copy-node : Caller → Node → Kind → Text → Tag → Node

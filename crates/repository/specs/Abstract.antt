@@ -1,7 +1,6 @@
 -- The abstract machine (document 01's shelf machine): the people's tree, sessions, and the entries apart, each with a role
--- and with no owner, group or mode. `embed` says how its state stands in the store.
+-- and with no owner, group or mode.
 use mathlib.Core.List.{[]}
-use mathlib.Core.Option.{Option, none, some}
 use mathlib.Core.Bool.{Bool, true, _&&_}
 use Prim.Native.Nat.{ℕ, suc}
 use Rattle.accounts.specs.Dominance.{same-role, Bounded-role, dominates}
@@ -9,89 +8,95 @@ use Rattle.syntax.specs.Text.{Text}
 use Rattle.setup.specs.Setup.{Setup}
 use Rattle.tree.specs.declared.Kind.{Kind}
 use Rattle.tree.specs.declared.Kind.the-variants.{Directory}
-use Rattle.tree.specs.Forest.{Place, leaf, size, map-place}
+use Rattle.tree.specs.Forest.{Forest, nil, Place, insert, remove, at, update-forest, alter, leaf, size, rooted}
 use Rattle.tree.specs.Node.{is-directory, Node}
 use Rattle.tree.specs.Walk.{Judge}
-use Rattle.tree.specs.Graft.{graft}
 use Rattle.repository.specs.Machine.{Sessions, Machine}
-use Rattle.repository.specs.Initial.{rep-node, initial-tree, no-sessions}
-use Rattle.repository.specs.Store.{Store, entry-node}
+use Rattle.repository.specs.Initial.{initial-tree, no-sessions}
 
--- an entry of a role, or `/rep` itself, which is of none
 pub record Entry : Type 0 where
   pub kind : Kind
-  pub role : Option Bounded-role
+  pub role : Bounded-role
   pub revision : ℕ
   pub content : Text
 
--- the entries by path, as the tree below `/rep`
+-- the entries by path are the forest below `/rep`
 pub record Abstract : Type 0 where
   pub workspace : Place Node
-  pub entries : Place Entry
+  pub entries : Forest Entry
   pub sessions : Sessions
+
+-- what a walk from `/rep` meets: `/rep` itself, which is of no role, or an entry
+pub data Filed : Type 0 where
+  top : Filed
+  entry : Entry → Filed
 
 -- the session's role dominates the entry's
 unfoldable pub dominated : Setup → Bounded-role → Bounded-role → Bool
-dominated u z r = dominates (u .pairs) (z .role) (r .role)
+dominated setup z r = dominates (setup .pairs) (z .role) (r .role)
+
+unfoldable pub filed-kind : Filed → Kind
+filed-kind top = Directory
+filed-kind (entry x) = x .kind
 
 -- a walk from `/rep` passes a directory of a dominated role
-unfoldable pub role-passes : Setup → Bounded-role → Kind → Option Bounded-role → Bool
-role-passes u z kind none = true
-role-passes u z kind (some r) = is-directory kind && dominated u z r
+unfoldable pub filed-passes : Setup → Bounded-role → Filed → Bool
+filed-passes setup z top = true
+filed-passes setup z (entry x) = is-directory (x .kind) && dominated setup z (x .role)
 
 -- readable means role dominated
-unfoldable pub role-readable : Setup → Bounded-role → Option Bounded-role → Bool
-role-readable u z none = true
-role-readable u z (some r) = dominated u z r
+unfoldable pub filed-readable : Setup → Bounded-role → Filed → Bool
+filed-readable setup z top = true
+filed-readable setup z (entry x) = dominated setup z (x .role)
 
 -- writing is allowed in a dominated directory, and in `/rep` to role 0 only
-unfoldable pub role-writable : Setup → Bounded-role → Kind → Option Bounded-role → Bool
-role-writable u z kind none = same-role (z .role) (record { 0 = 0 })
-role-writable u z kind (some r) = is-directory kind && dominated u z r
+unfoldable pub filed-writable : Setup → Bounded-role → Filed → Bool
+filed-writable setup z top = same-role (z .role) (record { 0 = 0 })
+filed-writable setup z (entry x) = is-directory (x .kind) && dominated setup z (x .role)
 
-unfoldable pub by-dominance : Setup → Bounded-role → Judge Entry
-by-dominance u z = record {
-  kind = λ e. e .kind;
-  passes = λ e. role-passes u z (e .kind) (e .role);
-  readable = λ e. role-readable u z (e .role);
-  writable = λ e. role-writable u z (e .kind) (e .role);
+unfoldable pub by-dominance : Setup → Bounded-role → Judge Filed
+by-dominance setup z = record {
+  kind = filed-kind;
+  passes = filed-passes setup z;
+  readable = filed-readable setup z;
+  writable = filed-writable setup z;
 }
 
-abbrev pub abstract : Machine Abstract Entry
+-- `/rep` has its fresh revision and content
+unfoldable pub filed-revision : Filed → ℕ
+filed-revision top = 0
+filed-revision (entry x) = x .revision
+
+unfoldable pub filed-content : Filed → Text
+filed-content top = []
+filed-content (entry x) = x .content
+
+-- a new entry, and an entry with new content and the next revision
+unfoldable pub new-entry : Kind → Bounded-role → Text → Entry
+new-entry kind r content = record { kind = kind; role = r; revision = 1; content = content }
+
+unfoldable pub next-entry : Text → Entry → Entry
+next-entry content x = record { kind = x .kind; role = x .role; revision = suc (x .revision); content = content }
+
+abbrev pub on-entries : (Forest Entry → Forest Entry) → Abstract → Abstract
+on-entries g h = record { workspace = h .workspace; entries = g (h .entries); sessions = h .sessions }
+
+abbrev pub abstract : Machine Abstract Filed
 abstract = record {
   workspace = λ h. h .workspace;
-  elsewhere = λ h. size (h .entries .below);
-  entries = λ h. h .entries;
+  elsewhere = λ h. size (h .entries);
+  entries = λ h. rooted entry top (h .entries);
   judge = by-dominance;
   locate = λ p. p;
-  revision = λ e. e .revision;
-  content = λ e. e .content;
-  entry = λ kind z content. record { kind = kind; role = some z; revision = 1; content = content };
-  revise = λ content e. record { kind = e .kind; role = e .role; revision = suc (e .revision); content = content };
+  revision = filed-revision;
+  content = filed-content;
   sessions = λ h. h .sessions;
+  file = λ e kind r content. on-entries (update-forest (e .folder) (insert (e .name) (leaf (new-entry kind r content))));
+  revise = λ e content. on-entries (update-forest (e .folder) (at (e .name) (alter (next-entry content))));
+  remove = λ e. on-entries (update-forest (e .folder) (remove (e .name)));
   on-workspace = λ f h. record { workspace = f (h .workspace); entries = h .entries; sessions = h .sessions };
-  on-entries = λ f h. record { workspace = h .workspace; entries = f (h .entries); sessions = h .sessions };
-  with-sessions = λ z h. record { workspace = h .workspace; entries = h .entries; sessions = z };
+  with-sessions = λ sessions h. record { workspace = h .workspace; entries = h .entries; sessions = sessions };
 }
 
--- `/rep` itself
-unfoldable pub rep-entry : Entry
-rep-entry = record { kind = Directory; role = none; revision = 0; content = [] }
-
 unfoldable pub initial-abstract : Setup → Abstract
-initial-abstract u = record { workspace = initial-tree u; entries = leaf rep-entry; sessions = no-sessions }
-
--- how an entry stands in the store
-unfoldable pub stored : Kind → Option Bounded-role → ℕ → Text → Node
-stored kind none revision content = record { kind = kind; owner = rep-node .owner; group = rep-node .group; mode = rep-node .mode; revision = revision; tag = none; content = content }
-stored kind (some z) revision content = entry-node kind z revision content
-
-unfoldable pub in-store : Entry → Node
-in-store e = stored (e .kind) (e .role) (e .revision) (e .content)
-
--- the store's tree: the people's, with the entries below `/rep`
-unfoldable pub whole : Place Entry → Place Node → Place Node
-whole e t = graft (map-place in-store e) t
-
-unfoldable pub embed : Abstract → Store
-embed h = record { tree = whole (h .entries) (h .workspace); sessions = h .sessions }
+initial-abstract setup = record { workspace = initial-tree setup; entries = nil; sessions = no-sessions }

@@ -17,6 +17,7 @@ use Rattle.accounts.specs.declared.Right.the-variants.{W}
 use Rattle.accounts.specs.Groups.{same-gid, member, with-group, member-with}
 use Rattle.accounts.specs.Access.{is-root, same-uid, grants, may-other, grants-none}
 use Rattle.accounts.specs.Service.{all-services}
+use Rattle.syntax.specs.Number.{octal}
 use Rattle.syntax.specs.Text.{every}
 use Rattle.syntax.specs.TextLaws.{every-getD}
 use Rattle.syntax.specs.Form.{is-some}
@@ -120,4 +121,4 @@ module _ (u : Setup) (s : is-setup u ≡ true) (v : Uid) (c : Caller) where
       let n : is-root (c .account .uid) ≡ false = person-not-root u v c r h in
       let o : same-uid (c .account .uid) (record { 0 = 16 }) ≡ false = rw (caller-uid u v c h) (ne-eqb (v .0) 16 (omega arith)) in
       let m : member (record { 0 = 24 }) (c .account .groups) ≡ false = rw (k .2) (no-service v (k .0) b) in
-      (λ t. rw (allows-is (c .account) rep-node t) (may-other (c .account) t (record { 0 = 16 }) (record { 0 = 24 }) 488 n o m ∙ grants-none t), rw (n, o))
+      (λ t. rw (allows-is (c .account) rep-node t) (may-other (c .account) t (record { 0 = 16 }) (record { 0 = 24 }) (octal 0 7 5 0) n o m ∙ grants-none t), rw (n, o))

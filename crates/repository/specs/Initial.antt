@@ -6,7 +6,7 @@ use lib.ListN.{replicate}
 use Rattle.accounts.specs.declared.Uid.{Uid}
 use Rattle.accounts.specs.declared.Gid.{Gid}
 use Rattle.syntax.specs.Text.{bytes}
-use Rattle.syntax.specs.Number.{decimal-text}
+use Rattle.syntax.specs.Number.{octal, decimal-text}
 use Rattle.syntax.specs.Path.{Name, rep}
 use Rattle.setup.specs.Setup.{Person, Setup, accounts, person}
 use Rattle.tree.specs.declared.Kind.the-variants.{Directory}
@@ -19,35 +19,35 @@ directory-of owner group mode = record { kind = Directory; owner = owner; group 
 
 -- owner 0, group 0, 0755
 unfoldable pub top-node : Node
-top-node = directory-of (record { 0 = 0 }) (record { 0 = 0 }) 493
+top-node = directory-of (record { 0 = 0 }) (record { 0 = 0 }) (octal 0 7 5 5)
 
 -- owner 16, group 24, 0750
 unfoldable pub rep-node : Node
-rep-node = directory-of (record { 0 = 16 }) (record { 0 = 24 }) 488
+rep-node = directory-of (record { 0 = 16 }) (record { 0 = 24 }) (octal 0 7 5 0)
 
 -- the person's, in the primary group, 0755
 unfoldable pub home-node : Uid → Person → Node
-home-node u p = directory-of u (p .primary) 493
+home-node uid who = directory-of uid (who .primary) (octal 0 7 5 5)
 
 -- `u` followed by the uid
 unfoldable pub home-name : Uid → Name
-home-name u = bytes "u" ++ decimal-text (u .0)
+home-name uid = bytes "u" ++ decimal-text (uid .0)
 
 unfoldable pub with-home : Uid → Option Person → Forest Node → Forest Node
-with-home u none f = f
-with-home u (some p) f = insert (home-name u) (leaf (home-node u p)) f
+with-home uid none f = f
+with-home uid (some who) f = insert (home-name uid) (leaf (home-node uid who)) f
 
 -- `/rep` and the homes of the accounts below k
 unfoldable pub homes : Setup → ℕ → Forest Node
-homes s zero = node rep rep-node nil nil
-homes s (suc k) = with-home (record { 0 = k }) (person s (record { 0 = k })) (homes s k)
+homes setup zero = node rep rep-node nil nil
+homes setup (suc k) = with-home (record { 0 = k }) (person setup (record { 0 = k })) (homes setup k)
 
 -- `/` with a forest below it
 abbrev pub topped : Forest Node → Place Node
 topped f = record { here = top-node; below = f }
 
 unfoldable pub initial-tree : Setup → Place Node
-initial-tree s = topped (homes s accounts)
+initial-tree setup = topped (homes setup accounts)
 
 unfoldable pub no-sessions : Sessions
 no-sessions = replicate accounts none

@@ -13,7 +13,7 @@ use Rattle.accounts.specs.declared.Uid.{Uid}
 use Rattle.accounts.specs.declared.Gid.{Gid}
 use Rattle.accounts.specs.Cases.{and-both}
 use Rattle.syntax.specs.Text.{bytes, same-text, every}
-use Rattle.syntax.specs.Number.{is-mode, digits-before, decimal-text}
+use Rattle.syntax.specs.Number.{octal, is-mode, digits-before, decimal-text}
 use Rattle.syntax.specs.Path.{Name, rep, name-byte, is-name}
 use Rattle.setup.specs.Setup.{Person, Setup, accounts, person, is-setup}
 use Rattle.tree.specs.declared.Kind.the-variants.{Directory}
@@ -110,12 +110,12 @@ begun-top =
     (rw top-alone at (leaf-tree top-node top-fits (unfold top-node directory-of in directory-is-one)), omega (arith, rw (leaf-below top-node) at (leaf-size top-node)))
   where
     top-fits : is-node top-node ≡ true
-    top-fits = unfold top-node is-mode in directory-fits (record { 0 = 0 }) (record { 0 = 0 }) 493 refl refl refl
+    top-fits = unfold top-node is-mode in directory-fits (record { 0 = 0 }) (record { 0 = 0 }) (octal 0 7 5 5) refl refl refl
 
 begun-rep : Begun 1 (node rep rep-node nil nil)
 unfolding rep-node
 begun-rep = rw (← rep-alone) (begun-with 0 rep rep-node nil (omega arith) rep-named (get-nil rep)
-    (directory-fits (record { 0 = 16 }) (record { 0 = 24 }) 488 refl refl (unfold is-mode in refl)) begun-top)
+    (directory-fits (record { 0 = 16 }) (record { 0 = 24 }) (octal 0 7 5 0) refl refl (unfold is-mode in refl)) begun-top)
 
 begun-home : (k : ℕ) (v : Uid) (p : Option Person) (F : Forest Node) → k < 255 → v .0 < 16 → ((q : Person) → p ≡ some q → q .primary .0 < 16)
     → is-name (home-name v) ≡ true → get (home-name v) F ≡ none → Begun k F → Begun (suc k) (with-home v p F)
@@ -123,7 +123,7 @@ unfolding with-home home-node
 begun-home k v none F b i r a free h = (h .0, omega (arith, h .1))
 begun-home k v (some p) F b i r a free h =
     begun-with k (home-name v) (home-node v p) F b a free
-    (directory-fits v (p .primary) 493 (lt-ltb (v .0) 24 (omega arith)) (lt-ltb (p .primary .0) 25 (omega (arith, r p refl))) (unfold is-mode in refl)) h
+    (directory-fits v (p .primary) (octal 0 7 5 5) (lt-ltb (v .0) 24 (omega arith)) (lt-ltb (p .primary .0) 25 (omega (arith, r p refl))) (unfold is-mode in refl)) h
 
 -- every person's primary group is one of 0 to 15
 abbrev pub Primaries : Setup → Type 0

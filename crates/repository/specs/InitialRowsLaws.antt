@@ -15,7 +15,7 @@ use Rattle.accounts.specs.declared.Uid.{Uid}
 use Rattle.accounts.specs.Cases.{case, contra}
 use Rattle.syntax.specs.Text.{bytes, every}
 use Rattle.syntax.specs.TextLaws.{every-getD}
-use Rattle.syntax.specs.Number.{digits-before, decimal-text}
+use Rattle.syntax.specs.Number.{octal, digits-before, decimal-text}
 use Rattle.syntax.specs.Path.{Name, root, depth, rep}
 use Rattle.syntax.specs.PathLaws.{name-fits}
 use Rattle.syntax.specs.FormLaws.{no-answer, answered}
@@ -151,11 +151,11 @@ module _ (v : Uid) (p : Slot) (F : Forest Node) where
 
   -- a person does
   pub home-put : (n : Name) → n ≡ home-name v → (p .primary .0 ≡ 0 → ⊥)
-      → put n (leaf (directory-of v (p .primary) 493)) (topped F) ≡ topped (with-home v (slot-value p) F)
+      → put n (leaf (directory-of v (p .primary) (octal 0 7 5 5))) (topped F) ≡ topped (with-home v (slot-value p) F)
   unfolding with-home slot-value home-node
   home-put n e h =
-      ap (λ (m : Name). put m (leaf (directory-of v (p .primary) 493)) (topped F)) e
-      ∙ put-topped (home-name v) (leaf (directory-of v (p .primary) 493)) F
+      ap (λ (m : Name). put m (leaf (directory-of v (p .primary) (octal 0 7 5 5))) (topped F)) e
+      ∙ put-topped (home-name v) (leaf (directory-of v (p .primary) (octal 0 7 5 5))) F
       ∙ rw (ne-eqb (p .primary .0) 0 h)
 
 -- ---- the accounts one after another

@@ -1,7 +1,6 @@
 -- An entry judged in the store by its owner, group and mode is judged as the abstract machine judges it, by its role.
 use mathlib.Core.Path.{_≡_, refl, ap}
-use mathlib.Core.Option.{Option, none, some}
-use mathlib.Core.Bool.{true, false, _&&_, _||_, not, cond, and-true, and-false, or-true, and-self}
+use mathlib.Core.Bool.{Bool, true, false, _&&_, _||_, not, cond, and-true, and-false, or-true, and-self}
 use Prim.Native.Nat.{ℕ, suc, _/_, _%_}
 use Rattle.accounts.specs.Cases.{case}
 use Rattle.accounts.specs.declared.Right.{Right}
@@ -14,6 +13,7 @@ use Rattle.accounts.specs.declared.Account.{Account}
 use Rattle.accounts.specs.Access.{is-root, same-uid, grants, may-owner, may-group, may-other, grants-none}
 use Rattle.accounts.specs.Dominance.{same-role, same-role-is, Bounded-role, dominates, dominates-self}
 use Rattle.accounts.specs.Service.{service-uid, service-gid, all-services, service, service-not-root, service-own, same-service, member-service, member-all}
+use Rattle.syntax.specs.Number.{octal}
 use Rattle.syntax.specs.Text.{Text}
 use Rattle.setup.specs.Setup.{Setup}
 use Rattle.tree.specs.declared.Kind.{Kind}
@@ -22,15 +22,16 @@ use Rattle.tree.specs.Node.{is-directory, allows, set-content}
 use Rattle.tree.specs.Walk.{by-modes}
 use Rattle.tree.specs.JudgeLaws.{file-is-none, directory-is-one, allows-is, kind-by-modes, passes-by-modes, readable-by-modes, writable-by-modes, set-revision-is, set-content-is}
 use Rattle.repository.specs.Initial.{directory-of, top-node, rep-node}
-use Rattle.repository.specs.Store.{entry-mode, entry-node, store}
-use Rattle.repository.specs.Abstract.{Entry, dominated, role-passes, role-readable, role-writable, by-dominance, abstract, rep-entry, stored, in-store}
+use Rattle.repository.specs.Store.{entry-mode, entry-node, next-node}
+use Rattle.repository.specs.Abstract.{Entry, Filed, top, entry, dominated, filed-kind, filed-passes, filed-readable, filed-writable, by-dominance, filed-revision, filed-content, next-entry}
+use Rattle.repository.specs.Embedding.{in-store, met}
 
 -- who is not root has r and x in `/`, by the group's digit or the others'
 pub top-allows : (a : Account) → is-root (a .uid) ≡ false → (t : Right) → allows a t top-node ≡ grants 5 t
 unfolding top-node directory-of is-root same-uid
 top-allows a e t = rw (allows-is a top-node t) (case (member (record { 0 = 0 }) (a .groups))
-    (λ i. may-group a t (record { 0 = 0 }) (record { 0 = 0 }) 493 e e i)
-    (λ i. may-other a t (record { 0 = 0 }) (record { 0 = 0 }) 493 e e i))
+    (λ i. may-group a t (record { 0 = 0 }) (record { 0 = 0 }) (octal 0 7 5 5) e e i)
+    (λ i. may-other a t (record { 0 = 0 }) (record { 0 = 0 }) (octal 0 7 5 5) e e i))
 
 -- the digit that an entry's mode has for the owner and for the group
 entry-digit : Kind → ℕ
@@ -77,125 +78,106 @@ module _ (u : Setup) (z : Bounded-role) where
       (λ d. rw (may-other account t o g (entry-mode k) i e (rw (member-service (u .pairs) z v) d), other-digit k, grants-none t, d, and-false (grants (entry-digit k) t)))))
 
   -- in `/rep` it has the owner's digit as role 0's, and else the digit of the group of all service accounts
-  rep-allows : (t : Right) (k : Kind) (n : ℕ) (c : Text) → allows account t (stored k none n c) ≡ grants (cond (same-role (z .role) (record { 0 = 0 })) 7 5) t
-  unfolding stored rep-node directory-of service-uid all-services
-  rep-allows t k n c =
+  rep-allows : (t : Right) → allows account t rep-node ≡ grants (cond (same-role (z .role) (record { 0 = 0 })) 7 5) t
+  unfolding rep-node directory-of service-uid all-services
+  rep-allows t =
       let o : Uid = record { 0 = 16 } in
       let g : Gid = record { 0 = 24 } in
       let i : is-root (account .uid) ≡ false = service-not-root (u .pairs) z in
-      rw (allows-is account (stored k none n c) t, ← own-role (record { 0 = 0 })) (case (same-uid (account .uid) o)
-      (λ e. rw (e, may-owner account t o g 488 i e))
-      (λ e. rw (e, may-group account t o g 488 i e (member-all (u .pairs) z))))
+      rw (allows-is account rep-node t, ← own-role (record { 0 = 0 })) (case (same-uid (account .uid) o)
+      (λ e. rw (e, may-owner account t o g (octal 0 7 5 0) i e))
+      (λ e. rw (e, may-group account t o g (octal 0 7 5 0) i e (member-all (u .pairs) z))))
 
-  -- an entry that is readable by its role is passed by it too, where it is a directory
-  readable-passes : (k : Kind) (v : Option Bounded-role) → (role-readable u z v && (not (is-directory k) || role-passes u z k v)) ≡ role-readable u z v
-  unfolding role-readable role-passes
-  readable-passes k none = or-true (not (is-directory k))
-  readable-passes File (some v) = rw (file-is-none, and-true (dominated u z v))
-  readable-passes Directory (some v) = rw (directory-is-one, and-self (dominated u z v))
+  -- where both have the digit for a right, `/rep` grants it to every account
+  rep-grants : (t : Right) → grants 7 t ≡ true → grants 5 t ≡ true → allows account t rep-node ≡ true
+  rep-grants t a b = rw (rep-allows t) (case (same-role (z .role) (record { 0 = 0 })) (λ i. rw i a) (λ i. rw i b))
 
-  module _ (n : ℕ) (c : Text) where
-    stored-kind : (k : Kind) (v : Option Bounded-role) → stored k v n c .kind ≡ k
-    unfolding stored entry-node
-    stored-kind k none = refl
-    stored-kind k (some v) = refl
+  -- ---- each right, at `/rep` and at an entry
 
-    stored-passes : (k : Kind) (v : Option Bounded-role) → allows account X (stored k v n c) ≡ role-passes u z k v
-    unfolding role-passes grants entry-digit stored
-    stored-passes k none = rw (rep-allows X k n c) (case (same-role (z .role) (record { 0 = 0 })) (λ t. rw t) (λ t. rw t))
-    stored-passes File (some v) = rw (entry-allows X File v n c, file-is-none)
-    stored-passes Directory (some v) = rw (entry-allows X Directory v n c, directory-is-one)
+  met-kind : (x : Filed) → met x .kind ≡ filed-kind x
+  unfolding met filed-kind in-store entry-node rep-node directory-of
+  met-kind top = refl
+  met-kind (entry x) = refl
 
-    stored-writable : (k : Kind) (v : Option Bounded-role) → allows account W (stored k v n c) ≡ role-writable u z k v
-    unfolding role-writable grants entry-digit stored
-    stored-writable k none = rw (rep-allows W k n c) (case (same-role (z .role) (record { 0 = 0 })) (λ t. rw t) (λ t. rw t))
-    stored-writable File (some v) = rw (entry-allows W File v n c, file-is-none)
-    stored-writable Directory (some v) = rw (entry-allows W Directory v n c, directory-is-one)
+  -- a right that a directory's digit has and a file's has not
+  directory-right : (t : Right) → grants 4 t ≡ false → grants 7 t ≡ true
+      → (k : Kind) (v : Bounded-role) (n : ℕ) (c : Text) → allows account t (entry-node k v n c) ≡ (is-directory k && dominated u z v)
+  unfolding entry-digit
+  directory-right t a b File v n c = rw (entry-allows t File v n c, file-is-none, a)
+  directory-right t a b Directory v n c = rw (entry-allows t Directory v n c, directory-is-one, b)
 
-    -- r alone
-    stored-allows-r : (k : Kind) (v : Option Bounded-role) → allows account R (stored k v n c) ≡ role-readable u z v
-    unfolding role-readable grants entry-digit stored
-    stored-allows-r k none = rw (rep-allows R k n c) (case (same-role (z .role) (record { 0 = 0 })) (λ t. rw t) (λ t. rw t))
-    stored-allows-r File (some v) = entry-allows R File v n c
-    stored-allows-r Directory (some v) = entry-allows R Directory v n c
+  met-passes : (x : Filed) → allows account X (met x) ≡ filed-passes u z x
+  unfolding met filed-passes in-store grants
+  met-passes top = rep-grants X refl refl
+  met-passes (entry x) = directory-right X refl refl (x .kind) (x .role) (x .revision) (x .content)
 
-    stored-readable : (k : Kind) (v : Option Bounded-role) → by-modes account .readable (stored k v n c) ≡ role-readable u z v
-    stored-readable k v = rw (readable-by-modes account (stored k v n c), stored-allows-r k v, stored-passes k v, stored-kind k v) (readable-passes k v)
+  met-writable : (x : Filed) → allows account W (met x) ≡ filed-writable u z x
+  unfolding met filed-writable in-store grants
+  met-writable top = rw (rep-allows W) (case (same-role (z .role) (record { 0 = 0 })) (λ t. rw t) (λ t. rw t))
+  met-writable (entry x) = directory-right W refl refl (x .kind) (x .role) (x .revision) (x .content)
 
-  module _ (e : Entry) where
-    -- in the store and apart, an entry is of one kind
-    pub kind-law : by-modes (service (u .pairs) z) .kind (in-store e) ≡ by-dominance u z .kind e
-    unfolding in-store by-dominance
-    kind-law = rw (kind-by-modes account (in-store e)) (stored-kind (e .revision) (e .content) (e .kind) (e .role))
+  -- r alone
+  r-of-kind : (k : Kind) (v : Bounded-role) (n : ℕ) (c : Text) → allows account R (entry-node k v n c) ≡ dominated u z v
+  unfolding grants entry-digit
+  r-of-kind File v n c = entry-allows R File v n c
+  r-of-kind Directory v n c = entry-allows R Directory v n c
+
+  met-r : (x : Filed) → allows account R (met x) ≡ filed-readable u z x
+  unfolding met filed-readable in-store grants
+  met-r top = rep-grants R refl refl
+  met-r (entry x) = r-of-kind (x .kind) (x .role) (x .revision) (x .content)
+
+  -- what is readable by its role is passed by it too, where it is a directory
+  readable-of-kind : (k : Kind) (b : Bool) → (b && (not (is-directory k) || (is-directory k && b))) ≡ b
+  readable-of-kind File b = rw file-is-none (and-true b)
+  readable-of-kind Directory b = rw directory-is-one (and-self b)
+
+  readable-passes : (x : Filed) → (filed-readable u z x && (not (is-directory (filed-kind x)) || filed-passes u z x)) ≡ filed-readable u z x
+  unfolding filed-readable filed-passes filed-kind
+  readable-passes top = or-true (not (is-directory Directory))
+  readable-passes (entry x) = readable-of-kind (x .kind) (dominated u z (x .role))
+
+  -- ---- the judges
+
+  module _ (x : Filed) where
+    -- in the store and apart, what is met is of one kind
+    pub kind-law : by-modes (service (u .pairs) z) .kind (met x) ≡ by-dominance u z .kind x
+    unfolding by-dominance
+    kind-law = rw (kind-by-modes account (met x)) (met-kind x)
 
     -- walks pass it alike
-    pub passes-law : by-modes (service (u .pairs) z) .passes (in-store e) ≡ by-dominance u z .passes e
-    unfolding in-store by-dominance
-    passes-law = rw (passes-by-modes account (in-store e)) (stored-passes (e .revision) (e .content) (e .kind) (e .role))
+    pub passes-law : by-modes (service (u .pairs) z) .passes (met x) ≡ by-dominance u z .passes x
+    unfolding by-dominance
+    passes-law = rw (passes-by-modes account (met x)) (met-passes x)
 
     -- it is readable alike
-    pub readable-law : by-modes (service (u .pairs) z) .readable (in-store e) ≡ by-dominance u z .readable e
-    unfolding in-store by-dominance
-    readable-law = stored-readable (e .revision) (e .content) (e .kind) (e .role)
+    pub readable-law : by-modes (service (u .pairs) z) .readable (met x) ≡ by-dominance u z .readable x
+    unfolding by-dominance
+    readable-law = rw (readable-by-modes account (met x), met-r x, met-passes x, met-kind x) (readable-passes x)
 
     -- and writable alike
-    pub writable-law : by-modes (service (u .pairs) z) .writable (in-store e) ≡ by-dominance u z .writable e
-    unfolding in-store by-dominance
-    writable-law = rw (writable-by-modes account (in-store e)) (stored-writable (e .revision) (e .content) (e .kind) (e .role))
+    pub writable-law : by-modes (service (u .pairs) z) .writable (met x) ≡ by-dominance u z .writable x
+    unfolding by-dominance
+    writable-law = rw (writable-by-modes account (met x)) (met-writable x)
 
   -- `/` is a directory that the account passes
   pub top-passed : (is-directory (top-node .kind) ≡ true) × (allows (service (u .pairs) z) X top-node ≡ true)
   unfolding top-node directory-of grants
   top-passed = (directory-is-one, top-allows account (service-not-root (u .pairs) z) X)
 
--- what an entry's node holds
-module _ (n : ℕ) (c : Text) where
-  stored-revision : (k : Kind) (v : Option Bounded-role) → stored k v n c .revision ≡ n
-  unfolding stored entry-node
-  stored-revision k none = refl
-  stored-revision k (some v) = refl
-
-  stored-content : (k : Kind) (v : Option Bounded-role) → stored k v n c .content ≡ c
-  unfolding stored entry-node
-  stored-content k none = refl
-  stored-content k (some v) = refl
-
-  -- with other content and the next revision it is what the entry so revised stands as
-  stored-next : (k : Kind) (v : Option Bounded-role) (d : Text) →
-      record {
-        kind = stored k v n c .kind;
-        owner = stored k v n c .owner;
-        group = stored k v n c .group;
-        mode = stored k v n c .mode;
-        revision = suc (stored k v n c .revision);
-        tag = stored k v n c .tag;
-        content = d;
-      } ≡ stored k v (suc n) d
-  unfolding stored entry-node
-  stored-next k none d = refl
-  stored-next k (some v) d = refl
-
--- an entry keeps its revision in the store
-pub revision-law : (e : Entry) → in-store e .revision ≡ e .revision
-unfolding in-store
-revision-law e = stored-revision (e .revision) (e .content) (e .kind) (e .role)
+-- what is met keeps its revision in the store
+pub revision-law : (x : Filed) → met x .revision ≡ filed-revision x
+unfolding met filed-revision in-store entry-node rep-node directory-of
+revision-law top = refl
+revision-law (entry x) = refl
 
 -- and its content
-pub content-law : (e : Entry) → in-store e .content ≡ e .content
-unfolding in-store
-content-law e = stored-content (e .revision) (e .content) (e .kind) (e .role)
+pub content-law : (x : Filed) → met x .content ≡ filed-content x
+unfolding met filed-content in-store entry-node rep-node directory-of
+content-law top = refl
+content-law (entry x) = refl
 
 -- to revise an entry in the store is to revise it apart
-pub revise-law : (c : Text) (e : Entry) → store .revise c (in-store e) ≡ in-store (abstract .revise c e)
-unfolding in-store
-revise-law c e = rw (set-revision-is (set-content c (in-store e)) (suc (in-store e .revision)), set-content-is (in-store e) c) (stored-next (e .revision) (e .content) (e .kind) (e .role) c)
-
--- a new entry of the store is how the new entry stands there
-pub entry-law : (k : Kind) (r : Bounded-role) (c : Text) → store .entry k r c ≡ in-store (abstract .entry k r c)
-unfolding in-store stored
-entry-law k r c = refl
-
--- `/rep` apart stands in the store as `/rep`
-pub rep-law : in-store rep-entry ≡ rep-node
-unfolding in-store stored rep-entry rep-node directory-of
-rep-law = refl
+pub next-law : (c : Text) (x : Entry) → next-node c (in-store x) ≡ in-store (next-entry c x)
+unfolding in-store next-node next-entry entry-node
+next-law c x = rw (set-revision-is (set-content c (in-store x)) (suc (in-store x .revision)), set-content-is (in-store x) c)

@@ -42,9 +42,9 @@ use Rattle.shell.specs.Caller.{Outcome}
 use Rattle.shell.specs.Keeping.{is-caller, room-found, fit-most, room-keeps, run-shell-keeps}
 use Rattle.copying.specs.Copying.{below-rep, copy}
 use Rattle.copying.specs.CopyLaws.{copy-is-place}
-use Rattle.repository.specs.Machine.{source, Working, log-in, log-out, file-entry, check-out, working, original, commit-file, update-file, delete-entry, run-repository, caller, run}
+use Rattle.repository.specs.Machine.{source, Working, run-login, run-logout, run-add, run-co, working-file, original, run-commit, run-up, run-del, run-repository, caller, run}
 use Rattle.repository.specs.Initial.{no-sessions}
-use Rattle.repository.specs.Store.{Store, entry-node, store, initial-store}
+use Rattle.repository.specs.Store.{Store, entry-node, next-node, store, initial-store}
 use Rattle.repository.specs.Calls.{Call, after, perform, step, runs}
 use Rattle.repository.specs.Observed.{Reached}
 use Rattle.repository.specs.Callers.{caller-in-range}
@@ -78,13 +78,13 @@ module _ (u : Setup) (g : is-setup u ≡ true) (s : Store) (w : well-formed (rec
   session-set : (k : ℕ) (z : Option Bounded-role) → Keeps (done (record { text = none; state = record { tree = s .tree; sessions = set (s .sessions) k z } }))
   session-set k z = ensured (formed u g (record { tree = s .tree; sessions = set (s .sessions) k z }) (length-set (s .sessions) k z ∙ count) tree)
 
-  log-in-keeps : (z : Bounded-role) (password : Text) → Keeps (log-in store u s c z password)
-  unfolding log-in
-  log-in-keeps z password = after-check NoGrant _ λ _. session-set (c .account .uid .0) (some z)
+  login-keeps : (z : Bounded-role) (password : Text) → Keeps (run-login store u s c z password)
+  unfolding run-login
+  login-keeps z password = after-check NoGrant _ λ _. session-set (c .account .uid .0) (some z)
 
-  log-out-keeps : Keeps (log-out store u s c)
-  unfolding log-out
-  log-out-keeps = session-set (c .account .uid .0) none
+  logout-keeps : Keeps (run-logout store u s c)
+  unfolding run-logout
+  logout-keeps = session-set (c .account .uid .0) none
 
   -- the node where a walk leads is in range
   node-at : (j : Judge Node) (p : Path) (d : Place Node) → walk j (s .tree) p ≡ done d → is-node (d .here) ≡ true
@@ -98,9 +98,9 @@ module _ (u : Setup) (g : is-setup u ≡ true) (s : Store) (w : well-formed (rec
       let i : leb v last-revision ≡ true = rw last-revision-is (le-leb v 9999 l) in
       keep-alter-all t p (set-tag tag) h (λ x n. (node-of-tag tag x n k i, kind-of-set-tag tag x))
 
-  file-entry-keeps : (p : Path) (e : Entry-path) (role : Bounded-role) → is-entry-path e ≡ true → Keeps (file-entry store u s c p e role)
-  unfolding file-entry below-rep in-rep parent
-  file-entry-keeps p e role k =
+  add-keeps : (p : Path) (e : Entry-path) (role : Bounded-role) → is-entry-path e ≡ true → Keeps (run-add store u s c p e role)
+  unfolding run-add below-rep in-rep parent
+  add-keeps p e role k =
       after-do _ λ z _.
       after-do _ λ d i.
       after-check Reserved _ λ _.
@@ -120,9 +120,9 @@ module _ (u : Setup) (g : is-setup u ≡ true) (s : Store) (w : well-formed (rec
       (leaf-place x (entry-fits (d .here .kind) role (d .here .content) (r .content) (r .bare)))
       (omega (arith, names .1, leaf-height x)) (omega (arith, leaf-size x, fit-most c 0 (s .tree) 1 fits))) p e 1 k (omega arith))
 
-  check-out-keeps : (e : Entry-path) (p : Path) → is-entry-path e ≡ true → is-path p ≡ true → Keeps (check-out store u s c e p)
-  unfolding check-out most-names below-rep in-rep entry-location
-  check-out-keeps e p k i =
+  co-keeps : (e : Entry-path) (p : Path) → is-entry-path e ≡ true → is-path p ≡ true → Keeps (run-co store u s c e p)
+  unfolding run-co most-names below-rep in-rep entry-location
+  co-keeps e p k i =
       after-do _ λ z _.
       after-do _ λ f r.
       after-do _ λ d a.
@@ -136,9 +136,9 @@ module _ (u : Setup) (g : is-setup u ≡ true) (s : Store) (w : well-formed (rec
       k (walked-place j (s .tree) (entry-location e) d tree a) (walked-depth j (s .tree) (entry-location e) d tree a))
       (leb-true (depth p + height (x .below)) 6 l) (fit-most c 0 (s .tree) (suc (size (x .below))) fits))
 
-  delete-entry-keeps : (e : Entry-path) → Keeps (delete-entry store u s c e)
-  unfolding delete-entry
-  delete-entry-keeps e =
+  del-keeps : (e : Entry-path) → Keeps (run-del store u s c e)
+  unfolding run-del
+  del-keeps e =
       after-do _ λ z _.
       after-do _ λ d _.
       after-check Access _ λ _.
@@ -149,10 +149,10 @@ module _ (u : Setup) (g : is-setup u ≡ true) (s : Store) (w : well-formed (rec
 
   -- a working file is where the walk leads, with its tag
   abbrev Worked : Path → Working → Type 0
-  Worked p k = (d : Place Node) × (walk (by-modes (c .account)) (s .tree) p ≡ done d) × (k .file ≡ d .here) × (is-directory (d .here .kind) ≡ false) × (d .here .tag ≡ some (k .tag))
+  Worked p k = (d : Place Node) × (walk (by-modes (c .account)) (s .tree) p ≡ done d) × (k .node ≡ d .here) × (is-directory (d .here .kind) ≡ false) × (d .here .tag ≡ some (k .tag))
 
-  worked : (right : Right) (p : Path) → Ensures (Worked p) (working store u s c right p)
-  unfolding working
+  worked : (right : Right) (p : Path) → Ensures (Worked p) (working-file store u s c right p)
+  unfolding working-file
   worked right p =
       after-do _ λ d e.
       after-check WrongKind _ λ b.
@@ -172,9 +172,9 @@ module _ (u : Setup) (g : is-setup u ≡ true) (s : Store) (w : well-formed (rec
       after-check Access _ λ _.
       ensured (i, not-true (is-directory (d .here .kind)) (rw (kind-by-modes (service (u .pairs) z) (d .here)) at b))
 
-  update-file-keeps : (p : Path) → Keeps (update-file store u s c p)
-  unfolding update-file
-  update-file-keeps p =
+  up-keeps : (p : Path) → Keeps (run-up store u s c p)
+  unfolding run-up
+  up-keeps p =
       after-do _ λ z _.
       after-facts (worked W p) λ k h.
       after-facts (filed z (k .tag .path)) λ a i.
@@ -190,9 +190,9 @@ module _ (u : Setup) (g : is-setup u ≡ true) (s : Store) (w : well-formed (rec
       (ap is-directory (kind-of-set-tag tag (d .here)) ∙ h .3) (r .content))
       (kind-of-set-content content x ∙ kind-of-set-tag tag (d .here)))
 
-  commit-file-keeps : (p : Path) → Keeps (commit-file store u s c p)
-  unfolding commit-file
-  commit-file-keeps p =
+  commit-keeps : (p : Path) → Keeps (run-commit store u s c p)
+  unfolding run-commit entry-location below-rep in-rep next-node
+  commit-keeps p =
       after-do _ λ z _.
       after-facts (worked R p) λ k h.
       after-facts (filed z (k .tag .path)) λ a i.
@@ -205,23 +205,23 @@ module _ (u : Setup) (g : is-setup u ≡ true) (s : Store) (w : well-formed (rec
       let r = node-ranges (d .here) (node-at (by-modes (c .account)) p d (h .1)) in
       let e = k .tag .path in
       let n = node-at j (in-rep (below-rep e)) a (i .0) in
-      let content = k .file .content in
+      let content = k .node .content in
       let v = a .here .revision in
       let x = set-content content (a .here) in
       let l : suc v ≤ 9999 = omega (arith, leb-true v 9999 (rw last-revision-is at (node-ranges (a .here) n .revision)), eqb-false v 9999 (not-true (eqb v 9999) (rw last-revision-is at b))) in
-      changed none _ (tagged _ (keep-alter j (s .tree) (in-rep (below-rep e)) a (store .revise content) tree (i .0)
+      changed none _ (tagged _ (keep-alter j (s .tree) (entry-location e) a (next-node content) tree (i .0)
       (node-of-revision (suc v) x (node-of-content content (a .here) n (i .1) (rw (h .2) (r .content))) (rw last-revision-is (le-leb (suc v) 9999 l)))
       (kind-of-set-revision (suc v) x ∙ kind-of-set-content content (a .here))) p e (suc v) (r .tag (k .tag) (h .4) .0) l)
 
   repository-keeps : (command : Repository-command) → is-repository-command command ≡ true → Keeps (run-repository store u s c command)
   unfolding run-repository is-repository-command
-  repository-keeps (login z password) k = log-in-keeps z password
-  repository-keeps logout k = log-out-keeps
-  repository-keeps (add p e role) k = file-entry-keeps p e role (and-both (is-path p) (is-entry-path e) k .1)
-  repository-keeps (co e p) k = let i = and-both (is-entry-path e) (is-path p) k in check-out-keeps e p (i .0) (i .1)
-  repository-keeps (commit p) k = commit-file-keeps p
-  repository-keeps (up p) k = update-file-keeps p
-  repository-keeps (del e) k = delete-entry-keeps e
+  repository-keeps (login z password) k = login-keeps z password
+  repository-keeps logout k = logout-keeps
+  repository-keeps (add p e role) k = add-keeps p e role (and-both (is-path p) (is-entry-path e) k .1)
+  repository-keeps (co e p) k = let i = and-both (is-entry-path e) (is-path p) k in co-keeps e p (i .0) (i .1)
+  repository-keeps (commit p) k = commit-keeps p
+  repository-keeps (up p) k = up-keeps p
+  repository-keeps (del e) k = del-keeps e
 
   -- a command of a caller in range keeps the store well-formed
   pub run-keeps : (command : Command) → is-command command ≡ true → Ensures (λ o. well-formed (record { setup = u; store = o .state }) ≡ true) (run store u s c command)

@@ -17,23 +17,26 @@ use Rattle.tree.specs.declared.Kind.the-variants.{File, Directory}
 use Rattle.tree.specs.declared.Cause.{Cause}
 use Rattle.tree.specs.declared.Cause.the-variants.{Exists, Reserved}
 use Rattle.tree.specs.Result.{Result, refused, done, _>>=_}
-use Rattle.tree.specs.Forest.{Place, place-at, map-place}
+use Rattle.tree.specs.Forest.{Place, place-at}
 use Rattle.tree.specs.Node.{Node, allows}
 use Rattle.tree.specs.Walk.{by-modes, enter, walk, parent-walk}
 use Rattle.tree.specs.Agree.{Ensures, no-matter, ensured, after-do, after-facts, after-check}
 use Rattle.tree.specs.JudgeLaws.{passes-by-modes}
 use Rattle.tree.specs.StepLaws.{entered, walked, parent-walked}
+use Rattle.tree.specs.PlaceLaws.{leaf-here}
 use Rattle.tree.specs.UpdateLaws.{at-top, at-child}
 use Rattle.tree.specs.PathLaws.{walk-outside}
 use Rattle.tree.specs.Graft.{graft, get-graft}
 use Rattle.shell.specs.declared.Caller.{Caller}
-use Rattle.shell.specs.Steps.{room, make, show, overwrite, unlink, move, change-mode, change-group, change-owner, run-shell}
+use Rattle.shell.specs.Steps.{room, run-create, run-read, run-write, run-rm, run-mv, run-chmod, run-chgrp, run-chown, run-shell}
 use Rattle.repository.specs.Machine.{caller, run}
+use Rattle.repository.specs.Initial.{rep-node}
 use Rattle.repository.specs.Store.{Store, store}
-use Rattle.repository.specs.Abstract.{Abstract, in-store, whole, embed}
+use Rattle.repository.specs.Abstract.{Abstract}
+use Rattle.repository.specs.Embedding.{stored, embed}
 use Rattle.repository.specs.Observed.{Reached-without-root}
 use Rattle.repository.specs.Callers.{person-rep}
-use Rattle.repository.specs.Simulation.{Kept, rep-stands}
+use Rattle.repository.specs.Simulation.{Kept, rep-alike}
 use Rattle.repository.specs.Lists.{reached-tie}
 
 -- strictly below `/rep`
@@ -106,29 +109,29 @@ module _ (c : Caller) (t f : Place Node) (there : place-at t (root ▹ rep) ≡ 
   never-parent-walked k p b = after-do (parent-walk (by-modes (c .account)) t p) λ d w. absurd (no-parent-walk p b d w)
 
   module _ (m : ℕ) where
-    never-made : (kind : Kind) (p : Path) (mode : ℕ) → lies-in-rep p ≡ true → Ensures (λ _. ⊥) (make c m t kind p mode)
-    unfolding make room
+    never-made : (kind : Kind) (p : Path) (mode : ℕ) → lies-in-rep p ≡ true → Ensures (λ _. ⊥) (run-create c m t kind p mode)
+    unfolding run-create room
     never-made kind p mode b = after-facts (after-check Exists _ λ _. never-parent-walked _ p b) λ d z. absurd z
 
-    never-unlinked : (kind : Kind) (p : Path) → lies-in-rep p ≡ true → Ensures (λ _. ⊥) (unlink c m t kind p)
-    unfolding unlink
-    never-unlinked kind p b = after-check Reserved _ λ _. never-walked _ p b
+    never-removed : (kind : Kind) (p : Path) → lies-in-rep p ≡ true → Ensures (λ _. ⊥) (run-rm c m t kind p)
+    unfolding run-rm
+    never-removed kind p b = after-check Reserved _ λ _. never-walked _ p b
 
-    never-moved : (a b : Path) → (lies-in-rep a || lies-in-rep b) ≡ true → Ensures (λ _. ⊥) (move c m t a b)
-    unfolding move
+    never-moved : (a b : Path) → (lies-in-rep a || lies-in-rep b) ≡ true → Ensures (λ _. ⊥) (run-mv c m t a b)
+    unfolding run-mv
     never-moved a b i = after-check Reserved _ λ _. case (lies-in-rep a)
         (λ e. never-walked _ a e)
         (λ e. after-do (walk (by-modes (c .account)) t a) λ _ _. never-parent-walked _ b (rw e at i))
 
     -- a shell command with a path below `/rep` is never done
     never-run : (command : Shell-command) → names-entry command ≡ true → Ensures (λ _. ⊥) (run-shell c m t command)
-    unfolding names-entry run-shell show overwrite change-mode change-group change-owner
+    unfolding names-entry run-shell run-read run-write run-chmod run-chgrp run-chown
     never-run (create p mode) b = never-made File p mode b
     never-run (mkdir p mode) b = never-made Directory p mode b
     never-run (read p) b = never-walked _ p b
     never-run (write p content) b = never-walked _ p b
-    never-run (rm p) b = never-unlinked File p b
-    never-run (rmdir p) b = never-unlinked Directory p b
+    never-run (rm p) b = never-removed File p b
+    never-run (rmdir p) b = never-removed Directory p b
     never-run (mv p q) b = never-moved p q b
     never-run (chmod p mode) b = never-walked _ p b
     never-run (chgrp p group) b = never-walked _ p b
@@ -137,11 +140,11 @@ module _ (c : Caller) (t f : Place Node) (there : place-at t (root ▹ rep) ≡ 
 -- ---- the store
 
 -- the entries stand at `/rep`
-rep-place : (h : Abstract) → Kept h → place-at (embed h .tree) (root ▹ rep) ≡ some (map-place in-store (h .entries))
-unfolding embed whole
+rep-place : (h : Abstract) → Kept h → place-at (embed h .tree) (root ▹ rep) ≡ some (stored (h .entries))
+unfolding embed
 rep-place h k =
-    let t = graft (map-place in-store (h .entries)) (h .workspace) in
-    at-child t root rep t (at-top t) ∙ get-graft (map-place in-store (h .entries)) (h .workspace) (k .there)
+    let t = graft (stored (h .entries)) (h .workspace) in
+    at-child t root rep t (at-top t) ∙ get-graft (stored (h .entries)) (h .workspace) (k .there)
 
 -- a person's shell line with a path below `/rep` is refused
 pub shell-refused : (u : Setup) (s : Store) → Reached-without-root u s → (v : Uid) (c : Caller) → is-root v ≡ false → caller u v ≡ done c
@@ -151,6 +154,6 @@ shell-refused u s reached v c r i command names =
     let h = reached-tie u s reached in
     let k = h .1 .kept in
     let setup = accepted-is-setup (reached .reached .text) u (reached .reached .taken) in
-    let shut = ap (allows (c .account) X) (rep-stands (h .0) k) ∙ person-rep u setup v c r i .0 X in
+    let shut = ap (allows (c .account) X) (rep-alike (h .0) k ∙ leaf-here rep-node) ∙ person-rep u setup v c r i .0 X in
     let there = ap (λ a. place-at (a .tree) (root ▹ rep)) (h .1 .same) ∙ rep-place (h .0) k in
-    never-done (after-facts (never-run c (s .tree) (map-place in-store (h .0 .entries)) there shut 0 command names) λ o z. absurd z)
+    never-done (after-facts (never-run c (s .tree) (stored (h .0 .entries)) there shut 0 command names) λ o z. absurd z)

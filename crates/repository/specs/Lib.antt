@@ -2,6 +2,7 @@ pub mod Machine
 pub mod Initial
 pub mod Store
 pub mod Abstract
+pub mod Embedding
 pub mod Calls
 pub mod Listing
 pub mod Transcript

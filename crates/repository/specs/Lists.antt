@@ -17,9 +17,11 @@ use Rattle.setup.specs.SetupLaws.{accepted-is-setup}
 use Rattle.tree.specs.declared.Cause.the-variants.{NoForm, ShortAnswer}
 use Rattle.tree.specs.Result.{Result, present}
 use Rattle.tree.specs.ResultLaws.{present-some}
-use Rattle.tree.specs.Forest.{Forest, nil, Place, get, leaf, map-place}
+use Rattle.tree.specs.Forest.{Forest, nil, Place, get, leaf, rooted}
 use Rattle.tree.specs.Node.{Node}
-use Rattle.tree.specs.ForestLaws.{get-first, get-insert-other, leaf-map}
+use Rattle.tree.specs.ForestLaws.{get-first, get-insert-other}
+use Rattle.tree.specs.MapLaws.{map-nil}
+use Rattle.tree.specs.RootedLaws.{rooted-here, rooted-below}
 use Rattle.tree.specs.PlaceLaws.{leaf-here, leaf-below, update-root}
 use Rattle.tree.specs.Graft.{graft-own, get-graft, update-inside}
 use Rattle.tree.specs.Agree.{Agree, refusal, both, each, check}
@@ -27,11 +29,11 @@ use Rattle.shell.specs.Caller.{Outcome}
 use Rattle.repository.specs.Machine.{caller}
 use Rattle.repository.specs.Initial.{rep-node, home-node, home-name, with-home, homes, initial-tree}
 use Rattle.repository.specs.Store.{Store, store, initial-store}
-use Rattle.repository.specs.Abstract.{Abstract, abstract, rep-entry, initial-abstract, in-store, whole, embed}
+use Rattle.repository.specs.Abstract.{Abstract, abstract, initial-abstract}
+use Rattle.repository.specs.Embedding.{in-store, stored, embed}
 use Rattle.repository.specs.Calls.{Call, Ran, reply, after, perform, step, runs, of-root, root's}
 use Rattle.repository.specs.Observed.{workspace-of, filed-in, Compared, without-root, Reached-without-root}
-use Rattle.repository.specs.Judges.{rep-law}
-use Rattle.repository.specs.Simulation.{Kept, Tie, Tied, rep-stands, run-agrees}
+use Rattle.repository.specs.Simulation.{Kept, Tie, Tied, rep-alike, run-agrees}
 
 -- ---- the initial states
 
@@ -50,12 +52,17 @@ unfolding homes
 homes-rep u zero = get-first rep rep-node nil nil ∙ (λ i. some (record { here = sym (leaf-here rep-node) i; below = sym (leaf-below rep-node) i }))
 homes-rep u (suc k) = with-home-rep (record { 0 = k }) (person u (record { 0 = k })) (homes u k) ∙ homes-rep u k
 
+-- with no entries `/rep` stands alone
+pub stored-none : stored nil ≡ leaf rep-node
+unfolding stored
+stored-none = λ i. record { here = (rooted-here in-store rep-node nil ∙ sym (leaf-here rep-node)) i; below = (rooted-below in-store rep-node nil ∙ map-nil in-store ∙ sym (leaf-below rep-node)) i }
+
 -- the initial states hold the same
 pub initial-tie : (u : Setup) → Tie (initial-store u) (initial-abstract u)
-unfolding initial-store initial-abstract initial-tree embed whole
+unfolding initial-store initial-abstract initial-tree embed
 initial-tie u = record {
-  same = rw (← leaf-map in-store rep-entry, rep-law, graft-own (leaf rep-node) (initial-tree u) (homes-rep u accounts));
-  kept = record { top = refl; there = homes-rep u accounts; rep-here = leaf-here rep-entry };
+  same = rw (stored-none, graft-own (leaf rep-node) (initial-tree u) (homes-rep u accounts));
+  kept = record { top = refl; there = homes-rep u accounts };
 }
 
 -- ---- one call
@@ -102,15 +109,15 @@ module _ (u : Setup) (e : is-setup u ≡ true) where
 -- ---- what demand 3 compares
 
 workspace-back : (h : Abstract) → Kept h → workspace-of (embed h) ≡ h .workspace
-unfolding workspace-of embed whole in-rep
+unfolding workspace-of embed in-rep
 workspace-back h k =
-    let E : Place Node = map-place in-store (h .entries) in
+    let E : Place Node = stored (h .entries) in
     let w = update-inside root (λ d. leaf (d .here)) E (h .workspace) in
-    rw (w, update-root (λ d. leaf (d .here)) E, rep-stands h k) (graft-own (leaf rep-node) (h .workspace) (k .there))
+    rw (w, update-root (λ d. leaf (d .here)) E, rep-alike h k, leaf-here rep-node) (graft-own (leaf rep-node) (h .workspace) (k .there))
 
-filed-back : (h : Abstract) → Kept h → filed-in (embed h) ≡ some (map-place in-store (h .entries))
-unfolding filed-in embed whole
-filed-back h k = get-graft (map-place in-store (h .entries)) (h .workspace) (k .there)
+filed-back : (h : Abstract) → Kept h → filed-in (embed h) ≡ some (stored (h .entries))
+unfolding filed-in embed
+filed-back h k = get-graft (stored (h .entries)) (h .workspace) (k .there)
 
 -- tied states with the same replies are what demand 3 asks for
 pub tie-compared : {a : Ran Store} {b : Ran Abstract} → a .replies ≡ b .replies → Tie (a .state) (b .state) → Compared a b

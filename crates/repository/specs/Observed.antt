@@ -6,10 +6,11 @@ use mathlib.Core.Bool.{Bool, true, not}
 use Rattle.syntax.specs.Text.{Text, every}
 use Rattle.syntax.specs.Path.{root, _▹_, rep}
 use Rattle.setup.specs.Setup.{Setup, accepted, setup}
-use Rattle.tree.specs.Forest.{Place, get, update, leaf, map-place}
+use Rattle.tree.specs.Forest.{Place, get, update, leaf}
 use Rattle.tree.specs.Node.{Node}
 use Rattle.repository.specs.Store.{Store, store, initial-store}
-use Rattle.repository.specs.Abstract.{Abstract, in-store}
+use Rattle.repository.specs.Abstract.{Abstract}
+use Rattle.repository.specs.Embedding.{stored}
 use Rattle.repository.specs.Calls.{Call, Ran, runs, root's}
 
 -- the people's tree in the store: all nodes outside the repository, `/rep` as an empty directory
@@ -20,13 +21,13 @@ workspace-of s = update (root ▹ rep) (λ d. leaf (d .here)) (s .tree)
 unfoldable pub filed-in : Store → Option (Place Node)
 filed-in s = get rep (s .tree .below)
 
--- Each call's reply with its text and, after the list, the people's tree, the sessions and the entries. An entry of role r
--- stands in the store as `in-store` says: owner and group 16+r, mode 0440 or 0770 by kind, no tag; no other node lies below `/rep`.
+-- Each call's reply with its text and, after the list, the people's tree, the sessions and the entries: below `/rep` stand
+-- the nodes of the entries, and no other.
 pub record Compared (a : Ran Store) (b : Ran Abstract) : Type 0 where
   pub replies : a .replies ≡ b .replies
   pub workspace : workspace-of (a .state) ≡ b .state .workspace
   pub sessions : a .state .sessions ≡ b .state .sessions
-  pub entries : filed-in (a .state) ≡ some (map-place in-store (b .state .entries))
+  pub entries : filed-in (a .state) ≡ some (stored (b .state .entries))
 
 -- none of the lines is root's
 unfoldable pub without-root : List Call → Bool

@@ -14,7 +14,7 @@ use Rattle.accounts.specs.declared.Account.{Account}
 use Rattle.accounts.specs.Access.{same-uid}
 use Rattle.accounts.specs.Dominance.{Bounded-role}
 use Rattle.accounts.specs.Service.{service-uid, service, service-not-root, service-own}
-use Rattle.syntax.specs.Path.{Path, _▹_, Entry-path, parent, last, within, in-rep}
+use Rattle.syntax.specs.Path.{Path, _▹_, Entry-path, parent, last, within, in-rep, entry-location}
 use Rattle.commands.specs.Command.{Repository-command, login, logout, add, co, commit, up, del, Command, shell, repository}
 use Rattle.setup.specs.Setup.{Setup}
 use Rattle.tree.specs.declared.Cause.the-variants.{Access, WrongKind, NotEmpty, Reserved, Full, NoGrant, Stale, Untagged, RevisionsSpent, TooDeep}
@@ -29,7 +29,7 @@ use Rattle.shell.specs.declared.Caller.{Caller}
 use Rattle.shell.specs.Caller.{owns}
 use Rattle.shell.specs.Privacy.{Private, Stays, private-foreign, private-outside, put-private, drop-private, room-private, run-shell-private}
 use Rattle.copying.specs.Copying.{below-rep}
-use Rattle.repository.specs.Machine.{session, log-in, log-out, file-entry, check-out, working, original, commit-file, update-file, delete-entry, run-repository, run}
+use Rattle.repository.specs.Machine.{session, run-login, run-logout, run-add, run-co, working-file, original, run-commit, run-up, run-del, run-repository, run}
 use Rattle.repository.specs.Store.{Store, store}
 
 -- a person's private directory is private for every service account too
@@ -47,9 +47,9 @@ module _ (u : Setup) (s : Store) (c : Caller) (p : Path) (d : Place Node) (there
   shut : (z : Bounded-role) → Private (service (u .pairs) z) d
   shut = service-private v small u
 
-  file-entry-private : (w : Path) (e : Entry-path) (role : Bounded-role) → Ensures (λ o. Stays d (o .state .tree)) (file-entry store u s c w e role)
-  unfolding file-entry below-rep in-rep parent last
-  file-entry-private w e role =
+  add-private : (w : Path) (e : Entry-path) (role : Bounded-role) → Ensures (λ o. Stays d (o .state .tree)) (run-add store u s c w e role)
+  unfolding run-add below-rep in-rep parent last
+  add-private w e role =
       after-do (session store u s c) λ z _.
       after-do (walk (by-modes (c .account)) (s .tree) w) λ f i.
       after-check Reserved _ λ o.
@@ -66,9 +66,9 @@ module _ (u : Setup) (s : Store) (c : Caller) (p : Path) (d : Place Node) (there
             (private-outside (s .tree) p d there v (owns (c .account)) (private-foreign v) w f i o),
       ))
 
-  check-out-private : (e : Entry-path) (q : Path) → Ensures (λ o. Stays d (o .state .tree)) (check-out store u s c e q)
-  unfolding check-out
-  check-out-private e q =
+  co-private : (e : Entry-path) (q : Path) → Ensures (λ o. Stays d (o .state .tree)) (run-co store u s c e q)
+  unfolding run-co
+  co-private e q =
       after-do (session store u s c) λ z _.
       after-facts (room-private c 0 (s .tree) p d there v q) λ f k.
       after-do (walk (by-modes (service (u .pairs) z)) (s .tree) (in-rep (below-rep e))) λ a _.
@@ -78,8 +78,8 @@ module _ (u : Setup) (s : Store) (c : Caller) (p : Path) (d : Place Node) (there
       ensured (inr (p, k _))
 
   -- a working file is outside the directory
-  working-private : (right : Right) (w : Path) → Ensures (λ k. within p w ≡ false) (working store u s c right w)
-  unfolding working
+  working-private : (right : Right) (w : Path) → Ensures (λ k. within p w ≡ false) (working-file store u s c right w)
+  unfolding working-file
   working-private right w =
       after-do (walk (by-modes (c .account)) (s .tree) w) λ f i.
       after-check WrongKind _ λ b.
@@ -97,9 +97,9 @@ module _ (u : Setup) (s : Store) (c : Caller) (p : Path) (d : Place Node) (there
       ensured (private-outside (s .tree) p d there (shut z) (λ n. not (is-directory (by-modes (service (u .pairs) z) .kind n)))
       (ap (λ k. not (is-directory k)) (kind-by-modes (service (u .pairs) z) (d .here)) ∙ ap not (v .directory)) (in-rep (below-rep e)) f i b)
 
-  commit-file-private : (w : Path) → Ensures (λ o. Stays d (o .state .tree)) (commit-file store u s c w)
-  unfolding commit-file
-  commit-file-private w =
+  commit-private : (w : Path) → Ensures (λ o. Stays d (o .state .tree)) (run-commit store u s c w)
+  unfolding run-commit entry-location below-rep in-rep
+  commit-private w =
       after-do (session store u s c) λ z _.
       after-facts (working-private R w) λ k o.
       after-facts (original-private z (k .tag .path)) λ a i.
@@ -109,17 +109,17 @@ module _ (u : Setup) (s : Store) (c : Caller) (p : Path) (d : Place Node) (there
       after-check RevisionsSpent _ λ _.
       ensured (inr (p, alter-keeps _ p d w _ (alter-keeps (s .tree) p d (in-rep (below-rep (k .tag .path))) _ there i) o))
 
-  update-file-private : (w : Path) → Ensures (λ o. Stays d (o .state .tree)) (update-file store u s c w)
-  unfolding update-file
-  update-file-private w =
+  up-private : (w : Path) → Ensures (λ o. Stays d (o .state .tree)) (run-up store u s c w)
+  unfolding run-up
+  up-private w =
       after-do (session store u s c) λ z _.
       after-facts (working-private W w) λ k o.
       after-do (original store u s c z (k .tag .path)) λ a _.
       ensured (inr (p, alter-keeps (s .tree) p d w _ there o))
 
-  delete-entry-private : (e : Entry-path) → Ensures (λ o. Stays d (o .state .tree)) (delete-entry store u s c e)
-  unfolding delete-entry below-rep in-rep
-  delete-entry-private e =
+  del-private : (e : Entry-path) → Ensures (λ o. Stays d (o .state .tree)) (run-del store u s c e)
+  unfolding run-del below-rep in-rep
+  del-private e =
       after-do (session store u s c) λ z _.
       after-do (walk (by-modes (service (u .pairs) z)) (s .tree) (in-rep (e .folder) ▹ e .name)) λ a w.
       after-check Access _ λ _.
@@ -129,14 +129,14 @@ module _ (u : Setup) (s : Store) (c : Caller) (p : Path) (d : Place Node) (there
       ensured (drop-private (s .tree) p d there (shut z) (in-rep (e .folder)) (e .name) a f w i (rw (writable-by-modes (service (u .pairs) z) (f .here)) at b) n)
 
   run-repository-private : (command : Repository-command) → Ensures (λ o. Stays d (o .state .tree)) (run-repository store u s c command)
-  unfolding run-repository log-in log-out
+  unfolding run-repository run-login run-logout
   run-repository-private (login z password) = after-check NoGrant _ λ _. ensured (inr (p, there))
   run-repository-private logout = ensured (inr (p, there))
-  run-repository-private (add w e role) = file-entry-private w e role
-  run-repository-private (co e q) = check-out-private e q
-  run-repository-private (commit w) = commit-file-private w
-  run-repository-private (up w) = update-file-private w
-  run-repository-private (del e) = delete-entry-private e
+  run-repository-private (add w e role) = add-private w e role
+  run-repository-private (co e q) = co-private e q
+  run-repository-private (commit w) = commit-private w
+  run-repository-private (up w) = up-private w
+  run-repository-private (del e) = del-private e
 
   -- every command leaves the directory with all that lies below it
   pub run-private : (command : Command) → Ensures (λ o. Stays d (o .state .tree)) (run store u s c command)

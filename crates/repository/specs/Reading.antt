@@ -2,7 +2,7 @@
 -- permission away.
 use mathlib.Core.Path.{_≡_, refl, sym, _∙_, ap}
 use mathlib.Core.List.{List, [], _∷_}
-use mathlib.Core.Option.{Option, none, some}
+use mathlib.Core.Option.{some}
 use mathlib.Core.Bool.{true, _&&_}
 use Prim.Native.Nat.{_≤_}
 use native.Mathlib.Omega.{arith}
@@ -13,7 +13,7 @@ use Rattle.accounts.specs.declared.Pair.{Pair}
 use Rattle.accounts.specs.Cases.{and-both}
 use Rattle.accounts.specs.Dominance.{Bounded-role, Listed, Dominates, self, down, Falling, falls, all-fall, all-fall-is, dominates-is, dominates-self, dominates-trans}
 use Rattle.syntax.specs.Text.{bytes, every}
-use Rattle.syntax.specs.Path.{Name, Path, root, _▹_, depth, rep, in-rep, name-byte, is-name}
+use Rattle.syntax.specs.Path.{Path, Entry-path, root, _▹_, depth, rep, in-rep, name-byte, is-name}
 use Rattle.syntax.specs.Field.{content-limit, is-content}
 use Rattle.setup.specs.Setup.{Setup, is-pair, is-setup}
 use Rattle.setup.specs.SetupLaws.{apart}
@@ -21,28 +21,30 @@ use Rattle.tree.specs.declared.Kind.{Kind}
 use Rattle.tree.specs.declared.Kind.the-variants.{File}
 use Rattle.tree.specs.Result.{done}
 use Rattle.tree.specs.Agree.{done-first, done-second}
-use Rattle.tree.specs.Forest.{nil, Place, get, update, put, leaf, map-place}
+use Rattle.tree.specs.Forest.{nil, Place, get, insert, update-forest, leaf, map-place}
 use Rattle.tree.specs.Node.{is-directory, Node}
 use Rattle.tree.specs.Walk.{enter, walk}
 use Rattle.tree.specs.StepLaws.{walk-root, walks-on, walk-more, enters}
 use Rattle.tree.specs.JudgeLaws.{directory-is-one}
-use Rattle.tree.specs.ForestLaws.{get-nil, get-insert}
-use Rattle.tree.specs.PlaceLaws.{leaf-here, leaf-below, leaf-size, put-below, update-root, update-put-here}
+use Rattle.tree.specs.ForestLaws.{get-nil, get-insert, get-map, leaf-map}
+use Rattle.tree.specs.RootedLaws.{rooted-here, rooted-below, update-forest-root}
+use Rattle.tree.specs.PlaceLaws.{leaf-here, leaf-below, leaf-size}
 use Rattle.tree.specs.UpdateLaws.{leaf-height}
 use Rattle.tree.specs.WellFormedLaws.{leaf-place}
 use Rattle.tree.specs.ChangeLaws.{keep-put}
-use Rattle.tree.specs.MapLaws.{map-nil, map-here, map-below}
+use Rattle.tree.specs.MapLaws.{map-here}
 use Rattle.repository.specs.Initial.{directory-of, rep-node}
-use Rattle.repository.specs.Store.{Store, store, initial-store}
-use Rattle.repository.specs.Abstract.{Entry, Abstract, dominated, role-passes, role-readable, role-writable, by-dominance, abstract, rep-entry, initial-abstract, in-store, embed}
+use Rattle.repository.specs.Store.{Store, entry-node, store, initial-store}
+use Rattle.repository.specs.Abstract.{Entry, Abstract, Filed, top, entry, dominated, filed-kind, filed-passes, filed-readable, filed-writable, by-dominance, new-entry, abstract, initial-abstract}
+use Rattle.repository.specs.Embedding.{met, embed}
 use Rattle.repository.specs.Encoding.{well-formed}
 use Rattle.repository.specs.EncodingLaws.{parts}
 use Rattle.repository.specs.Judges.{passes-law, readable-law, writable-law}
 use Rattle.repository.specs.Entries.{entry-fits}
 use Rattle.repository.specs.InitialLaws.{initial-few}
 use Rattle.repository.specs.Keeping.{formed, initial-well-formed}
-use Rattle.repository.specs.Simulation.{Kept, Tie, entries-tie, put-entry, rep-stands, account-walk}
-use Rattle.repository.specs.Lists.{initial-tie}
+use Rattle.repository.specs.Simulation.{Kept, Tie, file-tie, stored-is-met, account-walk}
+use Rattle.repository.specs.Lists.{stored-none, initial-tie}
 
 -- the account of a role walks from `/` to the entry at a path below `/rep`, and may read it
 pub record May-read (u : Setup) (z : Bounded-role) (s : Store) (p : Path) (d : Place Node) : Type 0 where
@@ -92,25 +94,20 @@ module _ (u u′ : Setup) (a a′ : Bounded-role) (more : (r : Bounded-role) →
   directory-more : (k : Kind) (r : Bounded-role) → (is-directory k && dominated u a r) ≡ true → (is-directory k && dominated u′ a′ r) ≡ true
   directory-more k r h = let w = and-both (is-directory k) (dominated u a r) h in rw (w .0) (more r (w .1))
 
-  role-passes-more : (k : Kind) (v : Option Bounded-role) → role-passes u a k v ≡ true → role-passes u′ a′ k v ≡ true
-  unfolding role-passes
-  role-passes-more k none h = h
-  role-passes-more k (some r) h = directory-more k r h
+  passes-more : (x : Filed) → by-dominance u a .passes x ≡ true → by-dominance u′ a′ .passes x ≡ true
+  unfolding by-dominance filed-passes
+  passes-more top h = h
+  passes-more (entry x) h = directory-more (x .kind) (x .role) h
 
-  role-readable-more : (v : Option Bounded-role) → role-readable u a v ≡ true → role-readable u′ a′ v ≡ true
-  unfolding role-readable
-  role-readable-more none h = h
-  role-readable-more (some r) h = more r h
+  readable-apart : (x : Filed) → by-dominance u a .readable x ≡ true → by-dominance u′ a′ .readable x ≡ true
+  unfolding by-dominance filed-readable
+  readable-apart top h = h
+  readable-apart (entry x) h = more (x .role) h
 
-  passes-more : (x : Entry) → by-dominance u a .passes x ≡ true → by-dominance u′ a′ .passes x ≡ true
-  unfolding by-dominance
-  passes-more x h = role-passes-more (x .kind) (x .role) h
+  readable-more : (x : Filed) → store .judge u a .readable (met x) ≡ true → store .judge u′ a′ .readable (met x) ≡ true
+  readable-more x h = rw (readable-law u′ a′ x) (readable-apart x (rw (readable-law u a x) at h))
 
-  readable-more : (x : Entry) → store .judge u a .readable (in-store x) ≡ true → store .judge u′ a′ .readable (in-store x) ≡ true
-  unfolding by-dominance
-  readable-more x h = rw (readable-law u′ a′ x) (role-readable-more (x .role) (rw (readable-law u a x) at h))
-
-  kind-same : (x : Entry) → by-dominance u′ a′ .kind x ≡ by-dominance u a .kind x
+  kind-same : (x : Filed) → by-dominance u′ a′ .kind x ≡ by-dominance u a .kind x
   unfolding by-dominance
   kind-same x = refl
 
@@ -119,36 +116,35 @@ module _ (u u′ : Setup) (a a′ : Bounded-role) (more : (r : Bounded-role) →
   reads-more h k p d m =
       let w = done-first (account-walk u a h k p) (m .walks) in
       let e = w .0 in
-      let v = done-second (account-walk u′ a′ h k p) (walk-more (by-dominance u a) (by-dominance u′ a′) kind-same passes-more (h .entries) p e (w .1)) in
-      let q : d ≡ map-place in-store e = w .2 in
-      let here : d .here ≡ in-store (e .here) = ap (λ x. x .here) q ∙ map-here in-store e in
+      let v = done-second (account-walk u′ a′ h k p) (walk-more (by-dominance u a) (by-dominance u′ a′) kind-same passes-more (abstract .entries h) p e (w .1)) in
+      let q : d ≡ map-place met e = w .2 in
+      let here : d .here ≡ met (e .here) = ap (λ x. x .here) q ∙ map-here met e in
       record {
         walks = v .1 ∙ ap done (v .2 ∙ sym q);
         reads = rw here (readable-more (e .here) (rw here at (m .reads)));
       }
 
-role-writable-more : (u u′ : Setup) (z : Bounded-role) → ((r : Bounded-role) → dominated u z r ≡ true → dominated u′ z r ≡ true)
-    → (k : Kind) (v : Option Bounded-role) → role-writable u z k v ≡ true → role-writable u′ z k v ≡ true
-unfolding role-writable
-role-writable-more u u′ z more k none h = h
-role-writable-more u u′ z more k (some r) h = directory-more u u′ z z more k r h
+writable-apart : (u u′ : Setup) (z : Bounded-role) → ((r : Bounded-role) → dominated u z r ≡ true → dominated u′ z r ≡ true)
+    → (x : Filed) → by-dominance u z .writable x ≡ true → by-dominance u′ z .writable x ≡ true
+unfolding by-dominance filed-writable
+writable-apart u u′ z more top h = h
+writable-apart u u′ z more (entry x) h = directory-more u u′ z z more (x .kind) (x .role) h
 
 -- ---- more pairs
 
 module _ (u u′ : Setup) (s : is-setup u ≡ true) (s′ : is-setup u′ ≡ true) (pairs : More-pairs u u′) (z : Bounded-role) where
-  module _ (x : Entry) where
+  module _ (x : Filed) where
     -- more pairs take no entry's x away
-    pub more-passes : store .judge u z .passes (in-store x) ≡ true → store .judge u′ z .passes (in-store x) ≡ true
+    pub more-passes : store .judge u z .passes (met x) ≡ true → store .judge u′ z .passes (met x) ≡ true
     more-passes h = rw (passes-law u′ z x) (passes-more u u′ z z (more-dominates u u′ s s′ pairs z) x (rw (passes-law u z x) at h))
 
     -- nor its being readable
-    pub more-readable : store .judge u z .readable (in-store x) ≡ true → store .judge u′ z .readable (in-store x) ≡ true
+    pub more-readable : store .judge u z .readable (met x) ≡ true → store .judge u′ z .readable (met x) ≡ true
     more-readable = readable-more u u′ z z (more-dominates u u′ s s′ pairs z) x
 
     -- nor its being writable
-    pub more-writable : store .judge u z .writable (in-store x) ≡ true → store .judge u′ z .writable (in-store x) ≡ true
-    unfolding by-dominance
-    more-writable h = rw (writable-law u′ z x) (role-writable-more u u′ z (more-dominates u u′ s s′ pairs z) (x .kind) (x .role) (rw (writable-law u z x) at h))
+    pub more-writable : store .judge u z .writable (met x) ≡ true → store .judge u′ z .writable (met x) ≡ true
+    more-writable h = rw (writable-law u′ z x) (writable-apart u u′ z (more-dominates u u′ s s′ pairs z) x (rw (writable-law u z x) at h))
 
   -- nor an entry that may be read
   pub more-may-read : (h : Abstract) → Kept h → (p : Path) (d : Place Node) → May-read u z (embed h) p d → May-read u′ z (embed h) p d
@@ -156,62 +152,64 @@ module _ (u u′ : Setup) (s : is-setup u ≡ true) (s′ : is-setup u′ ≡ tr
 
 -- ---- the witness: the initial state with one file of a role, named `x`, in `/rep`
 
-abbrev filed-name : Name
-filed-name = bytes "x"
+abbrev filed-path : Entry-path
+filed-path = record { folder = root; name = bytes "x" }
 
 module _ (u : Setup) (b : Bounded-role) where
   abbrev filed-entry : Entry
-  filed-entry = abstract .entry File b []
+  filed-entry = new-entry File b []
 
   abbrev filed-node : Node
-  filed-node = store .entry File b []
+  filed-node = entry-node File b 1 []
 
   witness : Abstract
-  witness = abstract .on-entries (update root (put filed-name (leaf filed-entry))) (initial-abstract u)
+  witness = abstract .file filed-path File b [] (initial-abstract u)
 
   -- it stands for the initial store with the file put in
-  witness-tie : Tie (store .on-entries (update (in-rep root) (put filed-name (leaf filed-node))) (initial-store u)) witness
+  witness-tie : Tie (store .file filed-path File b [] (initial-store u)) witness
   unfolding witness
-  witness-tie = entries-tie (initial-tie u) root (put filed-name (leaf filed-node)) (put filed-name (leaf filed-entry)) (put-entry filed-name File b [])
-      (update-put-here root filed-name (leaf filed-entry) (initial-abstract u .entries))
+  witness-tie = file-tie (initial-tie u) filed-path File b []
 
-  -- the file is there
-  witness-entry : get filed-name (witness .entries .below) ≡ some (leaf filed-entry)
+  -- a walk from `/rep` meets the file
+  witness-entry : get (bytes "x") (abstract .entries witness .below) ≡ some (leaf (entry filed-entry))
   unfolding witness initial-abstract
   witness-entry =
-      let e = leaf filed-entry in
-      let d = leaf rep-entry in
-      rw (update-root (put filed-name e) d, put-below filed-name e d, leaf-below rep-entry) (get-insert filed-name e nil (get-nil filed-name))
+      let F = update-forest root (insert (bytes "x") (leaf filed-entry)) nil in
+      let x = bytes "x" in
+      rw (rooted-below entry top F, get-map entry x F, update-forest-root (insert x (leaf filed-entry)) nil, get-insert x (leaf filed-entry) nil (get-nil x)) (
+      ap some (sym (leaf-map entry filed-entry)))
 
   -- who dominates the role may read it, and nobody else
-  witness-readable : (a : Bounded-role) → store .judge u a .readable (map-place in-store (leaf filed-entry) .here) ≡ dominated u a b
-  unfolding by-dominance role-readable
-  witness-readable a = rw (map-here in-store (leaf filed-entry), leaf-here filed-entry) (readable-law u a filed-entry)
+  witness-readable : (a : Bounded-role) → store .judge u a .readable (map-place met (leaf (entry filed-entry)) .here) ≡ dominated u a b
+  unfolding by-dominance filed-readable new-entry
+  witness-readable a = rw (map-here met (leaf (entry filed-entry)), leaf-here (entry filed-entry)) (readable-law u a (entry filed-entry))
 
   -- the role's account may read it
-  witness-read : May-read u b (embed witness) (root ▹ filed-name) (map-place in-store (leaf filed-entry))
-  unfolding by-dominance role-passes rep-entry dominated
+  witness-read : May-read u b (embed witness) (root ▹ bytes "x") (map-place met (leaf (entry filed-entry)))
+  unfolding by-dominance filed-kind filed-passes dominated
   witness-read =
       let j = by-dominance u b in
       let k = witness-tie .kept in
-      let e : enter j (witness .entries .here) ≡ done tt = rw (k .rep-here) (enters j rep-entry directory-is-one refl) in
-      let w = walks-on j (witness .entries) root filed-name (walk-root j (witness .entries)) e witness-entry in
-      let v = done-second (account-walk u b witness k (root ▹ filed-name)) w in
+      let t = abstract .entries witness in
+      let e : enter j (t .here) ≡ done tt = rw (rooted-here entry top (witness .entries)) (enters j top directory-is-one refl) in
+      let w = walks-on j t root (bytes "x") (walk-root j t) e witness-entry in
+      let v = done-second (account-walk u b witness k (root ▹ bytes "x")) w in
       record { walks = v .1 ∙ ap done (v .2); reads = witness-readable b ∙ dominates-self (u .pairs) (b .role) (b .role) refl }
 
   -- its store is well-formed
   witness-formed : is-setup u ≡ true → well-formed (record { setup = u; store = embed witness }) ≡ true
-  unfolding in-rep depth is-name name-byte every bytes is-content content-limit rep-node directory-of initial-abstract initial-store
+  unfolding in-rep depth is-name name-byte every bytes is-content content-limit rep-node directory-of initial-abstract initial-store embed
   witness-formed s =
       let h = initial-abstract u in
-      let k = initial-tie u .kept in
-      let d = map-place in-store (h .entries) in
+      let t = initial-tie u in
       let i = parts (record { setup = u; store = initial-store u }) (initial-well-formed u s) in
-      let v = done-second (account-walk u b h k root) (walk-root (by-dominance u b) (h .entries)) in
-      let to : walk (store .judge u b) (initial-store u .tree) (root ▹ rep) ≡ done d = ap (λ t. walk (store .judge u b) (t .tree) (root ▹ rep)) (initial-tie u .same) ∙ v .1 ∙ ap done (v .2) in
+      let v = done-second (account-walk u b h (t .kept) root) (walk-root (by-dominance u b) (abstract .entries h)) in
+      let d = leaf rep-node in
+      let e : v .0 ≡ d = v .2 ∙ sym (stored-is-met nil) ∙ stored-none in
+      let to : walk (store .judge u b) (initial-store u .tree) (root ▹ rep) ≡ done d = ap (λ t. walk (store .judge u b) (t .tree) (root ▹ rep)) (t .same) ∙ v .1 ∙ ap done e in
       rw (← witness-tie .same) (formed u s _ (i .1 .0)
-      (keep-put (store .judge u b) (initial-store u .tree) (root ▹ rep) d filed-name (leaf filed-node) (i .1 .1) to
-      (rw (rep-stands h k) directory-is-one) (rw (map-below in-store (h .entries), leaf-below rep-entry, map-nil in-store) (get-nil filed-name)) refl
+      (keep-put (store .judge u b) (initial-store u .tree) (root ▹ rep) d (bytes "x") (leaf filed-node) (i .1 .1) to
+      (rw (leaf-here rep-node) directory-is-one) (rw (leaf-below rep-node) (get-nil (bytes "x"))) refl
       (leaf-place filed-node (entry-fits File b [] refl λ _. refl)) (omega (arith, leaf-height filed-node)) (omega (arith, initial-few u s, leaf-size filed-node))))
 
 -- ---- dominance is reading
@@ -226,8 +224,8 @@ module _ (u : Setup) (s : is-setup u ≡ true) (a b : Bounded-role) where
   -- a role whose account may read all that another's may dominates the other
   pub reading-dominates : Reads-all u a b → dominated u a b ≡ true
   reading-dominates all =
-      let d = map-place in-store (leaf (filed-entry u b)) in
-      sym (witness-readable u b a) ∙ all (witness u b) (witness-tie u b .kept) (witness-formed u b s) (root ▹ filed-name) d (witness-read u b) .reads
+      let d = map-place met (leaf (entry (filed-entry u b))) in
+      sym (witness-readable u b a) ∙ all (witness u b) (witness-tie u b .kept) (witness-formed u b s) (root ▹ bytes "x") d (witness-read u b) .reads
 
   -- so dominance is reading
   pub dominance-is-reading : (dominated u a b ≡ true → Reads-all u a b) × (Reads-all u a b → dominated u a b ≡ true)

@@ -4,11 +4,12 @@ use Prim.Native.Nat.{ℕ, suc}
 use Rattle.accounts.specs.Dominance.{Bounded-role}
 use Rattle.accounts.specs.Service.{service-uid, service-gid, service}
 use Rattle.syntax.specs.Text.{Text}
-use Rattle.syntax.specs.Path.{in-rep}
+use Rattle.syntax.specs.Number.{octal}
+use Rattle.syntax.specs.Path.{in-rep, entry-location}
 use Rattle.setup.specs.Setup.{Setup}
 use Rattle.tree.specs.declared.Kind.{Kind}
 use Rattle.tree.specs.declared.Kind.the-variants.{File, Directory}
-use Rattle.tree.specs.Forest.{Place}
+use Rattle.tree.specs.Forest.{Place, update, alter, put, drop, leaf}
 use Rattle.tree.specs.Node.{Node, set-revision, set-content}
 use Rattle.tree.specs.Walk.{by-modes}
 use Rattle.repository.specs.Machine.{Sessions, Machine}
@@ -20,37 +21,44 @@ pub record Store : Type 0 where
 
 -- an entry is a file of mode 0440 or a directory of mode 0770
 unfoldable pub entry-mode : Kind → ℕ
-entry-mode File = 288
-entry-mode Directory = 504
+entry-mode File = octal 0 4 4 0
+entry-mode Directory = octal 0 7 7 0
 
 -- an entry of a role: owner and group are the role's, no tag
 unfoldable pub entry-node : Kind → Bounded-role → ℕ → Text → Node
-entry-node kind z revision content = record {
+entry-node kind r revision content = record {
   kind = kind;
-  owner = service-uid (z .role);
-  group = service-gid (z .role);
+  owner = service-uid (r .role);
+  group = service-gid (r .role);
   mode = entry-mode kind;
   revision = revision;
   tag = none;
   content = content;
 }
 
+-- a node with new content and the next revision
+unfoldable pub next-node : Text → Node → Node
+next-node content n = set-revision (suc (n .revision)) (set-content content n)
+
+abbrev pub on-tree : (Place Node → Place Node) → Store → Store
+on-tree f s = record { tree = f (s .tree); sessions = s .sessions }
+
 abbrev pub store : Machine Store Node
 store = record {
   workspace = λ s. s .tree;
   elsewhere = λ s. 0;
   entries = λ s. s .tree;
-  judge = λ u z. by-modes (service (u .pairs) z);
+  judge = λ setup z. by-modes (service (setup .pairs) z);
   locate = in-rep;
   revision = λ n. n .revision;
   content = λ n. n .content;
-  entry = λ kind z content. entry-node kind z 1 content;
-  revise = λ content n. set-revision (suc (n .revision)) (set-content content n);
   sessions = λ s. s .sessions;
-  on-workspace = λ f s. record { tree = f (s .tree); sessions = s .sessions };
-  on-entries = λ f s. record { tree = f (s .tree); sessions = s .sessions };
-  with-sessions = λ z s. record { tree = s .tree; sessions = z };
+  file = λ e kind r content. on-tree (update (in-rep (e .folder)) (put (e .name) (leaf (entry-node kind r 1 content))));
+  revise = λ e content. on-tree (update (entry-location e) (alter (next-node content)));
+  remove = λ e. on-tree (update (in-rep (e .folder)) (drop (e .name)));
+  on-workspace = on-tree;
+  with-sessions = λ sessions s. record { tree = s .tree; sessions = sessions };
 }
 
 unfoldable pub initial-store : Setup → Store
-initial-store u = record { tree = initial-tree u; sessions = no-sessions }
+initial-store setup = record { tree = initial-tree setup; sessions = no-sessions }

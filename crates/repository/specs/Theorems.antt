@@ -32,7 +32,8 @@ use Rattle.shell.specs.Privacy.{Private, Stays, read-through}
 use Rattle.repository.specs.declared.Answer.the-variants.{Refused}
 use Rattle.repository.specs.Machine.{caller, run}
 use Rattle.repository.specs.Store.{Store, store, entry-node, initial-store}
-use Rattle.repository.specs.Abstract.{Entry, Abstract, abstract, dominated, initial-abstract, in-store, embed}
+use Rattle.repository.specs.Abstract.{Abstract, Filed, abstract, dominated, initial-abstract}
+use Rattle.repository.specs.Embedding.{met, embed}
 use Rattle.repository.specs.Calls.{Call, after, step, runs}
 use Rattle.repository.specs.Encoding.{encode, well-formed, decode}
 use Rattle.repository.specs.Bytes.{told, run-result, run-call}
@@ -97,11 +98,11 @@ pub dominance-is-reading : (u : Setup) → is-setup u ≡ true → (a b : Bounde
     (dominated u a b ≡ true → Reads-all u a b) × (Reads-all u a b → dominated u a b ≡ true)
 dominance-is-reading = Reading.dominance-is-reading
 
--- More role pairs never turn a role's permission into a refusal: at every entry an account may still pass, read and write,
-pub more-pairs-refuse-nothing : (u u′ : Setup) → is-setup u ≡ true → is-setup u′ ≡ true → More-pairs u u′ → (z : Bounded-role) (x : Entry) →
-    (store .judge u z .passes (in-store x) ≡ true → store .judge u′ z .passes (in-store x) ≡ true)
-    × (store .judge u z .readable (in-store x) ≡ true → store .judge u′ z .readable (in-store x) ≡ true)
-    × (store .judge u z .writable (in-store x) ≡ true → store .judge u′ z .writable (in-store x) ≡ true)
+-- More role pairs never turn a role's permission into a refusal: at `/rep` and at every entry an account may still pass, read and write,
+pub more-pairs-refuse-nothing : (u u′ : Setup) → is-setup u ≡ true → is-setup u′ ≡ true → More-pairs u u′ → (z : Bounded-role) (x : Filed) →
+    (store .judge u z .passes (met x) ≡ true → store .judge u′ z .passes (met x) ≡ true)
+    × (store .judge u z .readable (met x) ≡ true → store .judge u′ z .readable (met x) ≡ true)
+    × (store .judge u z .writable (met x) ≡ true → store .judge u′ z .writable (met x) ≡ true)
 more-pairs-refuse-nothing u u′ s s′ more z x = (Reading.more-passes u u′ s s′ more z x, Reading.more-readable u u′ s s′ more z x, Reading.more-writable u u′ s s′ more z x)
 
 -- and the entries that it may walk to and read it still may.

@@ -29,7 +29,7 @@ use Rattle.tree.specs.JudgeLaws.{passes-by-modes}
 use Rattle.tree.specs.Graft.{graft, Outside, Seen, Passed, update-outside, outside-here, outside-rep, seen-here, seen-alike, seen-names, seen-outside, unused-graft, walk-graft, parent-walk-graft}
 use Rattle.shell.specs.declared.Caller.{Caller}
 use Rattle.shell.specs.Caller.{owns, Outcome}
-use Rattle.shell.specs.Steps.{text-of, room, fit, make, show, overwrite, unlink, move, change-mode, change-group, change-owner, run-shell}
+use Rattle.shell.specs.Steps.{text-of, room, fit, run-create, run-read, run-write, run-rm, run-mv, run-chmod, run-chgrp, run-chown, run-shell}
 
 -- a caller without rights at `/rep`, who neither writes in `/` nor owns one of the two
 pub record Kept-out (c : Caller) (top rep-node : Node) : Type 0 where
@@ -137,31 +137,31 @@ module _ (c : Caller) (e f : Place Node) (top : Node) (out : Kept-out c top (f .
     unfolding fit
     fit-alike k = rw count
 
-    make-alike : (kind : Kind) (p : Path) (mode : ℕ) → Agree (Alike e f top) (make c m (graft e t) kind p mode) (make c m′ t kind p mode)
-    unfolding make
-    make-alike kind p mode =
+    create-alike : (kind : Kind) (p : Path) (mode : ℕ) → Agree (Alike e f top) (run-create c m (graft e t) kind p mode) (run-create c m′ t kind p mode)
+    unfolding run-create
+    create-alike kind p mode =
         bind (room-alike p) λ d d′ s.
         check Full (fit-alike 1) λ _.
         rw (s .0) (changed-alike (update-beside start (parent p) (s .1) _))
 
-    show-alike : (p : Path) → Agree (Alike e f top) (show c m (graft e t) p) (show c m′ t p)
-    unfolding show
-    show-alike p =
+    read-alike : (p : Path) → Agree (Alike e f top) (run-read c m (graft e t) p) (run-read c m′ t p)
+    unfolding run-read
+    read-alike p =
         bind (walk-alike p) λ d d′ s.
         check Access (test (allows (c .account) R) s) λ i.
         both (record { text = ap some (text-alike s i); state = start })
 
-    overwrite-alike : (p : Path) (content : Text) → Agree (Alike e f top) (overwrite c m (graft e t) p content) (overwrite c m′ t p content)
-    unfolding overwrite
-    overwrite-alike p content =
+    write-alike : (p : Path) (content : Text) → Agree (Alike e f top) (run-write c m (graft e t) p content) (run-write c m′ t p content)
+    unfolding run-write
+    write-alike p content =
         bind (walk-alike p) λ d d′ s.
         check WrongKind (test (λ n. not (is-directory (n .kind))) s) λ i.
         check Access (test (allows (c .account) W) s) λ _.
         changed-alike (update-beside start p (file-outside s i) _)
 
-    unlink-alike : (kind : Kind) (p : Path) → Agree (Alike e f top) (unlink c m (graft e t) kind p) (unlink c m′ t kind p)
-    unfolding unlink
-    unlink-alike kind p =
+    rm-alike : (kind : Kind) (p : Path) → Agree (Alike e f top) (run-rm c m (graft e t) kind p) (run-rm c m′ t kind p)
+    unfolding run-rm
+    rm-alike kind p =
         check Reserved refl λ i.
         bind (walk-alike p) λ d d′ s.
         check WrongKind (test (λ n. same-kind (n .kind) kind) s) λ _.
@@ -170,9 +170,9 @@ module _ (c : Caller) (e f : Place Node) (top : Node) (out : Kept-out c top (f .
         check NotEmpty (ap (λ b. is-empty (b .below)) (seen-alike s (not-true (reserved p) i))) λ _.
         changed-alike (update-beside start (parent p) (writes-outside u w) _)
 
-    move-alike : (a b : Path) → Agree (Alike e f top) (move c m (graft e t) a b) (move c m′ t a b)
-    unfolding move
-    move-alike a b =
+    mv-alike : (a b : Path) → Agree (Alike e f top) (run-mv c m (graft e t) a b) (run-mv c m′ t a b)
+    unfolding run-mv
+    mv-alike a b =
         check Reserved refl λ i.
         bind (walk-alike a) λ d d′ s.
         bind (parent-walk-alike b) λ k k′ u.
@@ -185,37 +185,37 @@ module _ (c : Caller) (e f : Place Node) (top : Node) (out : Kept-out c top (f .
         check TooDeep refl λ _.
         changed-alike (update-beside (update-beside start (parent a) (writes-outside v w) _) (parent b) (writes-outside (u .seen) x) _))
 
-    change-mode-alike : (p : Path) (mode : ℕ) → Agree (Alike e f top) (change-mode c m (graft e t) p mode) (change-mode c m′ t p mode)
-    unfolding change-mode
-    change-mode-alike p mode =
+    chmod-alike : (p : Path) (mode : ℕ) → Agree (Alike e f top) (run-chmod c m (graft e t) p mode) (run-chmod c m′ t p mode)
+    unfolding run-chmod
+    chmod-alike p mode =
         bind (walk-alike p) λ d d′ s.
         check WrongKind (test (λ n. is-directory (n .kind) || not (set-gid mode)) s) λ _.
         check Reserved (test (owns (c .account)) s) λ i.
         changed-alike (update-beside start p (owned-outside s i) _)
 
-    change-group-alike : (p : Path) (group : Gid) → Agree (Alike e f top) (change-group c m (graft e t) p group) (change-group c m′ t p group)
-    unfolding change-group owns
-    change-group-alike p group =
+    chgrp-alike : (p : Path) (group : Gid) → Agree (Alike e f top) (run-chgrp c m (graft e t) p group) (run-chgrp c m′ t p group)
+    unfolding run-chgrp owns
+    chgrp-alike p group =
         bind (walk-alike p) λ d d′ s.
         check Reserved (test (λ n. is-root (c .account .uid) || (same-uid (c .account .uid) (n .owner) && member group (c .account .groups))) s) λ i.
         changed-alike (update-beside start p (owned-outside s (weaker (is-root (c .account .uid)) _ _ i)) _)
 
-    change-owner-alike : (p : Path) (owner : Uid) → Agree (Alike e f top) (change-owner c m (graft e t) p owner) (change-owner c m′ t p owner)
-    unfolding change-owner
-    change-owner-alike p owner =
+    chown-alike : (p : Path) (owner : Uid) → Agree (Alike e f top) (run-chown c m (graft e t) p owner) (run-chown c m′ t p owner)
+    unfolding run-chown
+    chown-alike p owner =
         bind (walk-alike p) λ d d′ s.
         check Reserved refl λ i. contra i (out .not-root)
 
     -- a shell command answers the same, and leaves the two trees so
     pub run-shell-alike : (command : Shell-command) → Agree (Alike e f top) (run-shell c m (graft e t) command) (run-shell c m′ t command)
     unfolding run-shell
-    run-shell-alike (create p mode) = make-alike File p mode
-    run-shell-alike (mkdir p mode) = make-alike Directory p mode
-    run-shell-alike (read p) = show-alike p
-    run-shell-alike (write p content) = overwrite-alike p content
-    run-shell-alike (rm p) = unlink-alike File p
-    run-shell-alike (rmdir p) = unlink-alike Directory p
-    run-shell-alike (mv a b) = move-alike a b
-    run-shell-alike (chmod p mode) = change-mode-alike p mode
-    run-shell-alike (chgrp p group) = change-group-alike p group
-    run-shell-alike (chown p owner) = change-owner-alike p owner
+    run-shell-alike (create p mode) = create-alike File p mode
+    run-shell-alike (mkdir p mode) = create-alike Directory p mode
+    run-shell-alike (read p) = read-alike p
+    run-shell-alike (write p content) = write-alike p content
+    run-shell-alike (rm p) = rm-alike File p
+    run-shell-alike (rmdir p) = rm-alike Directory p
+    run-shell-alike (mv a b) = mv-alike a b
+    run-shell-alike (chmod p mode) = chmod-alike p mode
+    run-shell-alike (chgrp p group) = chgrp-alike p group
+    run-shell-alike (chown p owner) = chown-alike p owner

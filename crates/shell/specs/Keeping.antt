@@ -33,7 +33,7 @@ use Rattle.tree.specs.WellFormedLaws.{most-nodes-is, place-node, leaf-place, en
 use Rattle.tree.specs.ChangeLaws.{keep-alter, keep-put, keep-drop, keep-move}
 use Rattle.shell.specs.declared.Caller.{Caller}
 use Rattle.shell.specs.Caller.{new-node, Outcome}
-use Rattle.shell.specs.Steps.{room, fit, make, show, overwrite, unlink, move, change-mode, change-group, change-owner, run-shell}
+use Rattle.shell.specs.Steps.{room, fit, run-create, run-read, run-write, run-rm, run-mv, run-chmod, run-chgrp, run-chown, run-shell}
 
 -- a caller whose account and primary group are in range
 unfoldable pub is-caller : Caller → Bool
@@ -93,34 +93,34 @@ module _ (c : Caller) (m : ℕ) (t : Place Node) where
     node-at : (p : Path) (d : Place Node) → walk (by-modes (c .account)) t p ≡ done d → is-node (d .here) ≡ true
     node-at p d e = place-node d (walked-place (by-modes (c .account)) t p d h e)
 
-    make-keeps : (kind : Kind) (p : Path) (mode : ℕ) → is-path p ≡ true → is-mode mode ≡ true → (is-directory kind || not (set-gid mode)) ≡ true → Keeps (make c m t kind p mode)
-    unfolding make
-    make-keeps kind p mode a b g =
+    create-keeps : (kind : Kind) (p : Path) (mode : ℕ) → is-path p ≡ true → is-mode mode ≡ true → (is-directory kind || not (set-gid mode)) ≡ true → Keeps (run-create c m t kind p mode)
+    unfolding run-create
+    create-keeps kind p mode a b g =
         after-do _ λ d e.
         after-check Full _ λ f.
         let x = new-node c (d .here) kind mode in
         ensured (room-keeps p d (leaf x) h a e (leaf-place x (new-node-fits c (d .here) kind mode o (node-at (parent p) d (room-found p d e .0)) b g))
         (omega (arith, leaf-height x, path-depth p a)) (omega (arith, leaf-size x, fit-most 1 f)))
 
-    show-keeps : (p : Path) → Keeps (show c m t p)
-    unfolding show
-    show-keeps p =
+    read-keeps : (p : Path) → Keeps (run-read c m t p)
+    unfolding run-read
+    read-keeps p =
         after-do _ λ d _.
         after-check Access _ λ _.
         ensured h
 
-    overwrite-keeps : (p : Path) (content : Text) → is-content content ≡ true → Keeps (overwrite c m t p content)
-    unfolding overwrite
-    overwrite-keeps p content a =
+    write-keeps : (p : Path) (content : Text) → is-content content ≡ true → Keeps (run-write c m t p content)
+    unfolding run-write
+    write-keeps p content a =
         after-do _ λ d e.
         after-check WrongKind _ λ b.
         after-check Access _ λ _.
         ensured (keep-alter (by-modes (c .account)) t p d (set-content content) h e
         (node-of-content content (d .here) (node-at p d e) (not-true (is-directory (d .here .kind)) b) a) (kind-of-set-content content (d .here)))
 
-    unlink-keeps : (kind : Kind) (p : Path) → Keeps (unlink c m t kind p)
-    unfolding unlink
-    unlink-keeps kind p =
+    rm-keeps : (kind : Kind) (p : Path) → Keeps (run-rm c m t kind p)
+    unfolding run-rm
+    rm-keeps kind p =
         after-check Reserved _ λ _.
         after-do _ λ d _.
         after-check WrongKind _ λ _.
@@ -129,10 +129,10 @@ module _ (c : Caller) (m : ℕ) (t : Place Node) where
         after-check NotEmpty _ λ _.
         ensured (keep-drop t (parent p) (last p) h)
 
-    move-keeps : (a b : Path) → is-path b ≡ true → Keeps (move c m t a b)
-    unfolding move reserved parent last most-names
-    move-keeps root b g = after-check Reserved _ λ i. contra refl (sym i)
-    move-keeps (a ▹ n) b g =
+    mv-keeps : (a b : Path) → is-path b ≡ true → Keeps (run-mv c m t a b)
+    unfolding run-mv reserved parent last most-names
+    mv-keeps root b g = after-check Reserved _ λ i. contra refl (sym i)
+    mv-keeps (a ▹ n) b g =
         after-check Reserved _ λ i.
         after-do _ λ d e.
         after-do _ λ f k.
@@ -148,26 +148,26 @@ module _ (c : Caller) (m : ℕ) (t : Place Node) where
         (was-unused (last b) (f .below) free) (last-is-name b g top)
         (omega (arith, parent-depth b top, leb-true (depth b + height (d .below)) 6 l)))
 
-    change-mode-keeps : (p : Path) (mode : ℕ) → is-mode mode ≡ true → Keeps (change-mode c m t p mode)
-    unfolding change-mode
-    change-mode-keeps p mode a =
+    chmod-keeps : (p : Path) (mode : ℕ) → is-mode mode ≡ true → Keeps (run-chmod c m t p mode)
+    unfolding run-chmod
+    chmod-keeps p mode a =
         after-do _ λ d e.
         after-check WrongKind _ λ b.
         after-check Reserved _ λ _.
         ensured (keep-alter (by-modes (c .account)) t p d (set-mode mode) h e
         (node-of-mode mode (d .here) (node-at p d e) a b) (kind-of-set-mode mode (d .here)))
 
-    change-group-keeps : (p : Path) (group : Gid) → ltb (group .0) 25 ≡ true → Keeps (change-group c m t p group)
-    unfolding change-group
-    change-group-keeps p group a =
+    chgrp-keeps : (p : Path) (group : Gid) → ltb (group .0) 25 ≡ true → Keeps (run-chgrp c m t p group)
+    unfolding run-chgrp
+    chgrp-keeps p group a =
         after-do _ λ d e.
         after-check Reserved _ λ _.
         ensured (keep-alter (by-modes (c .account)) t p d (set-group group) h e
         (node-of-group group (d .here) (node-at p d e) a) (kind-of-set-group group (d .here)))
 
-    change-owner-keeps : (p : Path) (owner : Uid) → ltb (owner .0) 24 ≡ true → Keeps (change-owner c m t p owner)
-    unfolding change-owner
-    change-owner-keeps p owner a =
+    chown-keeps : (p : Path) (owner : Uid) → ltb (owner .0) 24 ≡ true → Keeps (run-chown c m t p owner)
+    unfolding run-chown
+    chown-keeps p owner a =
         after-do _ λ d e.
         after-check Reserved _ λ _.
         ensured (keep-alter (by-modes (c .account)) t p d (set-owner owner) h e
@@ -179,13 +179,13 @@ module _ (c : Caller) (m : ℕ) (t : Place Node) where
     run-shell-keeps (create p mode) k =
         let i = and-both (is-path p) (ltb mode 512) k in
         let j = plain-mode-fits mode (i .1) in
-        make-keeps File p mode (i .0) (j .0) (rw (file-is-none, j .1))
-    run-shell-keeps (mkdir p mode) k = let i = and-both (is-path p) (is-mode mode) k in make-keeps Directory p mode (i .0) (i .1) (rw directory-is-one)
-    run-shell-keeps (read p) k = show-keeps p
-    run-shell-keeps (write p content) k = overwrite-keeps p content (and-both (is-path p) (is-content content) k .1)
-    run-shell-keeps (rm p) k = unlink-keeps File p
-    run-shell-keeps (rmdir p) k = unlink-keeps Directory p
-    run-shell-keeps (mv a b) k = move-keeps a b (and-both (is-path a) (is-path b) k .1)
-    run-shell-keeps (chmod p mode) k = change-mode-keeps p mode (and-both (is-path p) (is-mode mode) k .1)
-    run-shell-keeps (chgrp p group) k = change-group-keeps p group (and-both (is-path p) (ltb (group .0) 25) k .1)
-    run-shell-keeps (chown p owner) k = change-owner-keeps p owner (and-both (is-path p) (ltb (owner .0) 24) k .1)
+        create-keeps File p mode (i .0) (j .0) (rw (file-is-none, j .1))
+    run-shell-keeps (mkdir p mode) k = let i = and-both (is-path p) (is-mode mode) k in create-keeps Directory p mode (i .0) (i .1) (rw directory-is-one)
+    run-shell-keeps (read p) k = read-keeps p
+    run-shell-keeps (write p content) k = write-keeps p content (and-both (is-path p) (is-content content) k .1)
+    run-shell-keeps (rm p) k = rm-keeps File p
+    run-shell-keeps (rmdir p) k = rm-keeps Directory p
+    run-shell-keeps (mv a b) k = mv-keeps a b (and-both (is-path a) (is-path b) k .1)
+    run-shell-keeps (chmod p mode) k = chmod-keeps p mode (and-both (is-path p) (is-mode mode) k .1)
+    run-shell-keeps (chgrp p group) k = chgrp-keeps p group (and-both (is-path p) (ltb (group .0) 25) k .1)
+    run-shell-keeps (chown p owner) k = chown-keeps p owner (and-both (is-path p) (ltb (owner .0) 24) k .1)

@@ -15,6 +15,7 @@ use Rattle.accounts.specs.declared.Account.{Account}
 use Rattle.accounts.specs.Access.{is-root, same-uid, may-group, may-other, grants-none}
 use Rattle.accounts.specs.Cases.{case, contra}
 use Rattle.syntax.specs.Text.{Text}
+use Rattle.syntax.specs.Number.{octal}
 use Rattle.syntax.specs.Path.{Name, Path, root, _▹_, parent, last, same-path, within, reserved}
 use Rattle.commands.specs.Command.{Shell-command, create, mkdir, read, write, rm, rmdir, mv, chmod, chgrp, chown}
 use Rattle.tree.specs.declared.Kind.{Kind}
@@ -33,13 +34,13 @@ use Rattle.tree.specs.UpdateLaws.{at-child, walked-at}
 use Rattle.tree.specs.PathLaws.{alter-keeps, put-keeps, drop-empty-keeps, move-keeps, walk-outside, walk-shut}
 use Rattle.shell.specs.declared.Caller.{Caller}
 use Rattle.shell.specs.Caller.{owns}
-use Rattle.shell.specs.Steps.{room, make, show, overwrite, unlink, move, change-mode, change-group, change-owner, run-shell}
+use Rattle.shell.specs.Steps.{room, run-create, run-read, run-write, run-rm, run-mv, run-chmod, run-chgrp, run-chown, run-shell}
 
 -- a directory of mode 0700, for an account that is neither its owner nor root
 pub record Private (a : Account) (d : Place Node) : Type 0 where
   pub not-root : is-root (a .uid) ≡ false
   pub foreign : same-uid (a .uid) (d .here .owner) ≡ false
-  pub mode : d .here .mode ≡ 448
+  pub mode : d .here .mode ≡ octal 0 7 0 0
   pub directory : is-directory (d .here .kind) ≡ true
 
 -- nothing lies below the place d, or it stands in the tree t with all that lies below it
@@ -49,8 +50,8 @@ Stays d t = (is-empty (d .below) ≡ true) ⊎ ((q : Path) × (place-at t q ≡ 
 -- the account has no right there
 pub private-shut : {a : Account} {d : Place Node} → Private a d → (t : Right) → allows a t (d .here) ≡ false
 private-shut {a} {d} v t = rw (allows-is a (d .here) t, v .mode) (case (member (d .here .group) (a .groups))
-    (λ i. may-group a t (d .here .owner) (d .here .group) 448 (v .not-root) (v .foreign) i ∙ grants-none t)
-    (λ i. may-other a t (d .here .owner) (d .here .group) 448 (v .not-root) (v .foreign) i ∙ grants-none t))
+    (λ i. may-group a t (d .here .owner) (d .here .group) (octal 0 7 0 0) (v .not-root) (v .foreign) i ∙ grants-none t)
+    (λ i. may-other a t (d .here .owner) (d .here .group) (octal 0 7 0 0) (v .not-root) (v .foreign) i ∙ grants-none t))
 
 -- nor is the directory the account's
 pub private-foreign : {a : Account} {d : Place Node} → Private a d → owns a (d .here) ≡ false
@@ -93,7 +94,7 @@ module _ (c : Caller) (m : ℕ) (t : Place Node) (p : Path) (d : Place Node) whe
   -- the reading of what stands below it is refused too
   pub read-through : is-tree t ≡ true → place-at t p ≡ some d → Private (c .account) d
       → (q : Path) → within p q ≡ true → same-path p q ≡ false → run-shell c m t (read q) ≡ refused Access
-  unfolding run-shell show
+  unfolding run-shell run-read
   read-through h there v q i o = rw (walk-through t p d h there v q i o, refused-bind)
 
   module _ (there : place-at t p ≡ some d) (v : Private (c .account) d) where
@@ -107,32 +108,32 @@ module _ (c : Caller) (m : ℕ) (t : Place Node) (p : Path) (d : Place Node) whe
         after-check Access _ λ b.
         ensured (put-private t p d there v q e w n b)
 
-    make-private : (kind : Kind) (q : Path) (mode : ℕ) → Ensures (λ o. Stays d (o .state)) (make c m t kind q mode)
-    unfolding make
-    make-private kind q mode =
+    create-private : (kind : Kind) (q : Path) (mode : ℕ) → Ensures (λ o. Stays d (o .state)) (run-create c m t kind q mode)
+    unfolding run-create
+    create-private kind q mode =
         after-facts (room-private q) λ e k.
         after-check Full _ λ _.
         ensured (inr (p, k _))
 
-    show-private : (q : Path) → Ensures (λ o. Stays d (o .state)) (show c m t q)
-    unfolding show
-    show-private q =
+    read-private : (q : Path) → Ensures (λ o. Stays d (o .state)) (run-read c m t q)
+    unfolding run-read
+    read-private q =
         after-do (walk (by-modes (c .account)) t q) λ e w.
         after-check Access _ λ _.
         ensured (inr (p, there))
 
-    overwrite-private : (q : Path) (content : Text) → Ensures (λ o. Stays d (o .state)) (overwrite c m t q content)
-    unfolding overwrite
-    overwrite-private q content =
+    write-private : (q : Path) (content : Text) → Ensures (λ o. Stays d (o .state)) (run-write c m t q content)
+    unfolding run-write
+    write-private q content =
         after-do (walk (by-modes (c .account)) t q) λ e w.
         after-check WrongKind _ λ _.
         after-check Access _ λ b.
         ensured (inr (p, alter-keeps t p d q (set-content content) there (written-outside t p d there v q e w b)))
 
-    unlink-private : (kind : Kind) (q : Path) → Ensures (λ o. Stays d (o .state)) (unlink c m t kind q)
-    unfolding unlink reserved parent last
-    unlink-private kind root = after-check Reserved _ λ i. contra i refl
-    unlink-private kind (q ▹ n) =
+    rm-private : (kind : Kind) (q : Path) → Ensures (λ o. Stays d (o .state)) (run-rm c m t kind q)
+    unfolding run-rm reserved parent last
+    rm-private kind root = after-check Reserved _ λ i. contra i refl
+    rm-private kind (q ▹ n) =
         after-check Reserved _ λ _.
         after-do (walk (by-modes (c .account)) t (q ▹ n)) λ x w.
         after-check WrongKind _ λ _.
@@ -141,11 +142,11 @@ module _ (c : Caller) (m : ℕ) (t : Place Node) (p : Path) (d : Place Node) whe
         after-check NotEmpty _ λ z.
         ensured (drop-private t p d there v q n x e w s b z)
 
-    move-private : (a b : Path) → Ensures (λ o. Stays d (o .state)) (move c m t a b)
-    unfolding move reserved parent last
-    move-private root b = after-check Reserved _ λ i. contra i refl
-    move-private (q ▹ n) root = after-check Reserved _ λ i. contra i (ap not (or-true (reserved (q ▹ n))))
-    move-private (q ▹ n) (r ▹ k) =
+    mv-private : (a b : Path) → Ensures (λ o. Stays d (o .state)) (run-mv c m t a b)
+    unfolding run-mv reserved parent last
+    mv-private root b = after-check Reserved _ λ i. contra i refl
+    mv-private (q ▹ n) root = after-check Reserved _ λ i. contra i (ap not (or-true (reserved (q ▹ n))))
+    mv-private (q ▹ n) (r ▹ k) =
         after-check Reserved _ λ _.
         after-do (walk (by-modes (c .account)) t (q ▹ n)) λ x w.
         after-do (parent-walk (by-modes (c .account)) t (r ▹ k)) λ f s.
@@ -160,17 +161,17 @@ module _ (c : Caller) (m : ℕ) (t : Place Node) (p : Path) (d : Place Node) whe
         ensured (inr (move-keeps t p d q n x r f k there (written-outside t p d there v q e i b) (written-outside t p d there v r f l g)
         (walked-at t (by-modes (c .account)) (q ▹ n) x w) h (at-child t r k f h ∙ was-unused k (f .below) u) (not-true (within (q ▹ n) (r ▹ k)) o)))
 
-    change-mode-private : (q : Path) (mode : ℕ) → Ensures (λ o. Stays d (o .state)) (change-mode c m t q mode)
-    unfolding change-mode
-    change-mode-private q mode =
+    chmod-private : (q : Path) (mode : ℕ) → Ensures (λ o. Stays d (o .state)) (run-chmod c m t q mode)
+    unfolding run-chmod
+    chmod-private q mode =
         after-do (walk (by-modes (c .account)) t q) λ e w.
         after-check WrongKind _ λ _.
         after-check Reserved _ λ b.
         ensured (inr (p, alter-keeps t p d q (set-mode mode) there (private-outside t p d there v (owns (c .account)) (private-foreign v) q e w b)))
 
-    change-group-private : (q : Path) (group : Gid) → Ensures (λ o. Stays d (o .state)) (change-group c m t q group)
-    unfolding change-group
-    change-group-private q group =
+    chgrp-private : (q : Path) (group : Gid) → Ensures (λ o. Stays d (o .state)) (run-chgrp c m t q group)
+    unfolding run-chgrp
+    chgrp-private q group =
         after-do (walk (by-modes (c .account)) t q) λ e w.
         after-check Reserved _ λ b.
         ensured (inr (
@@ -179,22 +180,22 @@ module _ (c : Caller) (m : ℕ) (t : Place Node) (p : Path) (d : Place Node) whe
               (λ n. is-root (c .account .uid) || (same-uid (c .account .uid) (n .owner) && member group (c .account .groups))) (rw (v .not-root, v .foreign)) q e w b),
         ))
 
-    change-owner-private : (q : Path) (owner : Uid) → Ensures (λ o. Stays d (o .state)) (change-owner c m t q owner)
-    unfolding change-owner
-    change-owner-private q owner =
+    chown-private : (q : Path) (owner : Uid) → Ensures (λ o. Stays d (o .state)) (run-chown c m t q owner)
+    unfolding run-chown
+    chown-private q owner =
         after-do (walk (by-modes (c .account)) t q) λ e w.
         after-check Reserved _ λ b. contra b (v .not-root)
 
     -- every shell command leaves the directory with all that lies below it
     pub run-shell-private : (command : Shell-command) → Ensures (λ o. Stays d (o .state)) (run-shell c m t command)
     unfolding run-shell
-    run-shell-private (create q mode) = make-private File q mode
-    run-shell-private (mkdir q mode) = make-private Directory q mode
-    run-shell-private (read q) = show-private q
-    run-shell-private (write q content) = overwrite-private q content
-    run-shell-private (rm q) = unlink-private File q
-    run-shell-private (rmdir q) = unlink-private Directory q
-    run-shell-private (mv a b) = move-private a b
-    run-shell-private (chmod q mode) = change-mode-private q mode
-    run-shell-private (chgrp q group) = change-group-private q group
-    run-shell-private (chown q owner) = change-owner-private q owner
+    run-shell-private (create q mode) = create-private File q mode
+    run-shell-private (mkdir q mode) = create-private Directory q mode
+    run-shell-private (read q) = read-private q
+    run-shell-private (write q content) = write-private q content
+    run-shell-private (rm q) = rm-private File q
+    run-shell-private (rmdir q) = rm-private Directory q
+    run-shell-private (mv a b) = mv-private a b
+    run-shell-private (chmod q mode) = chmod-private q mode
+    run-shell-private (chgrp q group) = chgrp-private q group
+    run-shell-private (chown q owner) = chown-private q owner

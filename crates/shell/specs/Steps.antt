@@ -59,27 +59,29 @@ module _ (c : Caller) (elsewhere : ℕ) (t : Place Node) where
   unfoldable pub fit : ℕ → Bool
   fit more = leb (nodes t + elsewhere + more) most-nodes
 
-  unfoldable pub make : Kind → Path → ℕ → Result (Outcome (Place Node))
-  make kind p mode = do
+  -- `create` makes a file, `mkdir` a directory
+  unfoldable pub run-create : Kind → Path → ℕ → Result (Outcome (Place Node))
+  run-create kind p mode = do
     d ← room p
     require (fit 1) Full
     changed (parent p) (put (last p) (leaf (new-node c (d .here) kind mode)))
 
-  unfoldable pub show : Path → Result (Outcome (Place Node))
-  show p = do
+  unfoldable pub run-read : Path → Result (Outcome (Place Node))
+  run-read p = do
     d ← walks p
     require (can R d) Access
     done (record { text = some (text-of d); state = t })
 
-  unfoldable pub overwrite : Path → Text → Result (Outcome (Place Node))
-  overwrite p content = do
+  unfoldable pub run-write : Path → Text → Result (Outcome (Place Node))
+  run-write p content = do
     d ← walks p
     require (not (is-directory (d .here .kind))) WrongKind
     require (can W d) Access
     changed p (alter (set-content content))
 
-  unfoldable pub unlink : Kind → Path → Result (Outcome (Place Node))
-  unlink kind p = do
+  -- `rm` takes a file out, `rmdir` a directory
+  unfoldable pub run-rm : Kind → Path → Result (Outcome (Place Node))
+  run-rm kind p = do
     require (not (reserved p)) Reserved
     d ← walks p
     require (same-kind (d .here .kind) kind) WrongKind
@@ -88,8 +90,8 @@ module _ (c : Caller) (elsewhere : ℕ) (t : Place Node) where
     require (is-empty (d .below)) NotEmpty
     changed (parent p) (drop (last p))
 
-  unfoldable pub move : Path → Path → Result (Outcome (Place Node))
-  move a b = do
+  unfoldable pub run-mv : Path → Path → Result (Outcome (Place Node))
+  run-mv a b = do
     require (not (reserved a || reserved b)) Reserved
     d ← walks a
     f ← parent-walks b
@@ -101,34 +103,34 @@ module _ (c : Caller) (elsewhere : ℕ) (t : Place Node) where
     require (leb (depth b + height (d .below)) most-names) TooDeep
     done (record { text = none; state = update (parent b) (put (last b) d) (update (parent a) (drop (last a)) t) })
 
-  unfoldable pub change-mode : Path → ℕ → Result (Outcome (Place Node))
-  change-mode p mode = do
+  unfoldable pub run-chmod : Path → ℕ → Result (Outcome (Place Node))
+  run-chmod p mode = do
     d ← walks p
     require (is-directory (d .here .kind) || not (set-gid mode)) WrongKind
     require (owns (c .account) (d .here)) Reserved
     changed p (alter (set-mode mode))
 
   -- root may give any group, an owner any of the own groups
-  unfoldable pub change-group : Path → Gid → Result (Outcome (Place Node))
-  change-group p group = do
+  unfoldable pub run-chgrp : Path → Gid → Result (Outcome (Place Node))
+  run-chgrp p group = do
     d ← walks p
     require (is-root (c .account .uid) || (same-uid (c .account .uid) (d .here .owner) && member group (c .account .groups))) Reserved
     changed p (alter (set-group group))
 
-  unfoldable pub change-owner : Path → Uid → Result (Outcome (Place Node))
-  change-owner p owner = do
+  unfoldable pub run-chown : Path → Uid → Result (Outcome (Place Node))
+  run-chown p owner = do
     d ← walks p
     require (is-root (c .account .uid)) Reserved
     changed p (alter (set-owner owner))
 
   unfoldable pub run-shell : Shell-command → Result (Outcome (Place Node))
-  run-shell (create p mode) = make File p mode
-  run-shell (mkdir p mode) = make Directory p mode
-  run-shell (read p) = show p
-  run-shell (write p content) = overwrite p content
-  run-shell (rm p) = unlink File p
-  run-shell (rmdir p) = unlink Directory p
-  run-shell (mv a b) = move a b
-  run-shell (chmod p mode) = change-mode p mode
-  run-shell (chgrp p group) = change-group p group
-  run-shell (chown p owner) = change-owner p owner
+  run-shell (create p mode) = run-create File p mode
+  run-shell (mkdir p mode) = run-create Directory p mode
+  run-shell (read p) = run-read p
+  run-shell (write p content) = run-write p content
+  run-shell (rm p) = run-rm File p
+  run-shell (rmdir p) = run-rm Directory p
+  run-shell (mv a b) = run-mv a b
+  run-shell (chmod p mode) = run-chmod p mode
+  run-shell (chgrp p group) = run-chgrp p group
+  run-shell (chown p owner) = run-chown p owner

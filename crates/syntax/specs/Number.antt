@@ -52,6 +52,10 @@ set-gid m = eqb (m / 512) 2
 unfoldable pub is-mode : ℕ → Bool
 is-mode m = ltb m 512 || set-gid m
 
+-- the mode of four octal digits
+abbrev pub octal : ℕ → ℕ → ℕ → ℕ → ℕ
+octal a b c d = ((a * 8 + b) * 8 + c) * 8 + d
+
 -- digits in front of a text, least significant first; at most `fuel` of them
 unfoldable pub digits-before : ℕ → ℕ → Text → Text
 digits-before zero n t = t

@@ -55,6 +55,11 @@ unfoldable pub update : {A : Type 0} → Path → (Place A → Place A) → Plac
 update root f d = f d
 update (p ▹ n) f d = update p (under (at n f)) d
 
+-- the children of the place at a path changed by g, in a forest that stands below a place
+unfoldable pub update-forest : {A : Type 0} → Path → (Forest A → Forest A) → Forest A → Forest A
+update-forest root g f = g f
+update-forest (p ▹ n) g f = update-forest p (at n (under g)) f
+
 -- the place at a path, if there is one
 unfoldable pub place-at : {A : Type 0} → Place A → Path → Option (Place A)
 place-at t root = some t
@@ -96,3 +101,7 @@ map-forest g (node n x cs rest) = node n (g x) (map-forest g cs) (map-forest g r
 
 unfoldable pub map-place : {A B : Type 0} → (A → B) → Place A → Place B
 map-place g d = record { here = g (d .here); below = map-forest g (d .below) }
+
+-- a place with the payload x above a forest whose payloads are mapped
+unfoldable pub rooted : {A B : Type 0} → (A → B) → B → Forest A → Place B
+rooted g x f = record { here = x; below = map-forest g f }

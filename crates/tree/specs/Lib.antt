@@ -4,6 +4,7 @@ pub mod ResultLaws
 pub mod Agree
 pub mod Forest
 pub mod ForestLaws
+pub mod RootedLaws
 pub mod Node
 pub mod Walk
 pub mod StepLaws
