@@ -5,12 +5,13 @@ use mathlib.Core.Option.{some}
 use mathlib.Core.Bool.{Bool, true, false, _&&_, _||_, not}
 use Prim.Native.Nat.{ℕ, suc, _+_, _-_, _*_, _/_, _≤_, _<_, _%_}
 use native.Mathlib.Omega.{arith}
-use borrow.Author.Tests.{eqb-true, eq-eqb, ne-eqb, ltb-true, lt-ltb, leb-true, not-true}
+use borrow.Author.Tests.{eqb-true, eq-eqb, ne-eqb, lt-ltb, leb-true, not-true}
 use lib.Dec.{eqb, leb, ltb}
 use lib.ListN.{length}
 use Rattle.accounts.specs.Cases.{case, and-both, contra}
 use Rattle.syntax.specs.Text.{Text, every}
 use Rattle.syntax.specs.Number.{digit, value-after, decimal, between, mode-digits, mode, set-gid, is-mode}
+use Rattle.syntax.specs.NumberLaws.{digit-bounds}
 use Rattle.syntax.specs.Form.{_>>=_, _>>_, check}
 use Rattle.syntax.specs.Path.{is-name}
 use Rattle.syntax.specs.Field.{uid, gid, plain-mode, password, content-limit, content-byte, is-content, content}
@@ -44,13 +45,6 @@ uid-gives = number-gives (λ u. ltb (u .0) 24) 0 23 (λ n. record { 0 = n }) (wi
 pub gid-gives : Gives gid (λ g. ltb (g .0) 25)
 unfolding gid
 gid-gives = number-gives (λ g. ltb (g .0) 25) 0 24 (λ n. record { 0 = n }) (within-bound 0 24)
-
--- the bounds of a digit
-digit-bounds : (base b : ℕ) → digit base b ≡ true → (48 ≤ b) × (b < 48 + base)
-unfolding digit
-digit-bounds base b h =
-    let i : _ = and-both (leb 48 b) (ltb b (48 + base)) h in
-    (leb-true 48 b (i .0), ltb-true b (48 + base) (i .1))
 
 -- three octal digits after a number
 three-digits : (n : ℕ) (ds : Text) → every (digit 8) ds ≡ true → length ds ≡ 3 →

@@ -3,6 +3,7 @@ pub mod TextLaws
 pub mod Number
 pub mod Form
 pub mod FormLaws
+pub mod NumberLaws
 pub mod Path
 pub mod PathLaws
 pub mod WithinLaws
