@@ -112,14 +112,18 @@ content-byte-from : (b : ℕ) → content-byte b ≡ true → 32 ≤ b
 unfolding content-byte
 content-byte-from b h = leb-true 32 b (and-both (leb 32 b) (leb b 126) (and-both _ (not (eqb b 44)) h .0) .0)
 
+-- content is at most 64 bytes
+pub content-length : (c : Text) → is-content c ≡ true → length c ≤ 64
+unfolding is-content content-limit
+content-length c h = leb-true (length c) 64 (and-both (every content-byte c) (leb (length c) 64) h .1)
+
 -- content fits the 80 bytes of a node and has no zero byte
 pub content-fits : (c : Text) → is-content c ≡ true → (length c ≤ 80) × (lacks 0 c ≡ true)
-unfolding is-content content-limit lacks
-content-fits c h =
-    let i : _ = and-both (every content-byte c) (leb (length c) 64) h in (
-      omega (arith, leb-true (length c) 64 (i .1)),
-      every-implies content-byte (λ b. not (eqb b 0)) (λ b t. rw (ne-eqb b 0 (λ e. omega (arith, content-byte-from b t)))) c (i .0),
-    )
+unfolding is-content lacks
+content-fits c h = (
+  omega (arith, content-length c h),
+  every-implies content-byte (λ b. not (eqb b 0)) (λ b t. rw (ne-eqb b 0 (λ e. omega (arith, content-byte-from b t)))) c (and-both (every content-byte c) _ h .0),
+)
 
 -- a number that is read is in range, and fits a byte
 pub read-range : (low high n : ℕ) (t : Text) → some n ≡ between low high t → (low ≤ n) × (n ≤ high)

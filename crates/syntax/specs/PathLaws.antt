@@ -191,13 +191,19 @@ names-text-fits (p ▹ n) h =
     let f : _ = name-fits n (i .1) in
     (rw (length-append (names-text p) (47 ∷ n)) (omega (arith, r .0, f .0)), rw (every-append (λ c. not (eqb c 0)) (names-text p) (47 ∷ n), r .1, f .1))
 
--- the text of an entry path fits the 54 bytes of a tag and has no zero byte
+-- the text of a path fits 54 bytes and has no zero byte
+pub path-text-fits : (p : Path) → is-path p ≡ true → (length (path-text p) ≤ 54) × (lacks 0 (path-text p) ≡ true)
+unfolding path-text is-path most-names
+path-text-fits root h = unfold bytes lacks every in (omega arith, refl)
+path-text-fits (p ▹ n) h =
+    let i : _ = and-both (has-names (p ▹ n)) (leb (depth (p ▹ n)) 6) h in
+    let r : _ = names-text-fits (p ▹ n) (i .0) in
+    (omega (arith, r .0, leb-true (depth (p ▹ n)) 6 (i .1)), r .1)
+
+-- so the text of an entry path fits a tag
 pub entry-text-fits : (e : Entry-path) → is-entry-path e ≡ true → (length (entry-text e) ≤ 54) × (lacks 0 (entry-text e) ≡ true)
-unfolding entry-text is-entry-path is-path path-text entry-location most-names
-entry-text-fits e h =
-    let i : _ = and-both (has-names (entry-location e)) (leb (depth (entry-location e)) 6) h in
-    let r : _ = names-text-fits (entry-location e) (i .0) in
-    (omega (arith, r .0, leb-true (depth (entry-location e)) 6 (i .1)), r .1)
+unfolding entry-text is-entry-path
+entry-text-fits e h = path-text-fits (entry-location e) h
 
 -- ---- the parts of paths in range
 

@@ -1,13 +1,14 @@
--- Laws of texts: byte order is a strict total order, the pieces of joined texts are those texts, and how `every` goes
--- through lists.
+-- Laws of texts: byte order is a strict total order, the pieces of joined texts are those texts, how long joined texts are, and
+-- how `every` goes through lists.
 use mathlib.Core.Path.{_≡_, refl, sym, ap₂}
 use mathlib.Core.List.{List, [], _∷_, _++_}
 use mathlib.Core.Bool.{Bool, true, false, _&&_, not}
-use Prim.Native.Nat.{ℕ, zero, suc, _<_}
+use Prim.Native.Nat.{ℕ, zero, suc, _+_, _*_, _≤_, _<_}
+use native.Mathlib.Nat.{mul-one, mul-suc}
 use native.Mathlib.Omega.{arith}
-use borrow.Author.Tests.{eqb-true, eqb-false, eq-eqb, ltb-true, ltb-false, lt-ltb, le-ltb, not-true}
-use lib.Dec.{eqb, ltb}
-use lib.ListN.{getD, set}
+use borrow.Author.Tests.{eqb-true, eqb-false, eq-eqb, ltb-true, ltb-false, lt-ltb, le-ltb, leb-true, not-true}
+use lib.Dec.{eqb, ltb, leb}
+use lib.ListN.{getD, set, length, length-append}
 use Rattle.accounts.specs.Cases.{case, and-both, contra}
 use Rattle.syntax.specs.Text.{Text, same-text, precedes, every, prefix-first, pieces, joined}
 
@@ -140,3 +141,24 @@ pieces-joined b p [] h = pieces-one b p (and-both (lacks b p) true h .0)
 pieces-joined b p (q ∷ ps) h =
     let i : _ = and-both (lacks b p) (every (lacks b) (q ∷ ps)) h in
     rw (pieces-first b p (joined b (q ∷ ps)) (i .0), pieces-joined b q ps (i .1))
+
+-- a joined text is as long as its pieces and the separators
+pub joined-one : (b : ℕ) (p : Text) → length (joined b (p ∷ [])) ≡ length p
+unfolding joined
+joined-one b p = refl
+
+pub joined-more : (b : ℕ) (p q : Text) (ps : List Text) → length (joined b (p ∷ (q ∷ ps))) ≡ length p + suc (length (joined b (q ∷ ps)))
+unfolding joined
+joined-more b p q ps = length-append p (b ∷ joined b (q ∷ ps))
+
+-- pieces of at most k bytes, joined, with one separator more, have at most k + 1 bytes each
+pub joined-length : (b k : ℕ) (p : Text) (ps : List Text) → every (λ t. leb (length t) k) (p ∷ ps) ≡ true →
+    suc (length (joined b (p ∷ ps))) ≤ suc k * length (p ∷ ps)
+unfolding every
+joined-length b k p [] h =
+    let i : _ = leb-true (length p) k (and-both (leb (length p) k) true h .0) in
+    rw (joined-one b p, mul-one (suc k)) (omega arith)
+joined-length b k p (q ∷ ps) h =
+    let i : _ = and-both (leb (length p) k) (every (λ t. leb (length t) k) (q ∷ ps)) h in
+    rw (joined-more b p q ps, mul-suc (suc k) (length (q ∷ ps)))
+    (omega (arith, leb-true (length p) k (i .0), joined-length b k q ps (i .1)))
