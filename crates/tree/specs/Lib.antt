@@ -15,6 +15,7 @@ pub mod PlaceLaws
 pub mod UpdateLaws
 pub mod NodeLaws
 pub mod WellFormedLaws
+pub mod SizeLaws
 pub mod ChangeLaws
 pub mod PathLaws
 pub mod MapLaws
