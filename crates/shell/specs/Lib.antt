@@ -1,5 +1,6 @@
 pub mod Caller
 pub mod Steps
+pub mod ReadLaws
 pub mod Hiding
 pub mod Keeping
 pub mod Privacy

@@ -31,6 +31,10 @@ use Rattle.shell.specs.Caller.{owns, new-node, Outcome}
 unfoldable pub text-of : Place Node → Text
 text-of d = cond (is-directory (d .here .kind)) (joined comma (names (d .below))) (d .here .content)
 
+-- 255 names of 8 bytes and the 254 commas between them; content is shorter
+unfoldable pub longest-text : ℕ
+longest-text = 2294
+
 -- One command of the caller c on the tree t.
 module _ (c : Caller) (elsewhere : ℕ) (t : Place Node) where
   abbrev walks : Path → Result (Place Node)
