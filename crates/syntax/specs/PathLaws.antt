@@ -205,6 +205,21 @@ pub entry-text-fits : (e : Entry-path) → is-entry-path e ≡ true → (length 
 unfolding entry-text is-entry-path
 entry-text-fits e h = path-text-fits (entry-location e) h
 
+in-rep-length : (p : Path) → has-names (in-rep p) ≡ true → length (names-text (in-rep p)) + 5 ≤ 9 * depth (in-rep p)
+unfolding names-text in-rep has-names depth rep bytes
+in-rep-length root h = omega arith
+in-rep-length (p ▹ n) h =
+    let i : _ = and-both (has-names (in-rep p)) (is-name n) h in
+    rw (length-append (names-text (in-rep p)) (47 ∷ n)) (omega (arith, in-rep-length p (i .0), name-length n (i .1) .1))
+
+-- and is at most 49 bytes, for its first name is `rep`
+pub entry-text-length : (e : Entry-path) → is-entry-path e ≡ true → length (entry-text e) ≤ 49
+unfolding entry-text entry-location in-rep path-text is-entry-path is-path most-names
+entry-text-length e h =
+    let p : Path = e .folder ▹ e .name in
+    let i : _ = and-both (has-names (in-rep p)) (leb (depth (in-rep p)) 6) h in
+    omega (arith, in-rep-length p (i .0), leb-true (depth (in-rep p)) 6 (i .1))
+
 -- ---- the parts of paths in range
 
 -- a path has at most 6 names
