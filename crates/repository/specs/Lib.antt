@@ -5,6 +5,7 @@ pub mod Abstract
 pub mod Embedding
 pub mod Calls
 pub mod Listing
+pub mod ListingLaws
 pub mod Transcript
 pub mod Encoding
 pub mod HeaderLaws

@@ -3,6 +3,7 @@
 -- `/` is less than every byte of a name, so byte order of paths is preorder with siblings in byte order.
 use mathlib.Core.List.{List, [], _∷_, _++_}
 use mathlib.Core.Option.{Option, none, some}
+use Prim.Native.Nat.{ℕ}
 use Rattle.syntax.specs.Text.{Text, bytes, comma, joined}
 use Rattle.syntax.specs.Number.{decimal-text, mode-text}
 use Rattle.syntax.specs.Path.{Path, root, _▹_, path-text, entry-text}
@@ -26,6 +27,10 @@ node-line p n =
     joined comma
     ((path-text p ∷ kind-text (n .kind) ∷ decimal-text (n .owner .0) ∷ decimal-text (n .group .0) ∷ mode-text (n .mode) ∷ decimal-text (n .revision) ∷ [])
     ++ (tag-fields (n .tag) ++ (n .content ∷ [])))
+
+-- fields of 54, 1, 2, 2, 4, 4, 49, 4 and 64 bytes, and the 8 commas between them; a tag's path begins with `/rep`
+unfoldable pub longest-listing-line : ℕ
+longest-listing-line = 192
 
 unfoldable pub forest-lines : Path → Forest Node → List Text
 forest-lines p nil = []
