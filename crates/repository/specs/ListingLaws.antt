@@ -22,7 +22,7 @@ use Rattle.tree.specs.Forest.{Forest, nil, node, Place, size, height}
 use Rattle.tree.specs.ForestLaws.{height-node}
 use Rattle.tree.specs.PlaceLaws.{nodes-below}
 use Rattle.tree.specs.SizeLaws.{size-nil, size-node}
-use Rattle.tree.specs.Example.{deep, deep-is-tree}
+use Rattle.tree.specs.LargestTrees.{deep, deep-is-tree}
 use Rattle.tree.specs.Node.{Tag, Node}
 use Rattle.tree.specs.NodeLaws.{last-revision-is, Tag-range, node-ranges}
 use Rattle.tree.specs.WellFormed.{last-revision, nodes, is-node, is-forest, is-tree}

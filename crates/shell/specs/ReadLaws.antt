@@ -20,7 +20,7 @@ use Rattle.tree.specs.NodeLaws.{node-ranges}
 use Rattle.tree.specs.WellFormed.{is-place, is-tree}
 use Rattle.tree.specs.WellFormedLaws.{place-parts, top-directory}
 use Rattle.tree.specs.SizeLaws.{names-few, names-are-names, tree-place}
-use Rattle.tree.specs.Example.{full, full-is-tree, full-names}
+use Rattle.tree.specs.LargestTrees.{full, full-is-tree, full-names}
 use Rattle.shell.specs.Steps.{text-of, longest-text}
 
 -- names joined by commas have at most 9 bytes each, less one

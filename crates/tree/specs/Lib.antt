@@ -36,4 +36,4 @@ pub mod RowAt
 pub mod RowAtLaws
 pub mod TreeAtLaws
 pub mod Compute
-pub mod Example
+pub mod LargestTrees

@@ -7,7 +7,7 @@ use Prim.Native.Nat.{ℕ, zero, suc, _+_, _/_, _%_}
 use lib.ListN.{length, replicate}
 use Rattle.syntax.specs.Compute.{compute as compute-syntax}
 use Rattle.syntax.specs.Text.{comma, joined}
-use Rattle.syntax.specs.Number.{is-mode}
+use Rattle.syntax.specs.Number.{octal, is-mode}
 use Rattle.syntax.specs.Path.{Name, root, _▹_, has-names, is-path, is-entry-path}
 use Rattle.tree.specs.Compute.{compute}
 use Rattle.tree.specs.declared.Kind.{Kind}
@@ -49,7 +49,7 @@ deep =
       kind = File;
       owner = record { 0 = 23 };
       group = record { 0 = 24 };
-      mode = 511;
+      mode = octal 0 7 7 7;
       revision = 9999;
       tag = some (record { path = record { folder = root ▹ a ▹ a ▹ a ▹ a; name = a }; revision = 9999 });
       content = replicate 64 97;
