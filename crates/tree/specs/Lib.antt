@@ -16,6 +16,8 @@ pub mod UpdateLaws
 pub mod NodeLaws
 pub mod WellFormedLaws
 pub mod SizeLaws
+pub mod SoundTree
+pub mod SoundTreeLaws
 pub mod ChangeLaws
 pub mod PathLaws
 pub mod MapLaws
