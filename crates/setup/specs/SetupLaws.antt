@@ -98,7 +98,8 @@ apart s h =
       all-grants = f .1;
     }
 
-together : (s : Setup) → Ranges s → is-setup s ≡ true
+-- and with them it is in range
+pub together : (s : Setup) → Ranges s → is-setup s ≡ true
 unfolding is-setup accounts most-pairs most-grants
 together s r = both (both (eq-eqb (length (s .persons)) 16 (r .count)) (both (ap not (r .zeroth)) (r .slots)))
     (both (both (le-leb (length (s .pairs)) 28 (r .few-pairs)) (r .all-pairs)) (both (le-leb (length (s .grants)) 32 (r .few-grants)) (r .all-grants)))
