@@ -10,6 +10,10 @@ pub mod Transcript
 pub mod Encoding
 pub mod HeaderLaws
 pub mod EncodingLaws
+pub mod SoundSetup
+pub mod SoundSetupLaws
+pub mod SoundStore
+pub mod SoundStoreLaws
 pub mod Bytes
 pub mod BytesLaws
 pub mod Observed
