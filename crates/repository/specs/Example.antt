@@ -4,27 +4,14 @@
 -- any other two texts. The answers are those of the abstract machine too.
 use mathlib.Core.Path.{_≡_, refl}
 use mathlib.Core.List.{List, [], map}
-use Rattle.accounts.specs.Compute.{compute as compute-accounts}
-use Rattle.syntax.specs.Compute.{compute as compute-syntax}
-use Rattle.commands.specs.Compute.{compute as compute-commands}
-use Rattle.setup.specs.Compute.{compute as compute-setup}
-use Rattle.tree.specs.Compute.{compute as compute-tree}
-use Rattle.shell.specs.Compute.{compute as compute-shell}
-use Rattle.copying.specs.Compute.{compute as compute-copying}
 use Rattle.syntax.specs.Text.{Text, bytes, pieces, newline, joined}
 use Rattle.setup.specs.Setup.{Setup, Setup-answer, accepted, wrong-line, setup}
-use Rattle.repository.specs.Machine.{Machine, person-caller, known-caller, caller, granted, run-login, run-logout, session, run-add, run-co, working-file, original, run-commit, run-up, run-del, run-repository, run}
-use Rattle.repository.specs.Initial.{directory-of, top-node, rep-node, home-node, home-name, with-home, homes, initial-tree, no-sessions}
-use Rattle.repository.specs.Store.{store, entry-mode, entry-node, next-node, initial-store}
-use Rattle.repository.specs.Abstract.{abstract, dominated, filed-kind, filed-passes, filed-readable, filed-writable, by-dominance, filed-revision, filed-content, new-entry, next-entry, initial-abstract}
-use Rattle.repository.specs.Calls.{least-room, ok, reply, after, perform, step, runs}
-use Rattle.repository.specs.Listing.{kind-text, tag-fields, node-line, forest-lines, listing}
-use Rattle.repository.specs.Transcript.{after-end, parts, command-lines, reply-line, lines-text, call-of, session-text, output, transcript}
-
--- every definition that a run goes through
-unfoldable compute : Unit {0}
-unfolding compute-accounts compute-syntax compute-commands compute-setup compute-tree compute-shell compute-copying person-caller known-caller caller granted run-login run-logout session run-add run-co working-file original run-commit run-up run-del run-repository run directory-of top-node rep-node home-node home-name with-home homes initial-tree no-sessions entry-mode entry-node next-node initial-store dominated filed-kind filed-passes filed-readable filed-writable by-dominance filed-revision filed-content new-entry next-entry initial-abstract least-room reply after perform step runs kind-text tag-fields node-line forest-lines listing after-end parts command-lines reply-line lines-text call-of session-text output transcript
-compute = tt
+use Rattle.repository.specs.Compute.{compute}
+use Rattle.repository.specs.Machine.{Machine}
+use Rattle.repository.specs.Store.{store, initial-store}
+use Rattle.repository.specs.Abstract.{abstract, initial-abstract}
+use Rattle.repository.specs.Calls.{ok, runs}
+use Rattle.repository.specs.Transcript.{parts, command-lines, reply-line, call-of, transcript}
 
 -- the answers of a machine to the commands of the program's input
 answers : {S A : Type 0} → Machine S A → (Setup → S) → Setup-answer → List Text → List Text

@@ -26,9 +26,15 @@ pub mod InitialRowsLaws
 pub mod Keeping
 pub mod Simulation
 pub mod Lists
+pub mod CallLists
+pub mod CallListsLaws
+pub mod Program
+pub mod ProgramLaws
 pub mod KeptOut
 pub mod EntryChanges
 pub mod Reading
 pub mod Privacy
 pub mod Theorems
+pub mod Compute
+pub mod CallCases
 pub mod Example

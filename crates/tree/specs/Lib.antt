@@ -1,4 +1,5 @@
 pub mod Causes
+pub mod CausesLaws
 pub mod Result
 pub mod ResultLaws
 pub mod Agree

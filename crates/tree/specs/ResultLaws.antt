@@ -84,6 +84,24 @@ pub require-false : (why : Cause) → require false why ≡ refused why
 unfolding require
 require-false why = refl
 
+-- checks one after another are grouped either way
+pub then-then : {A : Type 0} (a b : Result (Unit {0})) (c : Result A) → ((a >> b) >> c) ≡ (a >> (b >> c))
+unfolding _>>_
+then-then (refused why) b c = refl
+then-then (done u) b c = refl
+
+-- and so are a check and steps
+pub then-bind : {A B : Type 0} (a : Result (Unit {0})) (c : Result A) (k : A → Result B) → ((a >> c) >>= k) ≡ (a >> (c >>= k))
+unfolding _>>=_ _>>_
+then-bind (refused why) c k = refl
+then-bind (done u) c k = refl
+
+-- and steps
+pub bind-bind : {A B C : Type 0} (a : Result A) (f : A → Result B) (g : B → Result C) → ((a >>= f) >>= g) ≡ (a >>= λ d. f d >>= g)
+unfolding _>>=_
+bind-bind (refused why) f g = refl
+bind-bind (done d) f g = refl
+
 -- what holds of every refusal and of all that follows a value holds of both together
 pub holds-bind : {A B : Type 0} (P : Result B → Type 0) (m : Result A) (f : A → Result B) → ((why : Cause) → P (refused why)) → ((a : A) → P (f a)) → P (m >>= f)
 unfolding _>>=_

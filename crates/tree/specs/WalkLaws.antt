@@ -5,6 +5,7 @@ use mathlib.Core.Bool.{true}
 use Rattle.syntax.specs.Path.{Name, Path, root, _▹_, parent, extended}
 use Rattle.tree.specs.declared.Cause.the-variants.{NotDirectory, Access}
 use Rattle.tree.specs.Result.{Result, refused, done, _>>=_, _>>_, require}
+use Rattle.tree.specs.ResultLaws.{then-then, then-bind, bind-bind}
 use Rattle.tree.specs.Forest.{Place}
 use Rattle.tree.specs.Node.{is-directory}
 use Rattle.tree.specs.Walk.{Judge, look, enter, walk, parent-walk, literal-walk, literal-parent-walk}
@@ -26,21 +27,6 @@ bind-same : {A B : Type 0} (a : Result A) (f g : A → Result B) → ((d : A) �
 unfolding _>>=_
 bind-same (refused why) f g e = refl
 bind-same (done d) f g e = e d
-
-then-then : {A : Type 0} (a b : Result (Unit {0})) (c : Result A) → ((a >> b) >> c) ≡ (a >> (b >> c))
-unfolding _>>_
-then-then (refused why) b c = refl
-then-then (done u) b c = refl
-
-then-bind : {A B : Type 0} (a : Result (Unit {0})) (c : Result A) (k : A → Result B) → ((a >> c) >>= k) ≡ (a >> (c >>= k))
-unfolding _>>=_ _>>_
-then-bind (refused why) c k = refl
-then-bind (done u) c k = refl
-
-bind-bind : {A B C : Type 0} (a : Result A) (f : A → Result B) (g : B → Result C) → ((a >>= f) >>= g) ≡ (a >>= λ d. f d >>= g)
-unfolding _>>=_
-bind-bind (refused why) f g = refl
-bind-bind (done d) f g = refl
 
 literal-step : {A : Type 0} (j : Judge A) (d : Place A) (n : Name) (ns : List Name)
     → literal-walk j d (n ∷ ns) ≡ (require (j .passes (d .here)) Access >> (look n (d .below) >>= onward j ns))

@@ -1,0 +1,35 @@
+-- Laws of the table: no cause has the number 0, which tells that a call is done, and a wrong setup line has 17.
+use mathlib.Core.Path.{_≡_, refl}
+use mathlib.Core.Bool.{false}
+use lib.Dec.{eqb}
+use Rattle.tree.specs.declared.Cause.{Cause}
+use Rattle.tree.specs.declared.Cause.the-variants.{NoForm, UnknownCaller, Missing, NotDirectory, Access, Exists, WrongKind, NotEmpty, Reserved, Full, IntoItself, NoSession, NoGrant, Stale, Untagged, RevisionsSpent, Unsound, TooDeep, ShortAnswer}
+use Rattle.tree.specs.Causes.{number, wrong-setup}
+
+-- a wrong setup line
+pub wrong-setup-is : wrong-setup ≡ 17
+unfolding wrong-setup
+wrong-setup-is = refl
+
+-- no cause's number is 0
+pub number-not-0 : (why : Cause) → eqb (number why) 0 ≡ false
+unfolding number
+number-not-0 NoForm = refl
+number-not-0 UnknownCaller = refl
+number-not-0 Missing = refl
+number-not-0 NotDirectory = refl
+number-not-0 Access = refl
+number-not-0 Exists = refl
+number-not-0 WrongKind = refl
+number-not-0 NotEmpty = refl
+number-not-0 Reserved = refl
+number-not-0 Full = refl
+number-not-0 IntoItself = refl
+number-not-0 NoSession = refl
+number-not-0 NoGrant = refl
+number-not-0 Stale = refl
+number-not-0 Untagged = refl
+number-not-0 RevisionsSpent = refl
+number-not-0 Unsound = refl
+number-not-0 TooDeep = refl
+number-not-0 ShortAnswer = refl
