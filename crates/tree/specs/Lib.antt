@@ -3,6 +3,7 @@ pub mod CausesLaws
 pub mod Result
 pub mod ResultLaws
 pub mod Agree
+pub mod Gives
 pub mod Forest
 pub mod ForestLaws
 pub mod RootedLaws
@@ -10,6 +11,7 @@ pub mod Node
 pub mod Walk
 pub mod StepLaws
 pub mod WalkLaws
+pub mod GivesLaws
 pub mod JudgeLaws
 pub mod WellFormed
 pub mod PlaceLaws
