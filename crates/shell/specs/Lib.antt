@@ -1,6 +1,8 @@
 pub mod Caller
 pub mod Steps
 pub mod ReadLaws
+pub mod Answers
+pub mod AnswerLaws
 pub mod Hiding
 pub mod Keeping
 pub mod Privacy
