@@ -9,7 +9,7 @@ use borrow.Author.Tests.{eq-eqb, le-leb, leb-true}
 use lib.Dec.{eqb, leb}
 use lib.ListN.{length, take, drop, getElem?, length-append, length-drop, drop-of-length-le}
 use lib.Seq.{take-append-seam}
-use Rattle.accounts.specs.Cases.{and-both}
+use Rattle.accounts.specs.Cases.{and-both, contra}
 use Rattle.syntax.specs.Text.{Text, bytes, comma, newline, every, pieces, joined}
 use Rattle.syntax.specs.FormLaws.{answered, no-answer}
 use Rattle.syntax.specs.Number.{digits-before, decimal-text}
@@ -20,7 +20,7 @@ use Rattle.tree.specs.declared.Cause.the-variants.{Missing, Unsound, ShortAnswe
 use Rattle.tree.specs.Causes.{number, wrong-setup}
 use Rattle.tree.specs.CausesLaws.{wrong-setup-is, number-not-0}
 use Rattle.tree.specs.Result.{Result, refused, done, _>>=_, _>>_, require, present}
-use Rattle.tree.specs.ResultLaws.{require-true, done-then, present-of, present-none, done-bind, refused-bind}
+use Rattle.tree.specs.ResultLaws.{then-done, require-true, done-then, present-of, present-none, done-bind, refused-bind}
 use Rattle.tree.specs.UpdateLaws.{by-option}
 use Rattle.tree.specs.WellFormed.{is-tree}
 use Rattle.tree.specs.WellFormedLaws.{most-nodes-is}
@@ -37,6 +37,7 @@ use Rattle.repository.specs.Bytes.{Told, told, answer-of, written, set-u
 use Rattle.repository.specs.BytesLaws.{listing-on-encoding}
 use Rattle.repository.specs.Transcript.{parts, command-lines, reply-line, lines-text, call-of, session-text, output, transcript}
 use Rattle.repository.specs.Keeping.{initial-well-formed, step-keeps, runs-keep}
+use Rattle.repository.specs.AnswerLaws.{perform-fits}
 use Rattle.repository.specs.CallLists.{Request, call-for}
 use Rattle.repository.specs.CallListsLaws.{run-on-state, set-up-takes, set-up-wrong}
 use Rattle.repository.specs.Program.{text-told, done-line, refused-line, call-line, Ran-lines, run-lines, list-lines, run-and-list, program}
@@ -67,6 +68,12 @@ line-of-reply (refusal why) answer = rw (number-not-0 why)
 
 -- ---- the commands
 
+-- a reply with a text is that of a done command with it
+reply-text : (r : Result (Outcome Store)) (t : Text) → reply r ≡ ok (some t) → (o : Outcome Store) × (r ≡ done o) × (o .text ≡ some t)
+unfolding reply
+reply-text (refused why) t e = contra {b = true} refl (cc)
+reply-text (done o) t e = (o, refl, cc)
+
 -- the call that the program makes with a buffer of 4,096 bytes
 call-is : (t : Text) (answer : List ℕ) → length answer ≡ 4096 → call-for (record { line = t; answer = answer }) ≡ call-of t
 unfolding call-for call-of least-room
@@ -78,7 +85,11 @@ module _ (u : Setup) (g : is-setup u ≡ true) where
 
   -- a done step's text fits an answer buffer of 4,096 bytes
   step-room : (s : Store) → well-formed (of-store s) ≡ true → (call : Call) (answer : List ℕ) → 4096 ≤ length answer → Room (reply (step store u s call)) answer
-  step-room s w call answer l = ?
+  unfolding step longest-text
+  step-room s w call answer l t e =
+      let k = reply-text (step store u s call) t e in
+      let d = then-done (require (leb least-room (call .room)) ShortAnswer) (perform store u s (call .line)) (k .1) in
+      omega (arith, perform-fits u s (state-parts (of-store s) w .1 .1) (call .line) (k .0) (d .1) t (k .2))
 
   -- the commands' lines are those of the replies, and the buffers those of the machine
   lines-of-runs : (ts : List Text) (s : Store) → well-formed (of-store s) ≡ true → (answer : List ℕ) → length answer ≡ 4096 →
