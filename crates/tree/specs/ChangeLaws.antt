@@ -226,7 +226,8 @@ unfolding update under
 less-update root f h t = h t
 less-update (p ▹ n) f h t = less-update p (under (at n f)) (λ x. (refl, fewer-at n f h (x .below))) t
 
-get-leads : (n : Name) (F : Forest Node) → is-forest F ≡ true → leads n F ≡ true → get n F ≡ none
+-- a name that comes before all siblings names none of them
+pub get-leads : (n : Name) (F : Forest Node) → is-forest F ≡ true → leads n F ≡ true → get n F ≡ none
 unfolding get leads
 get-leads n nil h b = refl
 get-leads n (node k y cs rest) h b =

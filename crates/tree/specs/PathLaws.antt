@@ -65,7 +65,7 @@ module _ {A : Type 0} (t : Place A) where
   changed-some (deeper {n = n} l) f h c e = changed-some l (under (at n f)) (λ x. refl) c e
 
   -- and none is made there
-  changed-none : {p q : Path} → Lies p q → (f : Place A → Place A) → place-at t p ≡ none → place-at (update q f t) p ≡ none
+  pub changed-none : {p q : Path} → Lies p q → (f : Place A → Place A) → place-at t p ≡ none → place-at (update q f t) p ≡ none
   unfolding update
   changed-none {p} itself f e = rw (update-none t p f e) e
   changed-none (deeper {n = n} l) f e = changed-none l (under (at n f)) e
@@ -140,6 +140,31 @@ below-elsewhere t s x b (deeper {q = q} {n = n} l) h k d e =
     (r .0 ▹ n, at-child s (r .0) n (i .0) (r .1) ∙ i .2)
 
 module _ {A : Type 0} (t : Place A) where
+  -- ---- where there is no place
+
+  -- there is none below it
+  pub none-below : {a p : Path} → Lies a p → place-at t a ≡ none → place-at t p ≡ none
+  unfolding place-at _>>=_
+  none-below itself e = e
+  none-below (deeper l) e = rw (none-below l e)
+
+  -- a payload altered makes none
+  pub alter-none : (p q : Path) (g : A → A) → place-at t p ≡ none → place-at (update q (alter g) t) p ≡ none
+  unfolding alter
+  alter-none p q g e = case (within p q)
+      (λ i. changed-none t (lies p q i) (alter g) e)
+      (λ i. kept t q (alter g) p (lies-outside i) (λ d m a l. refl) ∙ e)
+
+  -- a child put in makes none that is not within it
+  pub put-none : (p q : Path) (n : Name) (x : Place A) → within (q ▹ n) p ≡ false → place-at t p ≡ none → place-at (update q (put n x) t) p ≡ none
+  unfolding put under
+  put-none p q n x o e = case (within p q)
+      (λ i. changed-none t (lies p q i) (put n x) e)
+      (λ i. kept t q (put n x) p (lies-outside i) (λ d m a l. get-insert-other n x m
+      (case (same-text m n) (λ j. lies-outside o (rw (same-text-sound m n j) at l)) (λ j. j)) (d .below)) ∙ e)
+
+  -- ---- a child taken out or moved
+
   -- a child taken out makes no place
   pub drop-none : (p q : Path) (n : Name) → within (q ▹ n) p ≡ false → place-at t p ≡ none → place-at (update q (drop n) t) p ≡ none
   drop-none p q n o e = case (within p q)
