@@ -33,6 +33,8 @@ pub mod Program
 pub mod ProgramLaws
 pub mod KeptOut
 pub mod EntryChanges
+pub mod EntryPlacesLaws
+pub mod EntryChangesLaws
 pub mod Reading
 pub mod Privacy
 pub mod Theorems

@@ -22,7 +22,7 @@ use Rattle.tree.specs.Forest.{Forest, nil, node, Place, get, insert, remove, at
 use Rattle.tree.specs.Node.{is-directory, Node, allows}
 use Rattle.tree.specs.Walk.{by-modes, enter, walk, parent-walk}
 use Rattle.tree.specs.WellFormed.{nodes}
-use Rattle.tree.specs.Agree.{Agree, both, bind, each, check, guard}
+use Rattle.tree.specs.Agree.{Agree, both, done-second, bind, each, check, guard}
 use Rattle.tree.specs.JudgeLaws.{directory-is-one, kind-by-modes, passes-by-modes}
 use Rattle.tree.specs.StepLaws.{enters}
 use Rattle.tree.specs.ForestLaws.{empty-map, leaf-map}
@@ -105,7 +105,7 @@ revise-tie {h} t e content =
     (rooted-alter in-store rep-node (next-node content) (next-entry content) (next-law content) (e .folder) (e .name) (h .entries))
 
 -- an entry taken out of both
-remove-tie : {s : Store} {h : Abstract} → Tie s h → (e : Entry-path) → Tie (store .remove e s) (abstract .remove e h)
+pub remove-tie : {s : Store} {h : Abstract} → Tie s h → (e : Entry-path) → Tie (store .remove e s) (abstract .remove e h)
 unfolding stored
 remove-tie {h} t e = entries-tie t (e .folder) (drop (e .name)) (update-forest (e .folder) (remove (e .name))) (rooted-drop in-store rep-node (e .folder) (e .name) (h .entries))
 
@@ -350,3 +350,21 @@ module _ (u : Setup) (c : Caller) (out : Kept-out c top-node (leaf rep-node .her
 pub run-agrees : (u : Setup) → is-setup u ≡ true → (v : Uid) (c : Caller) → is-root v ≡ false → caller u v ≡ done c
     → (h : Abstract) → Kept h → (command : Command) → Agree Tied (run store u (embed h) c command) (run abstract u h c command)
 run-agrees u s v c r i h k command = run-kept-out u c (kept-out u s v c r i) h k command
+
+-- what a person walks to
+module _ (u : Setup) (s : is-setup u ≡ true) (v : Uid) (c : Caller) (r : is-root v ≡ false) (i : caller u v ≡ done c) (h : Abstract) (k : Kept h)
+    (w : Path) (d : Place Node) (led : walk (by-modes (c .account)) (h .workspace) w ≡ done d) where
+  out : Kept-out c top-node (leaf rep-node .here)
+  out = kept-out u s v c r i
+
+  -- is outside `/rep` if it is a file
+  pub file-is-outside : not (is-directory (d .here .kind)) ≡ true → Outside w
+  file-is-outside b =
+      let a = done-second (person-walk u c out h k w) led in
+      a-file u c out h k (a .2) (test u c out h k (λ n. not (is-directory (n .kind))) (a .2) ∙ b)
+
+  -- or the person's own
+  pub owned-is-outside : owns (c .account) (d .here) ≡ true → Outside w
+  owned-is-outside b =
+      let a = done-second (person-walk u c out h k w) led in
+      owned u c out h k (a .2) (test u c out h k (owns (c .account)) (a .2) ∙ b)

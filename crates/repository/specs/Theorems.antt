@@ -44,8 +44,8 @@ use Rattle.repository.specs.Lists
 use Rattle.repository.specs.Simulation.{Kept}
 use Rattle.repository.specs.KeptOut.{names-entry}
 use Rattle.repository.specs.KeptOut
-use Rattle.repository.specs.EntryChanges.{node-of, Changes, Rightful}
-use Rattle.repository.specs.EntryChanges
+use Rattle.repository.specs.EntryChanges.{node-of, Rightful, Change}
+use Rattle.repository.specs.EntryChangesLaws
 use Rattle.repository.specs.Reading.{May-read, Reads-all, More-pairs}
 use Rattle.repository.specs.Reading
 use Rattle.repository.specs.Privacy
@@ -85,12 +85,13 @@ pub shell-reaches-no-entry : (u : Setup) (s : Store) → Reached-without-root u 
     (command : Shell-command) → names-entry command ≡ true → (why : Cause) × (run store u s c (shell command) ≡ refused why)
 shell-reaches-no-entry = KeptOut.shell-refused
 
--- An entry is altered or removed only by a done `commit` or `del` in a session whose role dominates the entry's.
+-- A person's done command leaves an entry as it is, or the session's role dominates the entry's and the command is a `commit` of a
+-- file tagged with its path and revision, which gives it the file's content and the next revision, or the `del` that removes it.
 pub entry-changed-by-right : (u : Setup) (s : Store) → Reached-without-root u s → (v : Uid) (c : Caller) → is-root v ≡ false → caller u v ≡ done c →
     (command : Command) (o : Outcome Store) → run store u s c command ≡ done o →
     (e : Entry-path) (kind : Kind) (r : Bounded-role) (revision : ℕ) (content : Text) → node-of s e ≡ some (entry-node kind r revision content) →
-    (node-of (o .state) e ≡ some (entry-node kind r revision content)) ⊎ (Changes e command × Rightful u (s .sessions) c r)
-entry-changed-by-right = EntryChanges.stored-entry-changed
+    (node-of (o .state) e ≡ some (entry-node kind r revision content)) ⊎ (Change s (o .state) e kind r revision command × Rightful u (s .sessions) c r)
+entry-changed-by-right = EntryChangesLaws.stored-entry-changed
 
 -- A role dominates another just if its account may read every entry that the other's may, in every well-formed store whose
 -- entries have document 01's form.
