@@ -1,4 +1,4 @@
--- How a done command changes an entry of the store, and by whose right.
+-- How a done command changes and makes an entry of the store, and by whose right.
 use mathlib.Core.Path.{_≡_}
 use mathlib.Core.Option.{Option, none, some, Option·map}
 use mathlib.Core.Bool.{true}
@@ -6,7 +6,7 @@ use Prim.Native.Nat.{ℕ, suc}
 use lib.ListN.{getD}
 use Rattle.accounts.specs.Dominance.{Bounded-role}
 use Rattle.syntax.specs.Path.{Path, Entry-path, entry-location}
-use Rattle.commands.specs.Command.{commit, del, Command, repository}
+use Rattle.commands.specs.Command.{add, commit, del, Command, repository}
 use Rattle.setup.specs.Setup.{Setup}
 use Rattle.tree.specs.declared.Kind.{Kind}
 use Rattle.tree.specs.declared.Kind.the-variants.{File}
@@ -50,3 +50,17 @@ pub record Committed (before after : Store) (e : Entry-path) (kind : Kind) (r : 
 pub data Change (before after : Store) (e : Entry-path) (kind : Kind) (r : Bounded-role) (revision : ℕ) : Command → Type 0 where
   by-commit : {w : Path} → Committed before after e kind r revision w → Change before after e kind r revision (repository (commit w))
   by-del : node-of after e ≡ none → Change before after e kind r revision (repository (del e))
+
+-- the entry of role r at e after an `add w e r`
+pub record Added (before after : Store) (e : Entry-path) (r : Bounded-role) (w : Path) : Type 0 where
+  -- what stood at w
+  pub working : Place Node
+  pub stood : place-at (before .tree) w ≡ some working
+  -- gave the entry its kind and its content, with revision 1,
+  pub made : node-of after e ≡ some (entry-node (working .here .kind) r 1 (working .here .content))
+  -- and has the tag of that revision
+  pub is-tagged : place-at (after .tree) w ≡ some (alter (set-tag (record { path = e; revision = 1 })) working)
+
+-- the command that makes an entry at e, in a session whose role dominates the new entry's
+pub data Making (u : Setup) (before after : Store) (c : Caller) (e : Entry-path) : Command → Type 0 where
+  by-add : {w : Path} {r : Bounded-role} → Added before after e r w → Rightful u (before .sessions) c r → Making u before after c e (repository (add w e r))

@@ -35,6 +35,7 @@ pub mod KeptOut
 pub mod EntryChanges
 pub mod EntryPlacesLaws
 pub mod EntryChangesLaws
+pub mod EntryMakingLaws
 pub mod Reading
 pub mod Privacy
 pub mod Theorems

@@ -3,7 +3,7 @@
 -- Demand 3 and soundness come first, then what follows for people, roles and entries.
 use mathlib.Core.Path.{_≡_, refl}
 use mathlib.Core.List.{List, []}
-use mathlib.Core.Option.{some}
+use mathlib.Core.Option.{none, some}
 use mathlib.Core.Bool.{true, false}
 use mathlib.Core.Logic.{_⊎_}
 use Prim.Native.Nat.{ℕ}
@@ -44,8 +44,9 @@ use Rattle.repository.specs.Lists
 use Rattle.repository.specs.Simulation.{Kept}
 use Rattle.repository.specs.KeptOut.{names-entry}
 use Rattle.repository.specs.KeptOut
-use Rattle.repository.specs.EntryChanges.{node-of, Rightful, Change}
+use Rattle.repository.specs.EntryChanges.{node-of, Rightful, Change, Making}
 use Rattle.repository.specs.EntryChangesLaws
+use Rattle.repository.specs.EntryMakingLaws
 use Rattle.repository.specs.Reading.{May-read, Reads-all, More-pairs}
 use Rattle.repository.specs.Reading
 use Rattle.repository.specs.Privacy
@@ -92,6 +93,13 @@ pub entry-changed-by-right : (u : Setup) (s : Store) → Reached-without-root u 
     (e : Entry-path) (kind : Kind) (r : Bounded-role) (revision : ℕ) (content : Text) → node-of s e ≡ some (entry-node kind r revision content) →
     (node-of (o .state) e ≡ some (entry-node kind r revision content)) ⊎ (Change s (o .state) e kind r revision command × Rightful u (s .sessions) c r)
 entry-changed-by-right = EntryChangesLaws.stored-entry-changed
+
+-- Where nothing stands, a person's done command leaves nothing, or is an `add` there in a session whose role dominates that of the
+-- new entry, which has revision 1 and the kind and content of the file or directory added.
+pub entry-made-by-right : (u : Setup) (s : Store) → Reached-without-root u s → (v : Uid) (c : Caller) → is-root v ≡ false → caller u v ≡ done c →
+    (command : Command) (o : Outcome Store) → run store u s c command ≡ done o →
+    (e : Entry-path) → node-of s e ≡ none → (node-of (o .state) e ≡ none) ⊎ Making u s (o .state) c e command
+entry-made-by-right = EntryMakingLaws.stored-entry-made
 
 -- A role dominates another just if its account may read every entry that the other's may, in every well-formed store whose
 -- entries have document 01's form.
