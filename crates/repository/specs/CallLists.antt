@@ -3,8 +3,9 @@
 use mathlib.Core.Path.{_≡_}
 use mathlib.Core.List.{List, [], _∷_, map}
 use mathlib.Core.Option.{some}
-use mathlib.Core.Bool.{Bool, not}
+use mathlib.Core.Bool.{Bool, true, not}
 use Prim.Native.Nat.{ℕ}
+use lib.Dec.{eqb}
 use lib.ListN.{length}
 use Rattle.syntax.specs.Text.{Text, every}
 use Rattle.setup.specs.Setup.{Setup, accepted, setup as setup-of}
@@ -63,6 +64,10 @@ pub record Reads-as (setup : Setup) (h : Abstract) (b : List ℕ) : Type 0 where
   pub sessions : store .sessions ≡ h .sessions
   pub entries : filed-in store ≡ some (stored (h .entries))
 
+-- no call says 18
+unfoldable pub all-sound : List Response → Bool
+all-sound rs = every (λ r. not (eqb (r .tells .number) 18)) rs
+
 -- What a list of calls after a setup gives, by the abstract machine that is fed the same setup, lines and lengths: each call's
 -- number, values and answer bytes, and afterwards what the store's bytes read as.
 pub record Calls-compared (text : Text) (requests : List Request) (responded : Responded) : Type 0 where
@@ -70,3 +75,4 @@ pub record Calls-compared (text : Text) (requests : List Request) (responded : R
   pub taken : setup-of text ≡ accepted setup
   pub responses : responded .responses ≡ responses-to requests (runs abstract setup (initial-abstract setup) (map call-for requests) .replies)
   pub store : Reads-as setup (runs abstract setup (initial-abstract setup) (map call-for requests) .state) (responded .store)
+  pub sound : all-sound (responded .responses) ≡ true

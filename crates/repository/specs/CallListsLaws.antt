@@ -1,8 +1,8 @@
 -- A list of calls on the bytes of a well-formed state is the list of the machine's calls on the state.
 use mathlib.Core.Path.{_≡_, refl, sym, _∙_, ap}
 use mathlib.Core.List.{List, [], _∷_, map}
-use mathlib.Core.Option.{some}
-use mathlib.Core.Bool.{true}
+use mathlib.Core.Option.{Option, none, some}
+use mathlib.Core.Bool.{true, not}
 use Prim.Native.Nat.{ℕ}
 use native.Mathlib.Omega.{arith}
 use borrow.Author.Tests.{eq-eqb}
@@ -14,14 +14,16 @@ use Rattle.setup.specs.Setup.{Setup, Setup-answer, accepted, wrong-line, setup,
 use Rattle.setup.specs.SetupLaws.{accepted-is-setup}
 use Rattle.tree.specs.declared.Cause.the-variants.{Unsound, ShortAnswer}
 use Rattle.tree.specs.Causes.{number, wrong-setup}
-use Rattle.tree.specs.CausesLaws.{wrong-setup-is, number-not-0}
+use Rattle.tree.specs.CausesLaws.{wrong-setup-is, number-not-0, only-unsound-is-18}
 use Rattle.tree.specs.Result.{Result, refused, done, _>>=_, _>>_, require}
 use Rattle.tree.specs.ResultLaws.{done-bind, refused-bind, then-bind}
 use Rattle.shell.specs.Caller.{Outcome}
 use Rattle.repository.specs.declared.Answer.the-variants.{Done, Refused, WrongLine}
+use Rattle.repository.specs.Machine.{Machine}
 use Rattle.repository.specs.Store.{Store, store, initial-store}
 use Rattle.repository.specs.Abstract.{Abstract, abstract, initial-abstract}
-use Rattle.repository.specs.Calls.{least-room, Call, Ran, reply, after, perform, step, runs, root's}
+use Rattle.repository.specs.Calls.{least-room, Call, Ran, ok, reply, after, perform, step, runs, root's}
+use Rattle.repository.specs.AnswerLaws.{never-18}
 use Rattle.repository.specs.Encoding.{State, store-width, encode, well-formed, decode}
 use Rattle.repository.specs.EncodingLaws.{decode-encode}
 use Rattle.repository.specs.Bytes.{Told, told, answer-of, written, Set-up, set-up, setup-call, Called, called, encoded, run-result, run-call}
@@ -29,7 +31,7 @@ use Rattle.repository.specs.BytesLaws.{run-on-encoding}
 use Rattle.repository.specs.Observed.{Compared, without-root}
 use Rattle.repository.specs.Keeping.{initial-well-formed, step-keeps, runs-keep}
 use Rattle.repository.specs.Lists.{compared-lists}
-use Rattle.repository.specs.CallLists.{Request, Response, Responded, run-calls, call-for, rootless, response, responses-to, Calls-compared}
+use Rattle.repository.specs.CallLists.{Request, Response, Responded, run-calls, call-for, rootless, response, responses-to, all-sound, Calls-compared}
 
 -- ---- one call
 
@@ -75,6 +77,29 @@ rootless-calls : (qs : List Request) → rootless qs ≡ without-root (map call-
 unfolding rootless without-root every
 rootless-calls [] = refl
 rootless-calls (q ∷ qs) = rw (rootless-calls qs)
+
+-- ---- 18
+
+done-not-18 : (t : Option Text) → not (eqb (told (answer-of (ok t)) .number) 18) ≡ true
+unfolding told answer-of
+done-not-18 none = refl
+done-not-18 (some t) = refl
+
+-- a step that is not refused as unsound does not tell 18
+tells-not-18 : {S : Type 0} (r : Result (Outcome S)) → (r ≡ refused Unsound → ⊥) → not (eqb (told (answer-of (reply r)) .number) 18) ≡ true
+unfolding reply told answer-of
+tells-not-18 (done o) h = done-not-18 (o .text)
+tells-not-18 (refused why) h = case (eqb (number why) 18)
+    (λ e. absurd (h (ap refused (only-unsound-is-18 why e))))
+    (λ e. rw e)
+
+-- so no response to a list does
+runs-sound : {S A : Type 0} (M : Machine S A) (u : Setup) (s : S) (qs : List Request) → all-sound (responses-to qs (runs M u s (map call-for qs) .replies)) ≡ true
+unfolding all-sound every runs responses-to response
+runs-sound M u s [] = refl
+runs-sound M u s (q ∷ qs) =
+    let r = step M u s (call-for q) in
+    rw (tells-not-18 r (never-18 M u s (call-for q)), runs-sound M u (after s r) qs)
 
 -- ---- setup
 
@@ -135,4 +160,5 @@ compared-calls b text e qs r =
         sessions = c .sessions;
         entries = c .entries;
       };
+      sound = ap (λ d. all-sound (d .responses)) ran ∙ runs-sound store u (initial-store u) qs;
     }

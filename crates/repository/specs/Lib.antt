@@ -26,6 +26,7 @@ pub mod InitialRows
 pub mod InitialRowsLaws
 pub mod Keeping
 pub mod Simulation
+pub mod CallBoundsLaws
 pub mod Lists
 pub mod CallLists
 pub mod CallListsLaws

@@ -37,27 +37,12 @@ use Rattle.repository.specs.Bytes.{Told, told, answer-of, written, set-u
 use Rattle.repository.specs.BytesLaws.{listing-on-encoding}
 use Rattle.repository.specs.Transcript.{parts, command-lines, reply-line, lines-text, call-of, session-text, output, transcript}
 use Rattle.repository.specs.Keeping.{initial-well-formed, step-keeps, runs-keep}
-use Rattle.repository.specs.AnswerLaws.{perform-fits}
+use Rattle.repository.specs.CallBoundsLaws.{run-keeps-lengths, listing-keeps-lengths}
 use Rattle.repository.specs.CallLists.{Request, call-for}
 use Rattle.repository.specs.CallListsLaws.{run-on-state, set-up-takes, set-up-wrong}
 use Rattle.repository.specs.Program.{text-told, done-line, refused-line, call-line, Ran-lines, run-lines, list-lines, run-and-list, program}
 
 -- ---- what is printed for a reply
-
--- a text that fits leaves the buffer's length
-fits-length : (t answer : Text) → length t ≤ length answer → length (t ++ drop (length t) answer) ≡ length answer
-fits-length t answer h = length-append t (drop (length t) answer) ∙ omega (arith, length-drop (length t) answer)
-
--- the text of a reply fits the buffer
-abbrev Room : Reply → List ℕ → Type 0
-Room r answer = (t : Text) → r ≡ ok (some t) → length t ≤ length answer
-
--- the answer buffer keeps its length
-written-length : (r : Reply) (answer : List ℕ) → Room r answer → length (written r answer) ≡ length answer
-unfolding written
-written-length (ok none) answer h = refl
-written-length (ok (some t)) answer h = fits-length t answer (h t refl)
-written-length (refusal why) answer h = refl
 
 -- what is printed for an answer is the reply's line
 line-of-reply : (r : Reply) (answer : List ℕ) → call-line (told (answer-of r)) (written r answer) ≡ reply-line r
@@ -68,12 +53,6 @@ line-of-reply (refusal why) answer = rw (number-not-0 why)
 
 -- ---- the commands
 
--- a reply with a text is that of a done command with it
-reply-text : (r : Result (Outcome Store)) (t : Text) → reply r ≡ ok (some t) → (o : Outcome Store) × (r ≡ done o) × (o .text ≡ some t)
-unfolding reply
-reply-text (refused why) t e = contra {b = true} refl (cc)
-reply-text (done o) t e = (o, refl, cc)
-
 -- the call that the program makes with a buffer of 4,096 bytes
 call-is : (t : Text) (answer : List ℕ) → length answer ≡ 4096 → call-for (record { line = t; answer = answer }) ≡ call-of t
 unfolding call-for call-of least-room
@@ -83,15 +62,19 @@ module _ (u : Setup) (g : is-setup u ≡ true) where
   abbrev of-store : Store → State
   of-store s = record { setup = u; store = s }
 
-  -- a done step's text fits an answer buffer of 4,096 bytes
-  step-room : (s : Store) → well-formed (of-store s) ≡ true → (call : Call) (answer : List ℕ) → 4096 ≤ length answer → Room (reply (step store u s call)) answer
-  unfolding step longest-text
-  step-room s w call answer l t e =
-      let k = reply-text (step store u s call) t e in
-      let d = then-done (require (leb least-room (call .room)) ShortAnswer) (perform store u s (call .line)) (k .1) in
-      omega (arith, perform-fits u s (state-parts (of-store s) w .1 .1) (call .line) (k .0) (d .1) t (k .2))
+  -- a call with an answer buffer of 4,096 bytes is a step of the machine
+  stepped : (s : Store) → well-formed (of-store s) ≡ true → (t : Text) (answer : List ℕ) → length answer ≡ 4096 →
+      let r = step store u s (call-of t) in
+      run-call (encode (of-store s)) t answer ≡ record { tells = told (answer-of (reply r)); store = encode (of-store (after s r)); answer = written (reply r) answer }
+  stepped s w t answer l =
+      let q : Request = record { line = t; answer = answer } in
+      run-on-state u s w q ∙ ap (λ c. let r = step store u s c in record { tells = told (answer-of (reply r)); store = encode (of-store (after s r)); answer = written (reply r) answer }) (call-is t answer l)
 
-  -- the commands' lines are those of the replies, and the buffers those of the machine
+  -- and leaves its length
+  still-4096 : (s : Store) → well-formed (of-store s) ≡ true → (t : Text) (answer : List ℕ) → length answer ≡ 4096 → length (written (reply (step store u s (call-of t))) answer) ≡ 4096
+  still-4096 s w t answer l = ap (λ x. length (x .answer)) (sym (stepped s w t answer l)) ∙ run-keeps-lengths (encode (of-store s)) t answer .1 ∙ l
+
+  -- the commands' lines are those of the replies, and the store's bytes those of the machine's state
   lines-of-runs : (ts : List Text) (s : Store) → well-formed (of-store s) ≡ true → (answer : List ℕ) → length answer ≡ 4096 →
       let ran = runs store u s (map call-of ts) in
       (answer′ : List ℕ) × (length answer′ ≡ 4096)
@@ -99,14 +82,9 @@ module _ (u : Setup) (g : is-setup u ≡ true) where
   unfolding run-lines runs
   lines-of-runs [] s w answer l = (answer, l, refl)
   lines-of-runs (t ∷ ts) s w answer l =
-      let q : Request = record { line = t; answer = answer } in
       let r = step store u s (call-of t) in
-      let same : step store u s (call-for q) ≡ r = ap (step store u s) (call-is t answer l) in
-      let k : run-call (encode (of-store s)) t answer ≡ record { tells = told (answer-of (reply r)); store = encode (of-store (after s r)); answer = written (reply r) answer } =
-      run-on-state u s w q ∙ ap (λ x. record { tells = told (answer-of (reply x)); store = encode (of-store (after s x)); answer = written (reply x) answer }) same in
-      let m = written-length (reply r) answer (step-room s w (call-of t) answer (omega arith)) ∙ l in
-      let rest = lines-of-runs ts (after s r) (step-keeps u g s w (call-of t)) (written (reply r) answer) m in
-      (rest .0, rest .1, rw (k, line-of-reply (reply r) answer, rest .2))
+      let rest = lines-of-runs ts (after s r) (step-keeps u g s w (call-of t)) (written (reply r) answer) (still-4096 s w t answer l) in
+      (rest .0, rest .1, rw (stepped s w t answer l, line-of-reply (reply r) answer, rest .2))
 
 -- ---- the listing
 
@@ -120,12 +98,6 @@ drop-some : (l : List Text) (n : ℕ) (t : Text) → getElem? l n ≡ some t →
 drop-some [] n t e = no-answer e
 drop-some (a ∷ l) zero t e = ap (λ x. x ∷ l) (sym (answered e))
 drop-some (a ∷ l) (suc n) t e = drop-some l n t e
-
-every-found : (f : Text → Bool) (l : List Text) (n : ℕ) (t : Text) → every f l ≡ true → getElem? l n ≡ some t → f t ≡ true
-unfolding every
-every-found f [] n t h e = no-answer e
-every-found f (a ∷ l) zero t h e = ap f (answered e) ∙ and-both (f a) (every f l) h .0
-every-found f (a ∷ l) (suc n) t h e = every-found f l n t (and-both (f a) (every f l) h .1) e
 
 module _ (s : State) (w : well-formed s ≡ true) where
   abbrev lines : List Text
@@ -143,13 +115,6 @@ module _ (s : State) (w : well-formed s ≡ true) where
   unfolding listing-call called reply after written least-room
   past n answer l e = rw (listing-on-encoding s w n (length answer), l, e, require-true, done-then, present-none, refused-bind)
 
-  -- a listing line fits
-  line-room : (n : ℕ) (t : Text) → getElem? lines n ≡ some t → length t ≤ 4096
-  unfolding longest-listing-line
-  line-room n t e =
-      let i = every-found (λ l. leb (length l) longest-listing-line) lines n t (lines-fit (s .store .tree) (state-parts s w .1 .1)) e in
-      omega (arith, leb-true (length t) 192 i)
-
   -- the lines from n on
   list-from : (calls n : ℕ) (answer : List ℕ) → length answer ≡ 4096 → length lines < calls + n → list-lines calls (encode s) answer n ≡ drop n lines
   unfolding list-lines told answer-of written text-told
@@ -157,7 +122,7 @@ module _ (s : State) (w : well-formed s ≡ true) where
   list-from (suc calls) n answer l h = by-option (getElem? lines n)
       (λ e. rw (past n answer l e, drop-none lines n e) (rw (eq-eqb (number Missing) (number Missing) refl)))
       (λ t e.
-      let m = fits-length t answer (omega (arith, line-room n t e)) ∙ l in
+      let m = ap (λ x. length (x .answer)) (sym (listed n t answer l e)) ∙ listing-keeps-lengths (encode s) n answer .1 ∙ l in
       rw (listed n t answer l e, drop-some lines n t e)
       (rw (number-not-0 Missing, take-append-seam t (drop (length t) answer), list-from calls (suc n) (t ++ drop (length t) answer) m (omega arith))))
 
