@@ -1,17 +1,19 @@
 -- The calls on bytes, for bytes that encode a state and for others: a call is the command on the state, bytes that encode no
 -- state are refused, and neither a refused call nor a listing changes the store.
 use mathlib.Core.Path.{_≡_, refl}
-use mathlib.Core.List.{List}
+use mathlib.Core.List.{List, []}
 use mathlib.Core.Option.{none, some}
 use mathlib.Core.Bool.{true}
-use Prim.Native.Nat.{ℕ}
+use Prim.Native.Nat.{ℕ, _≤_, _<_}
+use borrow.Author.Tests.{le-leb, lt-leb}
 use lib.Dec.{leb}
 use lib.ListN.{length, getElem?}
 use Rattle.syntax.specs.Text.{Text}
 use Rattle.tree.specs.declared.Cause.{Cause}
 use Rattle.tree.specs.declared.Cause.the-variants.{Missing, Unsound, ShortAnswer}
+use Rattle.tree.specs.CausesLaws.{missing-number, unsound-number, short-answer-number}
 use Rattle.tree.specs.Result.{Result, refused, done, _>>=_, _>>_, require, present}
-use Rattle.tree.specs.ResultLaws.{present-of, present-none, done-bind, refused-bind, done-then, require-true, holds-bind, holds-then}
+use Rattle.tree.specs.ResultLaws.{present-of, present-none, done-bind, refused-bind, done-then, refused-then, require-true, require-false, holds-bind, holds-then}
 use Rattle.shell.specs.Caller.{Outcome}
 use Rattle.repository.specs.declared.Answer.the-variants.{Refused}
 use Rattle.repository.specs.Store.{store}
@@ -33,10 +35,31 @@ pub listing-on-encoding : (s : State) → well-formed s ≡ true → (n room : �
 unfolding listing-result
 listing-on-encoding s h n room = rw (decode-encode s h, present-of, done-bind)
 
+-- an answer buffer of less than 4,096 bytes is refused by 20, before anything else
+pub short-answer-is-20 : (b : List ℕ) (t : Text) (a : List ℕ) → length a < 4096 → run-call b t a ≡ record { tells = record { number = 20; values = [] }; store = b; answer = a }
+unfolding run-call run-result least-room called reply after answer-of written told
+short-answer-is-20 b t a l = rw (lt-leb 4096 (length a) l, require-false, refused-then, short-answer-number)
+
+-- and so for a listing
+pub short-answer-lists-20 : (b : List ℕ) (n : ℕ) (a : List ℕ) → length a < 4096 → listing-call b n a ≡ record { tells = record { number = 20; values = [] }; store = b; answer = a }
+unfolding listing-call listing-result least-room called reply after answer-of written told
+short-answer-lists-20 b n a l = rw (lt-leb 4096 (length a) l, require-false, refused-then, short-answer-number)
+
 -- bytes that encode no state are refused by 18 where the answer buffer is long enough
-pub unsound-is-18 : (b : List ℕ) → decode b ≡ none → (t : Text) (room : ℕ) → leb least-room room ≡ true → run-result b t room ≡ refused Unsound
-unfolding run-result
-unsound-is-18 b e t room l = rw (l, require-true, done-then, e, present-none, refused-bind)
+pub unsound-is-18 : (b : List ℕ) → decode b ≡ none → (t : Text) (a : List ℕ) → 4096 ≤ length a → run-call b t a ≡ record { tells = record { number = 18; values = [] }; store = b; answer = a }
+unfolding run-call run-result least-room called reply after answer-of written told
+unsound-is-18 b e t a l = rw (le-leb 4096 (length a) l, require-true, done-then, e, present-none, refused-bind, unsound-number)
+
+-- and so for a listing
+pub unsound-lists-18 : (b : List ℕ) → decode b ≡ none → (n : ℕ) (a : List ℕ) → 4096 ≤ length a → listing-call b n a ≡ record { tells = record { number = 18; values = [] }; store = b; answer = a }
+unfolding listing-call listing-result least-room called reply after answer-of written told
+unsound-lists-18 b e n a l = rw (le-leb 4096 (length a) l, require-true, done-then, e, present-none, refused-bind, unsound-number)
+
+-- a listing past the last line is refused by 3
+pub past-the-end-is-3 : (s : State) → well-formed s ≡ true → (n : ℕ) (a : List ℕ) → 4096 ≤ length a → getElem? (listing (s .store .tree)) n ≡ none →
+    listing-call (encode s) n a ≡ record { tells = record { number = 3; values = [] }; store = encode s; answer = a }
+unfolding listing-call called reply after answer-of written told least-room
+past-the-end-is-3 s h n a l e = rw (listing-on-encoding s h n (length a), le-leb 4096 (length a) l, require-true, done-then, e, present-none, refused-bind, missing-number)
 
 -- a refused call leaves store and answer buffer as they were
 pub refused-changes-nothing : (b : List ℕ) (t : Text) (a : List ℕ) (why : Cause) → run-result b t (length a) ≡ refused why →

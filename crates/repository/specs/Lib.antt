@@ -4,6 +4,7 @@ pub mod Store
 pub mod Abstract
 pub mod Embedding
 pub mod Calls
+pub mod CallsLaws
 pub mod AnswerLaws
 pub mod Listing
 pub mod ListingLaws

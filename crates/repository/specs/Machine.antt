@@ -158,10 +158,10 @@ module _ {S A : Type 0} (M : Machine S A) (setup : Setup) (s : S) (c : Caller) w
   -- the account's walk to the tag's entry: directory 7; r 5
   unfoldable pub original : Bounded-role → Entry-path → Result (Place A)
   original z e = do
-    filed ← account-walks z (below-rep e)
-    require (not (is-directory (M .judge setup z .kind (filed .here)))) WrongKind
-    require (M .judge setup z .readable (filed .here)) Access
-    done filed
+    entry ← account-walks z (below-rep e)
+    require (not (is-directory (M .judge setup z .kind (entry .here)))) WrongKind
+    require (M .judge setup z .readable (entry .here)) Access
+    done entry
 
   unfoldable pub run-commit : Path → Result (Outcome S)
   run-commit w = do
@@ -169,8 +169,8 @@ module _ {S A : Type 0} (M : Machine S A) (setup : Setup) (s : S) (c : Caller) w
     file ← working-file R w
     let e = file .tag .path
     filed ← original z e
-    folder ← account-walks z (e .folder)
-    require (M .judge setup z .writable (folder .here)) Access
+    above ← account-walks z (e .folder)
+    require (M .judge setup z .writable (above .here)) Access
     let revision = M .revision (filed .here)
     require (eqb (file .tag .revision) revision) Stale
     require (not (eqb revision last-revision)) RevisionsSpent

@@ -1,20 +1,20 @@
 -- The theorems about the pattern repository, each with the words that it stands for. Their proofs are in the files beside it.
 --
--- Demand 3 and soundness come first, then what follows for people, roles and entries.
+-- Demand 3 and the calls come first, then soundness, then what follows for people, roles and entries.
 use mathlib.Core.Path.{_≡_, refl}
 use mathlib.Core.List.{List, []}
 use mathlib.Core.Option.{none, some}
 use mathlib.Core.Bool.{true, false}
 use mathlib.Core.Logic.{_⊎_}
-use Prim.Native.Nat.{ℕ}
-use lib.Dec.{ltb}
+use Prim.Native.Nat.{ℕ, _≤_, _<_}
+use lib.Dec.{eqb, ltb}
 use lib.ListN.{length}
 use Rattle.accounts.specs.declared.Uid.{Uid}
 use Rattle.accounts.specs.Access.{is-root}
 use Rattle.accounts.specs.Dominance.{Bounded-role}
 use Rattle.syntax.specs.Text.{Text, every}
 use Rattle.syntax.specs.Path.{Path, Entry-path, same-path, within}
-use Rattle.commands.specs.Command.{Shell-command, read, Command, shell}
+use Rattle.commands.specs.Command.{Shell-command, read, Command, shell, Line, line}
 use Rattle.setup.specs.Setup.{Setup, accepted, setup, is-setup}
 use Rattle.setup.specs.SetupLaws.{accepted-is-setup}
 use Rattle.tree.specs.declared.Kind.{Kind}
@@ -29,15 +29,24 @@ use Rattle.shell.specs.declared.Caller.{Caller}
 use Rattle.shell.specs.Caller.{Outcome}
 use Rattle.shell.specs.Steps.{run-shell}
 use Rattle.shell.specs.Privacy.{Private, Stays, read-through}
-use Rattle.repository.specs.declared.Answer.the-variants.{Refused}
+use Rattle.repository.specs.declared.Answer.the-variants.{Done, Refused}
 use Rattle.repository.specs.Machine.{caller, run}
 use Rattle.repository.specs.Store.{Store, store, entry-node, initial-store}
 use Rattle.repository.specs.Abstract.{Abstract, Filed, abstract, dominated, initial-abstract}
 use Rattle.repository.specs.Embedding.{met, embed}
-use Rattle.repository.specs.Calls.{Call, after, step, runs}
-use Rattle.repository.specs.Encoding.{encode, well-formed, decode}
-use Rattle.repository.specs.Bytes.{told, run-result, run-call}
+use Rattle.repository.specs.Calls.{Call, after, step, runs, root's}
+use Rattle.repository.specs.CallsLaws
+use Rattle.repository.specs.Encoding.{State, encode, well-formed, decode}
+use Rattle.repository.specs.SoundStore.{Sound}
+use Rattle.repository.specs.SoundStoreLaws
+use Rattle.repository.specs.Transcript.{transcript}
+use Rattle.repository.specs.Bytes.{told, setup-call, run-result, run-call, listing-result, listing-call}
 use Rattle.repository.specs.BytesLaws
+use Rattle.repository.specs.CallBoundsLaws
+use Rattle.repository.specs.CallLists.{Request, run-calls, rootless, Calls-compared}
+use Rattle.repository.specs.CallListsLaws
+use Rattle.repository.specs.Program.{program}
+use Rattle.repository.specs.ProgramLaws
 use Rattle.repository.specs.Observed.{Compared, without-root, Reached, Reached-without-root}
 use Rattle.repository.specs.Keeping
 use Rattle.repository.specs.Lists
@@ -56,6 +65,64 @@ use Rattle.repository.specs.Privacy
 pub demand-3 : (text : Text) (u : Setup) → setup text ≡ accepted u → (calls : List Call) → without-root calls ≡ true →
     Compared (runs store u (initial-store u) calls) (runs abstract u (initial-abstract u) calls)
 demand-3 = Lists.compared-lists
+
+-- Demand 3 on library calls. After a setup that is done, on a buffer of any bytes, every list of command lines with answer buffers
+-- of any bytes, none of them root's, tells and writes what the abstract machine's replies give; afterwards the store's bytes read as
+-- what that machine holds, and no call says 18.
+pub demand-3-on-calls : (b : List ℕ) (text : Text) → setup-call b text .tells ≡ told Done → (requests : List Request) → rootless requests ≡ true →
+    Calls-compared text requests (run-calls (setup-call b text .store) requests)
+demand-3-on-calls = CallListsLaws.compared-calls
+
+-- A setup is done on every buffer of 65,536 bytes with every text that is accepted, and leaves the initial state's bytes.
+pub setup-is-done : (b : List ℕ) → length b ≡ 65536 → (text : Text) (u : Setup) → setup text ≡ accepted u →
+    setup-call b text ≡ record { tells = told Done; store = encode (record { setup = u; store = initial-store u }) }
+setup-is-done = CallListsLaws.set-up-takes
+
+-- A line without a listed form is not root's, one with a listed form is by its caller.
+pub root-has-a-form : (call : Call) → line (call .line) ≡ none → root's call ≡ false
+root-has-a-form = CallsLaws.no-form-not-root's
+
+pub root-is-caller-0 : (call : Call) (l : Line) → line (call .line) ≡ some l → root's call ≡ eqb (l .caller .0) 0
+root-is-caller-0 = CallsLaws.root's-by-caller
+
+-- The program's output is what the three calls give, one after another, on a store of 65,536 bytes and an answer buffer of 4,096,
+-- whatever they hold.
+pub program-is-transcript : (b answer : List ℕ) → length b ≡ 65536 → length answer ≡ 4096 → (input : Text) → program b answer input ≡ transcript input
+program-is-transcript = ProgramLaws.program-is-transcript
+
+-- Before a command: 20 where the answer buffer has less than 4,096 bytes,
+pub short-answer-is-20 : (b : List ℕ) (line : Text) (answer : List ℕ) → length answer < 4096 →
+    run-call b line answer ≡ record { tells = record { number = 20; values = [] }; store = b; answer = answer }
+short-answer-is-20 = BytesLaws.short-answer-is-20
+
+-- then 18 where the store's bytes are not sound.
+pub unsound-is-18 : (b : List ℕ) → (Sound b → ⊥) → (line : Text) (answer : List ℕ) → 4096 ≤ length answer →
+    run-call b line answer ≡ record { tells = record { number = 18; values = [] }; store = b; answer = answer }
+unsound-is-18 b h line answer l = BytesLaws.unsound-is-18 b (SoundStoreLaws.unsound-is-none b h) line answer l
+
+-- Bytes are read as a state just if they are sound, as document 01's sentence has it.
+pub sound-is-read : (b : List ℕ) → Sound b → (s : State) × (decode b ≡ some s)
+sound-is-read = SoundStoreLaws.sound-is-decoded
+
+pub read-is-sound : (b : List ℕ) (s : State) → decode b ≡ some s → Sound b
+read-is-sound = SoundStoreLaws.decoded-is-sound
+
+-- Texts fit. A done command's text has at most 2294 bytes,
+pub text-fits : (b : List ℕ) (line : Text) (room : ℕ) (o : Outcome (List ℕ)) → run-result b line room ≡ done o → (t : Text) → o .text ≡ some t → length t ≤ 2294
+text-fits = CallBoundsLaws.run-text-fits
+
+-- a listing's line at most 192,
+pub listing-line-fits : (b : List ℕ) (n room : ℕ) (o : Outcome (List ℕ)) → listing-result b n room ≡ done o → (t : Text) → o .text ≡ some t → length t ≤ 192
+listing-line-fits = CallBoundsLaws.listing-text-fits
+
+-- and every call on buffers of any bytes keeps the lengths of both.
+pub calls-keep-lengths : (b : List ℕ) (line : Text) (answer : List ℕ) →
+    (length (run-call b line answer .store) ≡ length b) × (length (run-call b line answer .answer) ≡ length answer)
+calls-keep-lengths = CallBoundsLaws.run-keeps-lengths
+
+pub listings-keep-lengths : (b : List ℕ) (n : ℕ) (answer : List ℕ) →
+    (length (listing-call b n answer .store) ≡ length b) × (length (listing-call b n answer .answer) ≡ length answer)
+listings-keep-lengths = CallBoundsLaws.listing-keeps-lengths
 
 -- Soundness. Every accepted setup gives a well-formed store,
 pub initial-is-sound : (text : Text) (u : Setup) → setup text ≡ accepted u → well-formed (record { setup = u; store = initial-store u }) ≡ true

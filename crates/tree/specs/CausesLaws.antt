@@ -13,6 +13,19 @@ pub wrong-setup-is : wrong-setup ≡ 17
 unfolding wrong-setup
 wrong-setup-is = refl
 
+-- the numbers by which calls other than a command are refused
+pub missing-number : number Missing ≡ 3
+unfolding number
+missing-number = refl
+
+pub unsound-number : number Unsound ≡ 18
+unfolding number
+unsound-number = refl
+
+pub short-answer-number : number ShortAnswer ≡ 20
+unfolding number
+short-answer-number = refl
+
 -- no cause's number is 0
 pub number-not-0 : (why : Cause) → eqb (number why) 0 ≡ false
 unfolding number
