@@ -8,25 +8,27 @@ use native.Mathlib.Omega.{arith}
 use borrow.Author.Tests.{ne-eqb, lt-ltb, le-ltb, le-leb, leb-true, leb-false}
 use lib.Dec.{leb, ltb}
 use lib.ListN.{length, take, drop}
+use Rattle.accounts.specs.declared.Uid.{Uid}
 use Rattle.accounts.specs.Cases.{case, and-both}
 use Rattle.syntax.specs.declared.Span.{Span}
 use Rattle.syntax.specs.declared.Field.{Field}
 use Rattle.commands.specs.declared.Command.{Command as Parts}
-use Rattle.commands.specs.declared.Command.the-variants.{Add, Login}
+use Rattle.commands.specs.declared.Command.the-variants.{Create, Mkdir, Read, Write, Rm, Rmdir, Mv, Chmod, Chgrp, Chown, Login, Logout, Add, Co, Commit, Up, Del}
 use Rattle.commands.specs.declared.Found.{Found}
 use Rattle.commands.specs.declared.Found.the-variants.{Command as Is, Nothing}
 use Rattle.commands.specs.declared.Parsed.the-variants.{Line as Is-line, NoForm}
 use Rattle.syntax.specs.Text.{Text, bytes, same-text, comma, pieces}
 use Rattle.syntax.specs.Number.{decimal, between, mode, set-gid, is-mode}
 use Rattle.syntax.specs.Form.{_>>=_, _>>_, check, is-some, by-form}
-use Rattle.syntax.specs.FormLaws.{no-answer, answered, then-none}
-use Rattle.syntax.specs.Path.{path, entry-path, is-name}
+use Rattle.syntax.specs.FormLaws.{no-answer, both-read, answered, then-none}
+use Rattle.syntax.specs.Path.{Path, Entry-path, path, entry-path, is-name}
 use Rattle.syntax.specs.Field.{uid, gid, role, bounded, bounded-by, plain-mode, password, is-content, content}
 use Rattle.syntax.specs.FieldLaws.{between-gives, mode-gives, read-byte}
-use Rattle.commands.specs.Command.{add, Command, repository, forms, line-of, line}
-use Rattle.syntax.specs.Parts.{part, span-text, field-at}
-use Rattle.commands.specs.Parsed.{with-entry, meaning, found, line-with, parsed, command-of}
-use Rattle.commands.specs.WordLaws.{is-none, the-some, same-word, finds-nothing, login-form, add-form, some-of-three, two-found}
+use Rattle.commands.specs.Command.{add, Command, repository, Line, forms, line-of, line}
+use Rattle.syntax.specs.Parts.{part, span-text, Inside, text-in, field-at}
+use Rattle.syntax.specs.PartsLaws.{inside-text, text-inside}
+use Rattle.commands.specs.Parsed.{path-in, entry-in, with-path, with-entry, meaning, Placed, found, line-with, parsed, command-of}
+use Rattle.commands.specs.WordLaws.{is-none, the-some, same-word, finds-nothing, login-form, add-form, some-of-three, path-inside, entry-inside, two-found}
 use Rattle.syntax.specs.FieldAtLaws.{field-is, field-goes-on, last-piece, next-piece}
 
 pub gid-read : (n : ℕ) (t : Text) → some n ≡ between 0 24 t → gid t ≡ some (record { 0 = n % 256 })
@@ -111,26 +113,26 @@ unfolding plain-mode _>>=_
 no-plain-mode t e = rw (← e)
 
 -- `login` with its role
-pub login-found : (t : Text) (a b : Span) (n : ℕ) → some n ≡ between 0 7 (span-text t a) → is-name (span-text t b) ≡ true →
+pub login-found : (t : Text) (a b : Span) (n : ℕ) → Inside b t → some n ≡ between 0 7 (span-text t a) → is-name (span-text t b) ≡ true →
     found t (Is (Login (record { 0 = n % 256 }) b)) ≡ Option·map some (by-form forms (bytes "login") (span-text t a ∷ (span-text t b ∷ [])))
 unfolding meaning _>>=_ is-some
-login-found t a b n e h =
+login-found t a b n i e h =
     let r : _ = role-read n (span-text t a) e in
     let w : _ = password-read (span-text t b) h in
-    two-found login-form t (span-text t a) (span-text t b) (Login (record { 0 = n % 256 }) b) (rw (r .0, w)) (r .1) (ap is-some w)
+    two-found login-form t (span-text t a) (span-text t b) (Login (record { 0 = n % 256 }) b) (rw (r .0, w, inside-text i)) (r .1) (ap is-some w)
 
 -- a word with three arguments
-pub add-found : (t w : Text) (a b c : Span) (n : ℕ) → same-text w (bytes "add") ≡ true → is-some (path (span-text t a)) ≡ true →
+pub add-found : (t w : Text) (a b c : Span) (n : ℕ) → Inside a t → Inside b t → same-text w (bytes "add") ≡ true → is-some (path (span-text t a)) ≡ true →
     is-some (entry-path (span-text t b)) ≡ true → some n ≡ between 0 7 (span-text t c) →
     found t (Is (Add a b (record { 0 = n % 256 }))) ≡ Option·map some (by-form forms w (span-text t a ∷ (span-text t b ∷ (span-text t c ∷ []))))
 unfolding found meaning with-entry _>>=_
-add-found t w a b c n e h k l =
+add-found t w a b c n i j e h k l =
     let p : _ = the-some (path (span-text t a)) h in
     let q : _ = the-some (entry-path (span-text t b)) k in
     let r : _ = role-read n (span-text t c) l in
     let z : _ = the-some (role (span-text t c)) (r .1) in
-    let i : _ = same-word w (bytes "add") (span-text t a ∷ (span-text t b ∷ (span-text t c ∷ []))) e in
-    rw (← i, add-form (span-text t a) (span-text t b) (span-text t c), p .1, q .1, z .1, sym (r .0) ∙ z .1)
+    let f : _ = same-word w (bytes "add") (span-text t a ∷ (span-text t b ∷ (span-text t c ∷ []))) e in
+    rw (← f, add-form (span-text t a) (span-text t b) (span-text t c), path-inside i, entry-inside j, p .1, q .1, z .1, sym (r .0) ∙ z .1)
 
 pub add-nothing : (t w s s′ s″ : Text) → same-text w (bytes "add") ≡ true → (is-some (path s) && (is-some (entry-path s′) && is-some (role s″))) ≡ false →
     found t Nothing ≡ Option·map some (by-form forms w (s ∷ (s′ ∷ (s″ ∷ []))))
@@ -196,3 +198,62 @@ line-found t s ps n c e h k =
     let i : _ = found-some (meaning t c) (command-of ps) k in
     let m : _ = the-some (command-of ps) (i .1) in
     rw (e, line-parts s ps, uid-read n s h, i .0, m .1)
+
+-- a part with a path or an entry path lies inside the line
+path-placed : (t : Text) (s : Span) (p : Path) → path-in t s ≡ some p → Inside s t
+unfolding path-in
+path-placed t s p e = let i : _ = both-read (text-in t s) path p e in text-inside t s (i .0) (i .1) .0
+
+entry-placed : (t : Text) (s : Span) (p : Entry-path) → entry-in t s ≡ some p → Inside s t
+unfolding entry-in
+entry-placed t s p e = let i : _ = both-read (text-in t s) entry-path p e in text-inside t s (i .0) (i .1) .0
+
+with-path-placed : (t : Text) (s : Span) (f : Path → Command) (k : Command) → with-path t s f ≡ some k → Inside s t
+unfolding with-path
+with-path-placed t s f k e = let i : _ = both-read (path-in t s) (λ p. some (f p)) k e in path-placed t s (i .0) (i .1)
+
+with-entry-placed : (t : Text) (s : Span) (f : Entry-path → Command) (k : Command) → with-entry t s f ≡ some k → Inside s t
+unfolding with-entry
+with-entry-placed t s f k e = let i : _ = both-read (entry-in t s) (λ p. some (f p)) k e in entry-placed t s (i .0) (i .1)
+
+-- every part of a command with a meaning lies inside the line
+pub meaning-placed : (t : Text) (c : Parts) (k : Command) → meaning t c ≡ some k → Placed t c
+unfolding meaning Placed
+meaning-placed t (Create p m) k e = with-path-placed t p _ k e
+meaning-placed t (Mkdir p m) k e = with-path-placed t p _ k e
+meaning-placed t (Read p) k e = with-path-placed t p _ k e
+meaning-placed t (Write p c) k e =
+    let i : _ = both-read (text-in t c) _ k e in
+    (with-path-placed t p _ k (i .2), text-inside t c (i .0) (i .1) .0)
+meaning-placed t (Rm p) k e = with-path-placed t p _ k e
+meaning-placed t (Rmdir p) k e = with-path-placed t p _ k e
+meaning-placed t (Mv a b) k e =
+    let i : _ = both-read (path-in t a) _ k e in
+    (path-placed t a (i .0) (i .1), with-path-placed t b _ k (i .2))
+meaning-placed t (Chmod p m) k e = with-path-placed t p _ k e
+meaning-placed t (Chgrp p g) k e = with-path-placed t p _ k e
+meaning-placed t (Chown p u) k e = with-path-placed t p _ k e
+meaning-placed t (Login r w) k e =
+    let i : _ = both-read (bounded (r .0)) _ k e in
+    let j : _ = both-read (text-in t w) _ k (i .2) in
+    text-inside t w (j .0) (j .1) .0
+meaning-placed t Logout k e = tt
+meaning-placed t (Add w n r) k e =
+    let i : _ = both-read (path-in t w) _ k e in
+    let j : _ = both-read (bounded (r .0)) _ k (i .2) in
+    (path-placed t w (i .0) (i .1), with-entry-placed t n _ k (j .2))
+meaning-placed t (Co n d) k e =
+    let i : _ = both-read (entry-in t n) _ k e in
+    (entry-placed t n (i .0) (i .1), with-path-placed t d _ k (i .2))
+meaning-placed t (Commit w) k e = with-path-placed t w _ k e
+meaning-placed t (Up w) k e = with-path-placed t w _ k e
+meaning-placed t (Del n) k e = with-entry-placed t n _ k e
+
+-- and so does every part of a line that was parsed: what a caller of `parse` reads of its answer
+pub parsed-placed : (t : Text) (u : Uid) (c : Parts) → parsed t (Is-line u c) ≡ Option·map some (line t) → Placed t c
+unfolding parsed line-with
+parsed-placed t u c e = by (line t) e
+  where
+    by : (l : Option Line) → some (line-with u (meaning t c)) ≡ Option·map some l → Placed t c
+    by none e = no-answer (sym e)
+    by (some l) e = let i : _ = both-read (meaning t c) (λ k. some (record { caller = u; command = k })) l (sym (answered e)) in meaning-placed t c (i .0) (i .1)

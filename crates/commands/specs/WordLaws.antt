@@ -25,10 +25,10 @@ use Rattle.syntax.specs.Form.{_>>=_, Form, none-of, one-of, two-of, three-of, b
 use Rattle.syntax.specs.Path.{Path, Entry-path, path, entry-path}
 use Rattle.syntax.specs.Field.{uid, gid, role, plain-mode, password, content}
 use Rattle.commands.specs.Command.{create, mkdir, read, write, rm, rmdir, mv, chmod, chgrp, chown, login, logout, add, co, commit, up, del, Command, shell, repository, form, forms}
-use Rattle.syntax.specs.Parts.{span-text}
-use Rattle.commands.specs.Parsed.{with-path, meaning, found}
+use Rattle.syntax.specs.Parts.{span-text, Inside}
+use Rattle.commands.specs.Parsed.{path-in, entry-in, with-path, with-entry, meaning, found}
 use Rattle.syntax.specs.FormLaws.{none-refuses, one-refuses, two-refuses, three-refuses}
-use Rattle.syntax.specs.PartsLaws.{some-of-one}
+use Rattle.syntax.specs.PartsLaws.{inside-text, some-of-one}
 
 -- what is no answer is none
 pub is-none : {A : Type 0} (m : Option A) → is-some m ≡ false → m ≡ none
@@ -240,8 +240,17 @@ unfolding _>>=_ is-some
 some-of-three none n o x = refl
 some-of-three (some a) n o x = some-of-two n o (x a)
 
+-- a part inside the line has the path and the entry path of its text
+pub path-inside : {s : Span} {t : Text} → Inside s t → path-in t s ≡ path (span-text t s)
+unfolding path-in _>>=_
+path-inside h = rw (inside-text h)
+
+pub entry-inside : {s : Span} {t : Text} → Inside s t → entry-in t s ≡ entry-path (span-text t s)
+unfolding entry-in _>>=_
+entry-inside h = rw (inside-text h)
+
 -- a word of one argument: what is read has the meaning, what is not read is nothing
-pub one-found : {A : Type 0} {v : Text} {r : Text → Option A} {x : A → Command} → One A v r x →
+one-found : {A : Type 0} {v : Text} {r : Text → Option A} {x : A → Command} → One A v r x →
     (t w s : Text) (c : Parts) → same-text w v ≡ true → meaning t c ≡ (r s >>= λ a. some (x a)) → is-some (r s) ≡ true →
     found t (Is c) ≡ Option·map some (by-form forms w (s ∷ []))
 one-found {v = v} {r = r} {x = x} f t w s c e h k =
@@ -253,6 +262,17 @@ pub one-nothing : {A : Type 0} {v : Text} {r : Text → Option A} {x : A → Com
 one-nothing {v = v} {r = r} {x = x} f t w s e k =
     let i : _ = sym (f .reads s) ∙ same-word w v (s ∷ []) e in
     finds-nothing t (by-form forms w (s ∷ [])) (sym (ap is-some i) ∙ (some-of-one (r s) x ∙ k))
+
+-- a word of a path, and one of an entry path
+pub path-found : {v : Text} {x : Path → Command} → One Path v path x → (t w : Text) (a : Span) (c : Parts) → meaning t c ≡ with-path t a x →
+    Inside a t → same-text w v ≡ true → is-some (path (span-text t a)) ≡ true → found t (Is c) ≡ Option·map some (by-form forms w (span-text t a ∷ []))
+unfolding with-path
+path-found f t w a c h i e k = one-found f t w (span-text t a) c e (h ∙ rw (path-inside i)) k
+
+pub entry-found : {v : Text} {x : Entry-path → Command} → One Entry-path v entry-path x → (t w : Text) (a : Span) (c : Parts) → meaning t c ≡ with-entry t a x →
+    Inside a t → same-text w v ≡ true → is-some (entry-path (span-text t a)) ≡ true → found t (Is c) ≡ Option·map some (by-form forms w (span-text t a ∷ []))
+unfolding with-entry
+entry-found f t w a c h i e k = one-found f t w (span-text t a) c e (h ∙ rw (entry-inside i)) k
 
 -- a word of one argument other than `del` takes a path
 pub no-path : (t w s : Text) → same-text w (bytes "del") ≡ false → is-some (path s) ≡ false → found t Nothing ≡ Option·map some (by-form forms w (s ∷ []))
@@ -284,8 +304,8 @@ second-nothing {r = r} {r′ = r′} {x = x} f t s s′ k =
 
 -- a path and a value
 pub path-and : {B : Type 0} {v : Text} {r′ : Text → Option B} {x : Path → B → Command} → Two Path B v path r′ x →
-    (t : Text) (a : Span) (s′ : Text) (b : B) (c : Parts) → meaning t c ≡ with-path t a (λ p. x p b) →
+    (t : Text) (a : Span) (s′ : Text) (b : B) (c : Parts) → meaning t c ≡ with-path t a (λ p. x p b) → Inside a t →
     is-some (path (span-text t a)) ≡ true → r′ s′ ≡ some b → found t (Is c) ≡ Option·map some (by-form forms v (span-text t a ∷ (s′ ∷ [])))
 unfolding with-path _>>=_ is-some
-path-and {r′ = r′} {x = x} f t a s′ b c h k l =
-    two-found f t (span-text t a) s′ c (h ∙ rw l) k (ap is-some l)
+path-and {r′ = r′} {x = x} f t a s′ b c h i k l =
+    two-found f t (span-text t a) s′ c (h ∙ rw (path-inside i, l)) k (ap is-some l)

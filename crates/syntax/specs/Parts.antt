@@ -1,7 +1,7 @@
 -- What the code's readers answer: parts of a text by their places, fields, numbers and names.
 use mathlib.Core.List.{[], _∷_}
 use mathlib.Core.Option.{Option, none, some}
-use mathlib.Core.Bool.{Bool, cond}
+use mathlib.Core.Bool.{Bool, _&&_, cond}
 use Prim.Native.Nat.{ℕ, zero, suc, _+_, _-_, _≤_}
 use lib.Dec.{eqb, leb}
 use lib.ListN.{length, take, drop, getD}
@@ -14,6 +14,7 @@ use Rattle.syntax.specs.declared.Number.the-variants.{Value, Nothing}
 use Rattle.syntax.specs.declared.NextName.{NextName}
 use Rattle.syntax.specs.declared.NextName.the-variants
 use Rattle.syntax.specs.Text.{Text, comma}
+use Rattle.syntax.specs.Form.{_>>_, check}
 use Rattle.syntax.specs.Number.{digit}
 use Rattle.syntax.specs.Path.{name-byte}
 use Rattle.syntax.specs.Field.{content-byte}
@@ -29,6 +30,16 @@ span-text t s = part t (s .start) (s .end)
 pub record Inside (s : Span) (t : Text) : Type 0 where
   pub ordered : s .start ≤ s .end
   pub ends : s .end ≤ length t
+
+-- whether it does, as a test
+unfoldable pub span-inside : Text → Span → Bool
+span-inside t s = leb (s .start) (s .end) && leb (s .end) (length t)
+
+-- the text of a part that lies inside a text; a part that does not has none
+unfoldable pub text-in : Text → Span → Option Text
+text-in t s = do
+  check (span-inside t s)
+  some (span-text t s)
 
 -- the bytes of a class
 unfoldable pub of-class : Class → ℕ → Bool

@@ -1,4 +1,5 @@
--- Laws of parts of texts: the pieces of a text and of a text from a place on, and tests and comparisons from a place on.
+-- Laws of parts of texts: parts that lie inside, the pieces of a text and of a text from a place on, and tests and comparisons
+-- from a place on.
 use mathlib.Core.Path.{_≡_, refl, sym, ap, ap₂, _∙_}
 use mathlib.Core.List.{List, [], _∷_}
 use mathlib.Core.Option.{Option, none, some}
@@ -6,14 +7,16 @@ use mathlib.Core.Bool.{Bool, true, false, _&&_, not}
 use Prim.Native.Nat.{ℕ, suc, _+_, _-_, _≤_, _<_}
 use native.Mathlib.Omega.{arith}
 use native.Mathlib.Numerals.{add-one}
-use borrow.Author.Tests.{eqb-true, eq-eqb, ne-eqb, not-true, not-false}
-use lib.Dec.{eqb}
+use borrow.Author.Tests.{eqb-true, eq-eqb, ne-eqb, le-leb, leb-true, not-true, not-false}
+use lib.Dec.{eqb, leb}
 use lib.ListN.{length, take, drop, getD, length-drop, drop-of-length-le}
 use lib.Seq.{drop-cons, drop-drop, take-length}
-use Rattle.accounts.specs.Cases.{case}
+use Rattle.accounts.specs.Cases.{case, and-both}
+use Rattle.syntax.specs.declared.Span.{Span}
 use Rattle.syntax.specs.Text.{Text, same-text, every, prefix-first, pieces, joined}
-use Rattle.syntax.specs.Form.{_>>=_, is-some}
-use Rattle.syntax.specs.Parts.{part, piece-length}
+use Rattle.syntax.specs.Form.{_>>=_, _>>_, check, is-some}
+use Rattle.syntax.specs.FormLaws.{answered, both, checked}
+use Rattle.syntax.specs.Parts.{part, span-text, Inside, span-inside, text-in, piece-length}
 
 -- what a call answered, from a test of its answer turned round
 pub answers-false : {r t : Bool} → r ≡ t → not r ≡ true → t ≡ false
@@ -21,6 +24,28 @@ answers-false {r} e h = sym e ∙ not-true r h
 
 pub answers-true : {r t : Bool} → r ≡ t → not r ≡ false → t ≡ true
 answers-true {r} e h = sym e ∙ not-false r h
+
+-- the test whether a part lies inside tells whether it does
+pub inside-true : {s : Span} {t : Text} → Inside s t → span-inside t s ≡ true
+unfolding span-inside
+inside-true {s} {t} h = both (le-leb (s .start) (s .end) (h .ordered)) (le-leb (s .end) (length t) (h .ends))
+
+pub true-inside : (t : Text) (s : Span) → span-inside t s ≡ true → Inside s t
+unfolding span-inside
+true-inside t s h =
+    let i : _ = and-both (leb (s .start) (s .end)) (leb (s .end) (length t)) h in
+    record { ordered = leb-true (s .start) (s .end) (i .0); ends = leb-true (s .end) (length t) (i .1) }
+
+-- a part that lies inside has its text, and one that has a text lies inside
+pub inside-text : {s : Span} {t : Text} → Inside s t → text-in t s ≡ some (span-text t s)
+unfolding text-in check _>>_
+inside-text h = rw (inside-true h)
+
+pub text-inside : (t : Text) (s : Span) (x : Text) → text-in t s ≡ some x → (Inside s t) × (x ≡ span-text t s)
+unfolding text-in
+text-inside t s x e =
+    let i : _ = checked (span-inside t s) (some (span-text t s)) x e in
+    (true-inside t s (i .0), answered (i .1))
 
 -- a piece is no longer than its text
 pub piece-length-le : (b : ℕ) (t : Text) → piece-length b t ≤ length t

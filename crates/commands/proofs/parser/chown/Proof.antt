@@ -38,11 +38,12 @@ returns-2 : tie.Need-returns-2
 unfolding meaning number-of
 returns-2 c =
     let a = c .before .before .before .before .before .before .before .args in
+    let i = c .before .before .before .before .before .before .before .pre in
     let t = now (a .line) in
     let p = c .before .before .before .before .before .path-at in
     let n = c .before .n .given .0 .0 in
     let e = ap number-of (sym (c .before .n .given .1)) ∙ c .before .before .before .number-at .ensures in
-    path-and chown-form t (a .a) (span-text t (a .b)) (record { 0 = n % 256 }) (Chown (a .a) (record { 0 = n % 256 })) refl (sym (p .ensures) ∙ not-false (p .result) (c .before .before .before .before .if1 .left)) (uid-read n (span-text t (a .b)) e)
+    path-and chown-form t (a .a) (span-text t (a .b)) (record { 0 = n % 256 }) (Chown (a .a) (record { 0 = n % 256 })) refl (i .0) (sym (p .ensures) ∙ not-false (p .result) (c .before .before .before .before .if1 .left)) (uid-read n (span-text t (a .b)) e)
 
 returns-3 : tie.Need-returns-3
 unfolding number-of

@@ -1,11 +1,11 @@
 -- `commands::parser::co` meets its contract: the laws of a form of two values.
-use mathlib.Core.Path.{refl, sym, _∙_}
+use mathlib.Core.Path.{sym, _∙_}
 use denote.Ref.{now}
 use borrow.Author.Tests.{not-true, not-false}
 use borrow.Author.Needs.{needs}
 use Rattle.syntax.specs.Parts.{span-text}
 use Rattle.commands.specs.Parsed.{meaning, with-path}
-use Rattle.commands.specs.WordLaws.{co-form, two-found, first-nothing, second-nothing}
+use Rattle.commands.specs.WordLaws.{co-form, path-inside, entry-inside, two-found, first-nothing, second-nothing}
 use Rattle.commands.specs.declared.Command.the-variants.{Co}
 use Rattle.commands.proofs.parser.co.Statement.{statement}
 use Rattle.commands.proofs.parser.co.Tie as tie
@@ -34,10 +34,11 @@ returns-3 : tie.Need-returns-3
 unfolding meaning with-path
 returns-3 c =
     let a = c .before .before .before .before .before .args in
+    let i = c .before .before .before .before .before .pre in
     let t = now (a .line) in
     let p = c .before .before .before .entry-path-at in
     let q = c .before .path-at in
-    two-found co-form t (span-text t (a .a)) (span-text t (a .b)) (Co (a .a) (a .b)) refl (sym (p .ensures) ∙ not-false (p .result) (c .before .before .if1 .left)) (sym (q .ensures) ∙ not-false (q .result) (c .if2 .left))
+    two-found co-form t (span-text t (a .a)) (span-text t (a .b)) (Co (a .a) (a .b)) (rw (entry-inside (i .0), path-inside (i .1))) (sym (p .ensures) ∙ not-false (p .result) (c .before .before .if1 .left)) (sym (q .ensures) ∙ not-false (q .result) (c .if2 .left))
 
 pub co-spec : {M : Type 1} → statement M
 co-spec = tie.close (tie.spec entry-path-at-requires returns path-at-requires returns-2 returns-3)

@@ -43,11 +43,12 @@ returns-2 : tie.Need-returns-2
 unfolding meaning number-of span-text part
 returns-2 c =
     let a = c .before .before .before .before .before .before .before .before .args in
+    let i = c .before .before .before .before .before .before .before .before .pre in
     let t = now (a .line) in
     let p = c .before .before .before .before .before .before .path-at in
     let n = c .before .n .given .0 .0 in
     let e = ap number-of (sym (c .before .n .given .1)) ∙ c .before .before .before .file-mode .ensures in
-    path-and create-form t (a .a) (span-text t (a .b)) n (Create (a .a) n) refl (sym (p .ensures) ∙ not-false (p .result) (c .before .before .before .before .before .if1 .left)) (sym e)
+    path-and create-form t (a .a) (span-text t (a .b)) n (Create (a .a) n) refl (i .0) (sym (p .ensures) ∙ not-false (p .result) (c .before .before .before .before .before .if1 .left)) (sym e)
 
 returns-3 : tie.Need-returns-3
 unfolding number-of span-text part

@@ -49,7 +49,7 @@ returns-2 c =
     let q = c .before .before .before .before .before .is-name in
     let n = c .before .n .given .0 .0 in
     let e = ap number-of (sym (c .before .n .given .1)) ∙ c .before .before .before .number-at .ensures in
-    login-found t (a .a) (a .b) n e (sym (q .ensures) ∙ not-false (q .result) (c .before .before .before .before .if1 .left))
+    login-found t (a .a) (a .b) n (c .before .before .before .before .before .before .before .before .pre .1) e (sym (q .ensures) ∙ not-false (q .result) (c .before .before .before .before .if1 .left))
 
 returns-3 : tie.Need-returns-3
 unfolding number-of

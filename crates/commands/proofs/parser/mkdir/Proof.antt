@@ -34,11 +34,12 @@ returns-2 : tie.Need-returns-2
 unfolding meaning number-of
 returns-2 c =
     let a = c .before .before .before .before .before .before .before .args in
+    let i = c .before .before .before .before .before .before .before .pre in
     let t = now (a .line) in
     let p = c .before .before .before .before .before .path-at in
     let n = c .before .n .given .0 .0 in
     let e = ap number-of (sym (c .before .n .given .1)) ∙ c .before .before .before .mode-at .ensures in
-    path-and mkdir-form t (a .a) (span-text t (a .b)) n (Mkdir (a .a) n) refl (sym (p .ensures) ∙ not-false (p .result) (c .before .before .before .before .if1 .left)) (sym e)
+    path-and mkdir-form t (a .a) (span-text t (a .b)) n (Mkdir (a .a) n) refl (i .0) (sym (p .ensures) ∙ not-false (p .result) (c .before .before .before .before .if1 .left)) (sym e)
 
 returns-3 : tie.Need-returns-3
 unfolding number-of

@@ -1,11 +1,11 @@
 -- `commands::parser::mv` meets its contract: the laws of a form of two values.
-use mathlib.Core.Path.{refl, sym, _∙_}
+use mathlib.Core.Path.{sym, _∙_}
 use denote.Ref.{now}
 use borrow.Author.Tests.{not-true, not-false}
 use borrow.Author.Needs.{needs}
 use Rattle.syntax.specs.Parts.{span-text}
 use Rattle.commands.specs.Parsed.{meaning, with-path}
-use Rattle.commands.specs.WordLaws.{mv-form, two-found, first-nothing, second-nothing}
+use Rattle.commands.specs.WordLaws.{mv-form, path-inside, two-found, first-nothing, second-nothing}
 use Rattle.commands.specs.declared.Command.the-variants.{Mv}
 use Rattle.commands.proofs.parser.mv.Statement.{statement}
 use Rattle.commands.proofs.parser.mv.Tie as tie
@@ -34,10 +34,11 @@ returns-3 : tie.Need-returns-3
 unfolding meaning with-path
 returns-3 c =
     let a = c .before .before .before .before .before .args in
+    let i = c .before .before .before .before .before .pre in
     let t = now (a .line) in
     let p = c .before .before .before .path-at in
     let q = c .before .path-at2 in
-    two-found mv-form t (span-text t (a .a)) (span-text t (a .b)) (Mv (a .a) (a .b)) refl (sym (p .ensures) ∙ not-false (p .result) (c .before .before .if1 .left)) (sym (q .ensures) ∙ not-false (q .result) (c .if2 .left))
+    two-found mv-form t (span-text t (a .a)) (span-text t (a .b)) (Mv (a .a) (a .b)) (rw (path-inside (i .0), path-inside (i .1))) (sym (p .ensures) ∙ not-false (p .result) (c .before .before .if1 .left)) (sym (q .ensures) ∙ not-false (q .result) (c .if2 .left))
 
 pub mv-spec : {M : Type 1} → statement M
 mv-spec = tie.close (tie.spec path-at-requires returns path-at-requires-2 returns-2 returns-3)

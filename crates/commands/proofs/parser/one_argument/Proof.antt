@@ -8,8 +8,8 @@ use Rattle.syntax.specs.Text.{bytes}
 use Rattle.syntax.specs.Form.{by-form}
 use Rattle.commands.specs.Command.{forms}
 use Rattle.syntax.specs.Parts.{span-text}
-use Rattle.commands.specs.Parsed.{meaning, with-path, with-entry}
-use Rattle.commands.specs.WordLaws.{no-word-one, unlike, read-form, rm-form, rmdir-form, commit-form, up-form, del-form, one-found, one-nothing, no-path, finds-none}
+use Rattle.commands.specs.Parsed.{meaning}
+use Rattle.commands.specs.WordLaws.{no-word-one, unlike, read-form, rm-form, rmdir-form, commit-form, up-form, del-form, one-nothing, path-found, entry-found, no-path, finds-none}
 use Rattle.commands.specs.declared.Command.the-variants.{Read, Rm, Rmdir, Commit, Up, Del}
 use Rattle.commands.proofs.parser.one_argument.Statement.{statement}
 use Rattle.commands.proofs.parser.one_argument.Tie as tie
@@ -24,13 +24,14 @@ entry-path-at-requires : tie.Need-entry-path-at-requires
 entry-path-at-requires c κs = search needs
 
 returns : tie.Need-returns
-unfolding bytes meaning with-entry
+unfolding bytes meaning
 returns c =
     let a = c .before .before .before .before .before .before .args in
+    let i = c .before .before .before .before .before .before .pre .1 in
     let t = now (a .line) in
     let w = c .before .before .before .word-is in
     let p = c .before .entry-path-at in
-    one-found del-form t (span-text t (a .w)) (span-text t (a .a)) (Del (a .a)) (sym (w .ensures) ∙ c .before .before .if1 .taken) refl (sym (p .ensures) ∙ c .if2 .taken)
+    entry-found del-form t (span-text t (a .w)) (a .a) (Del (a .a)) refl i (sym (w .ensures) ∙ c .before .before .if1 .taken) (sym (p .ensures) ∙ c .if2 .taken)
 
 returns-2 : tie.Need-returns-2
 unfolding bytes
@@ -60,13 +61,14 @@ word-is-requires-2 : tie.Need-word-is-requires-2
 word-is-requires-2 c κs = c .before .before .before .before .before .before .before .pre .0
 
 returns-4 : tie.Need-returns-4
-unfolding bytes meaning with-path
+unfolding bytes meaning
 returns-4 c =
     let a = c .before .before .before .before .before .before .before .before .before .args in
+    let i = c .before .before .before .before .before .before .before .before .before .pre .1 in
     let t = now (a .line) in
     let w = c .before .word-is2 in
     let p = c .before .before .before in
-    one-found read-form t (span-text t (a .w)) (span-text t (a .a)) (Read (a .a)) (sym (w .ensures) ∙ c .if4 .taken) refl (sym (p .before .path-at .ensures) ∙ not-false (p .before .path-at .result) (p .if3 .left))
+    path-found read-form t (span-text t (a .w)) (a .a) (Read (a .a)) refl i (sym (w .ensures) ∙ c .if4 .taken) (sym (p .before .path-at .ensures) ∙ not-false (p .before .path-at .result) (p .if3 .left))
 
 slice-aggregate-word-is-3 : tie.Need-slice-aggregate-word-is-3
 slice-aggregate-word-is-3 c = search needs
@@ -75,13 +77,14 @@ word-is-requires-3 : tie.Need-word-is-requires-3
 word-is-requires-3 c κs = c .before .before .before .before .before .before .before .before .before .before .pre .0
 
 returns-5 : tie.Need-returns-5
-unfolding bytes meaning with-path
+unfolding bytes meaning
 returns-5 c =
     let a = c .before .before .before .before .before .before .before .before .before .before .before .before .args in
+    let i = c .before .before .before .before .before .before .before .before .before .before .before .before .pre .1 in
     let t = now (a .line) in
     let w = c .before .word-is3 in
     let p = c .before .before .before .before .before .before in
-    one-found rm-form t (span-text t (a .w)) (span-text t (a .a)) (Rm (a .a)) (sym (w .ensures) ∙ c .if5 .taken) refl (sym (p .before .path-at .ensures) ∙ not-false (p .before .path-at .result) (p .if3 .left))
+    path-found rm-form t (span-text t (a .w)) (a .a) (Rm (a .a)) refl i (sym (w .ensures) ∙ c .if5 .taken) (sym (p .before .path-at .ensures) ∙ not-false (p .before .path-at .result) (p .if3 .left))
 
 slice-aggregate-word-is-4 : tie.Need-slice-aggregate-word-is-4
 slice-aggregate-word-is-4 c = search needs
@@ -90,13 +93,14 @@ word-is-requires-4 : tie.Need-word-is-requires-4
 word-is-requires-4 c κs = c .before .before .before .before .before .before .before .before .before .before .before .before .before .pre .0
 
 returns-6 : tie.Need-returns-6
-unfolding bytes meaning with-path
+unfolding bytes meaning
 returns-6 c =
     let a = c .before .before .before .before .before .before .before .before .before .before .before .before .before .before .before .args in
+    let i = c .before .before .before .before .before .before .before .before .before .before .before .before .before .before .before .pre .1 in
     let t = now (a .line) in
     let w = c .before .word-is4 in
     let p = c .before .before .before .before .before .before .before .before .before in
-    one-found rmdir-form t (span-text t (a .w)) (span-text t (a .a)) (Rmdir (a .a)) (sym (w .ensures) ∙ c .if6 .taken) refl (sym (p .before .path-at .ensures) ∙ not-false (p .before .path-at .result) (p .if3 .left))
+    path-found rmdir-form t (span-text t (a .w)) (a .a) (Rmdir (a .a)) refl i (sym (w .ensures) ∙ c .if6 .taken) (sym (p .before .path-at .ensures) ∙ not-false (p .before .path-at .result) (p .if3 .left))
 
 slice-aggregate-word-is-5 : tie.Need-slice-aggregate-word-is-5
 slice-aggregate-word-is-5 c = search needs
@@ -105,13 +109,14 @@ word-is-requires-5 : tie.Need-word-is-requires-5
 word-is-requires-5 c κs = c .before .before .before .before .before .before .before .before .before .before .before .before .before .before .before .before .pre .0
 
 returns-7 : tie.Need-returns-7
-unfolding bytes meaning with-path
+unfolding bytes meaning
 returns-7 c =
     let a = c .before .before .before .before .before .before .before .before .before .before .before .before .before .before .before .before .before .before .args in
+    let i = c .before .before .before .before .before .before .before .before .before .before .before .before .before .before .before .before .before .before .pre .1 in
     let t = now (a .line) in
     let w = c .before .word-is5 in
     let p = c .before .before .before .before .before .before .before .before .before .before .before .before in
-    one-found commit-form t (span-text t (a .w)) (span-text t (a .a)) (Commit (a .a)) (sym (w .ensures) ∙ c .if7 .taken) refl (sym (p .before .path-at .ensures) ∙ not-false (p .before .path-at .result) (p .if3 .left))
+    path-found commit-form t (span-text t (a .w)) (a .a) (Commit (a .a)) refl i (sym (w .ensures) ∙ c .if7 .taken) (sym (p .before .path-at .ensures) ∙ not-false (p .before .path-at .result) (p .if3 .left))
 
 slice-aggregate-word-is-6 : tie.Need-slice-aggregate-word-is-6
 slice-aggregate-word-is-6 c = search needs
@@ -120,13 +125,14 @@ word-is-requires-6 : tie.Need-word-is-requires-6
 word-is-requires-6 c κs = c .before .before .before .before .before .before .before .before .before .before .before .before .before .before .before .before .before .before .before .pre .0
 
 returns-8 : tie.Need-returns-8
-unfolding bytes meaning with-path
+unfolding bytes meaning
 returns-8 c =
     let a = c .before .before .before .before .before .before .before .before .before .before .before .before .before .before .before .before .before .before .before .before .before .args in
+    let i = c .before .before .before .before .before .before .before .before .before .before .before .before .before .before .before .before .before .before .before .before .before .pre .1 in
     let t = now (a .line) in
     let w = c .before .word-is6 in
     let p = c .before .before .before .before .before .before .before .before .before .before .before .before .before .before .before in
-    one-found up-form t (span-text t (a .w)) (span-text t (a .a)) (Up (a .a)) (sym (w .ensures) ∙ c .if8 .taken) refl (sym (p .before .path-at .ensures) ∙ not-false (p .before .path-at .result) (p .if3 .left))
+    path-found up-form t (span-text t (a .w)) (a .a) (Up (a .a)) refl i (sym (w .ensures) ∙ c .if8 .taken) (sym (p .before .path-at .ensures) ∙ not-false (p .before .path-at .result) (p .if3 .left))
 
 returns-9 : tie.Need-returns-9
 unfolding bytes

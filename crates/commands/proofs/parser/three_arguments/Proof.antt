@@ -68,6 +68,7 @@ returns-4 : tie.Need-returns-4
 unfolding bytes number-of
 returns-4 c =
     let a = c .before .before .before .before .before .before .before .before .before .before .before .before .args in
+    let i = c .before .before .before .before .before .before .before .before .before .before .before .before .pre .1 in
     let t = now (a .line) in
     let k = c .before .before .before .before in
     let n = c .before .n .given .0 .0 in
@@ -75,7 +76,7 @@ returns-4 c =
     let e = sym (k .before .entry-path-at .ensures) ∙ not-false (k .before .entry-path-at .result) (k .if3 .left) in
     let p = sym (k .before .before .before .path-at .ensures) ∙ not-false (k .before .before .before .path-at .result) (k .before .before .if2 .left) in
     let w = sym (k .before .before .before .before .before .word-is .ensures) ∙ not-false (k .before .before .before .before .before .word-is .result) (k .before .before .before .before .if1 .left) in
-    add-found t (span-text t (a .w)) (a .a) (a .b) (a .c) n w p e r
+    add-found t (span-text t (a .w)) (a .a) (a .b) (a .c) n (i .0) (i .1 .0) w p e r
 
 returns-5 : tie.Need-returns-5
 unfolding bytes number-of

@@ -1,9 +1,11 @@
 -- `commands::parser::write` meets its contract: the laws of a form of a path and a value.
-use mathlib.Core.Path.{refl, sym, _∙_}
+use mathlib.Core.Path.{sym, _∙_}
 use denote.Ref.{now}
 use borrow.Author.Tests.{not-true, not-false}
 use borrow.Author.Needs.{needs}
+use Rattle.syntax.specs.Form.{_>>=_}
 use Rattle.syntax.specs.Parts.{span-text, part}
+use Rattle.syntax.specs.PartsLaws.{inside-text}
 use Rattle.commands.specs.Parsed.{meaning}
 use Rattle.commands.specs.WordLaws.{write-form, first-nothing, second-nothing, path-and}
 use Rattle.commands.specs.ParsedLaws.{content-read, content-not-read}
@@ -42,13 +44,14 @@ returns-2 c =
     second-nothing write-form t (span-text t (a .a)) (span-text t (a .b)) (content-not-read (span-text t (a .b)) (sym (q .ensures) ∙ not-true (q .result) (c .if2 .taken)))
 
 returns-3 : tie.Need-returns-3
-unfolding meaning span-text part
+unfolding meaning span-text part _>>=_
 returns-3 c =
     let a = c .before .before .before .before .before .before .args in
+    let i = c .before .before .before .before .before .before .pre in
     let t = now (a .line) in
     let p = c .before .before .before .before .path-at in
     let q = c .before .is-content in
-    path-and write-form t (a .a) (span-text t (a .b)) (span-text t (a .b)) (Write (a .a) (a .b)) refl (sym (p .ensures) ∙ not-false (p .result) (c .before .before .before .if1 .left)) (content-read (span-text t (a .b)) (sym (q .ensures) ∙ not-false (q .result) (c .if2 .left)))
+    path-and write-form t (a .a) (span-text t (a .b)) (span-text t (a .b)) (Write (a .a) (a .b)) (rw (inside-text (i .1))) (i .0) (sym (p .ensures) ∙ not-false (p .result) (c .before .before .before .if1 .left)) (content-read (span-text t (a .b)) (sym (q .ensures) ∙ not-false (q .result) (c .if2 .left)))
 
 pub write-spec : {M : Type 1} → statement M
 write-spec =
