@@ -2,11 +2,10 @@
 use mathlib.Core.Path.{_≡_}
 use mathlib.Core.List.{List, map}
 use mathlib.Core.Option.{Option, none, some}
-use mathlib.Core.Bool.{Bool, true, _&&_, cond}
+use mathlib.Core.Bool.{true, cond}
 use Prim.Native.Nat.{_≤_}
-use lib.Dec.{eqb, leb}
+use lib.Dec.{eqb}
 use lib.ListN.{length, take}
-use Rattle.syntax.specs.declared.Span.{Span}
 use Rattle.setup.specs.declared.Person.{Person as Slot}
 use Rattle.setup.specs.declared.Grant.{Grant as Held-grant}
 use Rattle.setup.specs.declared.Setup.{Setup as Held-setup}
@@ -14,8 +13,8 @@ use Rattle.setup.specs.declared.Reading.{Reading as Held-reading}
 use Rattle.setup.specs.declared.SetupRead.{SetupRead}
 use Rattle.syntax.specs.Text.{Text, every}
 use Rattle.syntax.specs.Form.{_>>=_}
-use Rattle.setup.specs.Setup.{Person, Grant, Setup, Reading, accept, setup-line-of, setup-line, Setup-answer, accepted, wrong-line}
-use Rattle.syntax.specs.Parts.{span-text}
+use Rattle.setup.specs.Setup.{Person, Grant, Setup, Reading, accept, no-setup, setup-line-of, setup-line, Setup-answer, accepted, wrong-line, setup}
+use Rattle.syntax.specs.Parts.{span-text, span-inside}
 
 -- an account whose primary group is 0 is no person's
 unfoldable pub slot-value : Slot → Option Person
@@ -34,10 +33,6 @@ setup-value t s = record {
 unfoldable pub reading-value : Text → Held-reading → Reading
 reading-value t d = record { kind = d .kind; so-far = setup-value t (d .setup) }
 
--- the parts that the passwords are lie inside the text
-unfoldable pub span-inside : Text → Span → Bool
-span-inside t s = leb (s .start) (s .end) && leb (s .end) (length t)
-
 -- what a reader keeps of the setup that it has: its arrays are whole, its counts fit them, and its passwords are in the text
 pub record Held (t : Text) (s : Held-setup) : Type 0 where
   pub slots : length (s .persons) ≡ 16
@@ -54,6 +49,12 @@ reading-told t d = cond (d .fits) (some (reading-value t d)) none
 -- a setup, or the number of the first wrong line
 unfoldable pub setup-told : Text → SetupRead → Setup-answer
 setup-told t r = cond (eqb (r .wrong) 0) (accepted (setup-value t (r .setup))) (wrong-line (r .wrong))
+
+-- what a setup that was read is: the answer to its text, held in any case, and beside a wrong line nothing
+pub record Read-as (t : Text) (r : SetupRead) : Type 0 where
+  pub answer : setup-told t r ≡ setup t
+  pub held : Held t (r .setup)
+  pub nothing-beside : (r .wrong ≡ 0 → ⊥) → setup-value t (r .setup) ≡ no-setup
 
 -- one line after what has been read, by its fields and as a text
 unfoldable pub fields-accepted : List Text → Reading → Option Reading

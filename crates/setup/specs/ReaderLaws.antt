@@ -7,10 +7,9 @@ use mathlib.Core.Bool.{Bool, true, false, _||_}
 use Prim.Native.Nat.{ℕ, zero, suc, _+_, _-_, _≤_, _<_}
 use native.Mathlib.Omega.{arith}
 use native.Mathlib.Numerals.{add-one}
-use borrow.Author.Tests.{leb-true, eq-eqb, ne-eqb, lt-ltb, le-ltb, le-leb, lt-leb}
-use lib.Dec.{leb}
+use borrow.Author.Tests.{eq-eqb, ne-eqb, lt-ltb, le-ltb, le-leb, lt-leb}
 use lib.ListN.{length, length-map, take, drop, getD, set, length-set, length-append, length-drop, take-append-drop}
-use lib.Seq.{length-take-le, take-append-le, drop-append-le, take-suc-set, take-take}
+use lib.Seq.{length-take-le, take-append-le, drop-append-le, take-suc-set, take-take, getD-take}
 use Rattle.accounts.specs.declared.Uid.{Uid}
 use Rattle.accounts.specs.declared.Gid.{Gid}
 use Rattle.accounts.specs.declared.Role.{Role}
@@ -26,21 +25,23 @@ use Rattle.setup.specs.declared.Grant.{Grant as Held-grant}
 use Rattle.setup.specs.declared.Setup.{Setup as Held-setup}
 use Rattle.setup.specs.declared.Reading.{Reading as Held-reading}
 use Rattle.syntax.specs.Text.{Text, every}
-use Rattle.syntax.specs.TextLaws.{every-append, every-implies}
+use Rattle.syntax.specs.TextLaws.{every-append, every-implies, every-getD}
 use Rattle.syntax.specs.Form.{_>>=_, _>>_, check, is-some}
 use Rattle.syntax.specs.FormLaws.{both}
 use Rattle.setup.specs.Setup.{Person, most-pairs, most-grants, person, p-line, g-line, r-line, l-line, Reading, with-person, with-pair, with-grant, joining, accept}
-use Rattle.syntax.specs.Parts.{part, span-text, Inside}
-use Rattle.setup.specs.Reader.{slot-value, grant-value, setup-value, reading-value, span-inside, Held, reading-told}
+use Rattle.syntax.specs.Parts.{part, span-text, Inside, span-inside}
+use Rattle.syntax.specs.PartsLaws.{inside-true, true-inside}
+use Rattle.setup.specs.Reader.{slot-value, grant-value, setup-value, reading-value, Held, reading-told}
 
 -- what a function that reads a line answers: the reading after it or none, and a setup that is held
 abbrev pub Told : Text → Held-reading → Option Reading → Type 0
 Told t r m = (reading-told t r ≡ m) × (Held t (r .setup))
 
--- a line that does not fit leaves the setup as it was
-pub unread : (t : Text) (d r : Held-reading) (m : Option Reading) → Held t (d .setup) → (r .setup ≡ d .setup) × (r .fits ≡ false) → m ≡ none → Told t r m
+-- a line that does not fit leaves what was read as it was
+pub unread : (t : Text) (d r : Held-reading) (m : Option Reading) → Held t (d .setup) → (r .kind ≡ d .kind) × ((r .setup ≡ d .setup) × (r .fits ≡ false)) →
+    m ≡ none → Told t r m
 unfolding reading-told
-unread t d r m h e n = (rw (e .1, n), rw (e .0) h)
+unread t d r m h e n = (rw (e .1 .1, n), rw (e .1 .0) h)
 
 -- an element of a list's image
 map-at : {A B : Type 0} (f : A → B) (l : List A) (i : ℕ) (d : A) (e : B) → i < length l → getD (map f l) i e ≡ f (getD l i d)
@@ -157,7 +158,8 @@ pub pair-does-not-fall : (t : Text) (d : Held-reading) (s j : Role) → d .kind 
 unfolding accept reading-value check _>>_ falls
 pair-does-not-fall t d s j h k = rw (le-leb (d .kind) 2 h, le-ltb (s .0) (j .0) k)
 
-pair-count : (t : Text) (s : Held-setup) → Held t s → length (setup-value t s .pairs) ≡ s .paired
+-- the counts are those of the pairs and the grants
+pub pair-count : (t : Text) (s : Held-setup) → Held t s → length (setup-value t s .pairs) ≡ s .paired
 unfolding setup-value
 pair-count t s h = length-take-le (s .paired) (s .pairs) (rw (h .room-for-pairs) (h .few-pairs))
 
@@ -211,7 +213,7 @@ pub person-known : (t : Text) (s : Held-setup) (u : Uid) → Held t s → u .0 <
 unfolding is-some
 person-known t s u h k f = or-second (is-root u) _ (rw (a-person t s u h k f))
 
-grant-count : (t : Text) (s : Held-setup) → Held t s → length (setup-value t s .grants) ≡ s .granted
+pub grant-count : (t : Text) (s : Held-setup) → Held t s → length (setup-value t s .grants) ≡ s .granted
 unfolding setup-value
 grant-count t s h = length-map (take (s .granted) (s .grants)) (grant-value t) ∙ length-take-le (s .granted) (s .grants) (rw (h .room-for-grants) (h .few-grants))
 
@@ -222,10 +224,6 @@ grants-full t d u r w i h k l = rw (le-leb (d .kind) 3 h, k, grant-count t (d .s
 
 abbrev pub granted-with : Held-setup → Held-grant → Held-setup
 granted-with s g = record { persons = s .persons; pairs = s .pairs; paired = s .paired; grants = set (s .grants) (s .granted) g; granted = s .granted + 1 }
-
-inside-true : (s : Span) (t : Text) → Inside s t → span-inside t s ≡ true
-unfolding span-inside
-inside-true s t h = both (le-leb (s .start) (s .end) (h .ordered)) (le-leb (s .end) (length t) (h .ends))
 
 more-granted : (t : Text) (s : Held-setup) (g : Held-grant) → Held t s → s .granted < 32 →
     take (s .granted + 1) (set (s .grants) (s .granted) g) ≡ take (s .granted) (s .grants) ++ (g ∷ [])
@@ -246,7 +244,7 @@ granted-held t s g h l i =
       room-for-grants = length-set (s .grants) (s .granted) g ∙ h .room-for-grants;
       few-grants = omega arith;
       passwords = rw (more-granted t s g h l, every-append (λ g. span-inside t (g .password)) (take (s .granted) (s .grants)) (g ∷ []))
-          (both (h .passwords) (both (inside-true (g .password) t i) refl));
+          (both (h .passwords) (both (inside-true i) refl));
     }
 
 pub grant-read : (t : Text) (d : Held-reading) (u : Uid) (r : Role) (w : Span) → Held t (d .setup) → d .kind ≤ 3 →
@@ -267,18 +265,12 @@ part-longer p q start end h k =
     let few : end - start ≤ length (drop start p) = omega (arith, length-drop start p) in
     rw (drop-append-le start p q (omega arith), take-append-le (end - start) (drop start p) q few)
 
-inside-both : (t : Text) (s : Span) → span-inside t s ≡ true → Inside s t
-unfolding span-inside
-inside-both t s h =
-    let i : _ = and-both (leb (s .start) (s .end)) (leb (s .end) (length t)) h in
-    record { ordered = leb-true (s .start) (s .end) (i .0); ends = leb-true (s .end) (length t) (i .1) }
-
 grants-longer : (p q : Text) (gs : List Held-grant) → every (λ g. span-inside p (g .password)) gs ≡ true → map (grant-value (p ++ q)) gs ≡ map (grant-value p) gs
 unfolding every grant-value span-text
 grants-longer p q [] h = refl
 grants-longer p q (g ∷ gs) h =
     let i : _ = and-both (span-inside p (g .password)) (every (λ g. span-inside p (g .password)) gs) h in
-    let j : Inside (g .password) p = inside-both p (g .password) (i .0) in
+    let j : Inside (g .password) p = true-inside p (g .password) (i .0) in
     ap₂ _∷_ (ap (λ w. record { uid = g .uid; role = g .role; password = w }) (part-longer p q (g .password .start) (g .password .end) (j .ordered) (j .ends))) (grants-longer p q gs (i .1))
 
 -- a setup held in a text is the same setup of a longer text, and held there
@@ -288,8 +280,8 @@ setup-longer p q s h = rw (grants-longer p q (take (s .granted) (s .grants)) (h 
 
 inside-longer : (p q : Text) (s : Span) → span-inside p s ≡ true → span-inside (p ++ q) s ≡ true
 inside-longer p q s h =
-    let i : Inside s p = inside-both p s h in
-    inside-true s (p ++ q) (record { ordered = i .ordered; ends = omega (arith, i .ends, length-append p q) })
+    let i : Inside s p = true-inside p s h in
+    inside-true (record { ordered = i .ordered; ends = omega (arith, i .ends, length-append p q) })
 
 pub held-longer : (p q : Text) (s : Held-setup) → Held p s → Held (p ++ q) s
 held-longer p q s h =
@@ -302,6 +294,20 @@ held-longer p q s h =
       passwords = every-implies (λ g. span-inside p (g .password)) (λ g. span-inside (p ++ q) (g .password)) (λ g. inside-longer p q (g .password)) (take (s .granted) (s .grants)) (h .passwords);
     }
 
+-- the grant at a place
+abbrev pub no-grant : Held-grant
+no-grant = record { uid = record { 0 = 0 }; role = record { 0 = 0 }; password = record { start = 0; end = 0 } }
+
+abbrev pub grant-at : Held-setup → ℕ → Held-grant
+grant-at s i = getD (s .grants) i no-grant
+
+-- the password of each lies inside the text
+pub password-inside : (t : Text) (s : Held-setup) → Held t s → (i : ℕ) → i < s .granted → Inside (grant-at s i .password) t
+password-inside t s h i l =
+    let empty : span-inside t (no-grant .password) ≡ true = inside-true (record { ordered = omega arith; ends = omega arith }) in
+    let here : _ = every-getD (λ g. span-inside t (g .password)) (take (s .granted) (s .grants)) i no-grant (h .passwords) empty in
+    true-inside t _ (rw (getD-take (s .granted) (s .grants) i no-grant l) at here)
+
 -- the first bytes of a text, and more of them
 more-bytes : (t : Text) (m n : ℕ) → m ≤ n → take m t ++ drop m (take n t) ≡ take n t
 more-bytes t m n h = ap (λ p. p ++ drop m (take n t)) (sym (take-take m n t h)) ∙ take-append-drop m (take n t)
@@ -309,7 +315,10 @@ more-bytes t m n h = ap (λ p. p ++ drop m (take n t)) (sym (take-take m n t h))
 pub held-later : (t : Text) (m n : ℕ) (s : Held-setup) → m ≤ n → Held (take m t) s → Held (take n t) s
 held-later t m n s h i = rw (more-bytes t m n h) at (held-longer (take m t) (drop m (take n t)) s i)
 
--- what is held in the first bytes of a text is what the whole text has
+-- what is held in the first bytes of a text is held in the whole, and is what the whole has
+pub held-whole : (t : Text) (n : ℕ) (s : Held-setup) → Held (take n t) s → Held t s
+held-whole t n s h = rw (take-append-drop n t) at (held-longer (take n t) (drop n t) s h)
+
 pub reading-whole : (t : Text) (n : ℕ) (d : Held-reading) → Held (take n t) (d .setup) → reading-value (take n t) d ≡ reading-value t d
 unfolding reading-value
 reading-whole t n d h =

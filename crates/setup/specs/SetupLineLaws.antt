@@ -19,8 +19,8 @@ use Rattle.syntax.specs.Form.{_>>=_, _>>_, check}
 use Rattle.setup.specs.Setup.{longest-line, setup-line, Reading, no-setup, accepted, wrong-line, stops, continue, read-lines, setup}
 use Rattle.syntax.specs.Parts.{part, piece-length}
 use Rattle.syntax.specs.PartsLaws.{pieces-some, pieces-first-from, pieces-only-from}
-use Rattle.setup.specs.Reader.{setup-value, reading-value, Held, reading-told, setup-told, fields-accepted, line-accepted}
-use Rattle.setup.specs.ReaderLaws.{Told, reading-whole}
+use Rattle.setup.specs.Reader.{setup-value, reading-value, Held, Read-as, reading-told, setup-told, fields-accepted, line-accepted}
+use Rattle.setup.specs.ReaderLaws.{Told, held-whole, reading-whole}
 use Rattle.setup.specs.SetupFormLaws.{no-arguments, one-argument, four-arguments}
 
 -- a line that is too long is not accepted
@@ -131,13 +131,22 @@ line-read t at end number d r o h e l s i told f =
     sym (line-from t at end number (reading-value t d) h e l ∙ rw (s, ← some-told, add-one number))
 
 -- what is answered: the number of a wrong line, or the setup
-pub told-wrong : (t : Text) (r : SetupRead) (n : ℕ) → 0 < n → r .wrong ≡ n → setup-told t r ≡ wrong-line n
+told-wrong : (t : Text) (r : SetupRead) (n : ℕ) → 0 < n → r .wrong ≡ n → setup-told t r ≡ wrong-line n
 unfolding setup-told
 told-wrong t r n h e = rw (e, ne-eqb n 0 (λ z. omega arith))
 
-pub told-accepted : (t : Text) (d : Held-reading) → setup-told t (record { setup = d .setup; wrong = 0 }) ≡ accepted (reading-value t d .so-far)
+told-accepted : (t : Text) (d : Held-reading) → setup-told t (record { setup = d .setup; wrong = 0 }) ≡ accepted (reading-value t d .so-far)
 unfolding setup-told reading-value
 told-accepted t d = refl
+
+-- so a wrong line with nothing beside it, and a setup held in the bytes before the end, are what was read
+pub wrong-read : (t : Text) (r : SetupRead) (n : ℕ) → 0 < n → r .wrong ≡ n → (setup-value t (r .setup) ≡ no-setup) × (Held t (r .setup)) →
+    wrong-line n ≡ setup t → Read-as t r
+wrong-read t r n h e i s = record { answer = told-wrong t r n h e ∙ s; held = i .1; nothing-beside = λ f. i .0 }
+
+pub accepted-read : (t : Text) (d : Held-reading) (n : ℕ) → Held (take n t) (d .setup) → accepted (reading-value t d .so-far) ≡ setup t →
+    Read-as t (record { setup = d .setup; wrong = 0 })
+accepted-read t d n h s = record { answer = told-accepted t d ∙ s; held = held-whole t n (d .setup) h; nothing-beside = λ f. absurd (f refl) }
 
 -- before the first line
 pub begins : (t : Text) (s : Held-setup) → setup-value t s ≡ no-setup →

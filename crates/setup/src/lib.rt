@@ -38,8 +38,7 @@ pub struct Reading {
     pub fits: bool,
 }
 
-// A setup that was read: 0 and the setup, or the number of the first wrong line, from 1. Beside a wrong line the setup is what
-// had been read till then, and nothing is promised of it.
+// A setup that was read: 0 and the setup, or the number of the first wrong line, from 1, beside a setup of nothing.
 pub struct SetupRead {
     pub setup: Setup,
     pub wrong: usize,

@@ -2,12 +2,12 @@
 ghost use mathlib.Core.Path.{_≡_};
 ghost use mathlib.Core.Bool.{true, false};
 ghost use mathlib.Core.List.{[], _∷_};
-ghost use Prim.Native.Nat.{ℕ, _≤_, _<_};
+ghost use Prim.Native.Nat.{_≤_, _<_};
 ghost use lib.ListN.{length, drop};
 ghost use Rattle.syntax.specs.Text.{Text};
-ghost use Rattle.setup.specs.Setup.{p-line, g-line, r-line, l-line, accept, no-setup, setup as setup-of-text};
+ghost use Rattle.setup.specs.Setup.{p-line, g-line, r-line, l-line, accept, no-setup};
 ghost use Rattle.syntax.specs.Parts.{Inside, span-text};
-ghost use Rattle.setup.specs.Reader.{Held, setup-value, reading-value, reading-told, setup-told, fields-accepted, line-accepted};
+ghost use Rattle.setup.specs.Reader.{Held, Read-as, setup-value, reading-value, reading-told, fields-accepted, line-accepted};
 use crate::Grant;
 use crate::Person;
 use crate::Reading;
@@ -51,7 +51,7 @@ fn no_setup() -> Setup
 
 // A reading after a line that does not fit.
 fn wrong(d: Reading) -> Reading
-    ensures { λ r. ⌜ (r .setup ≡ d .setup) × (r .fits ≡ false) ⌝ }
+    ensures { λ r. ⌜ (r .kind ≡ d .kind) × ((r .setup ≡ d .setup) × (r .fits ≡ false)) ⌝ }
 {
     let setup = d.setup;
     Reading {
@@ -61,14 +61,12 @@ fn wrong(d: Reading) -> Reading
     }
 }
 
-// A setup whose line of that number is wrong.
-fn read_wrong(d: Reading, number: usize) -> SetupRead
-    requires { ⌜ 0 < number ⌝ }
-    ensures { λ r. ⌜ (r .setup ≡ d .setup) × (r .wrong ≡ number) ⌝ }
+// What is answered where the line of that number is wrong: the number, beside a setup of nothing.
+fn read_wrong(number: usize) -> SetupRead
+    ensures { λ r. ⌜ (r .wrong ≡ number) × ((t : Text) → (setup-value t (r .setup) ≡ no-setup) × (Held t (r .setup))) ⌝ }
 {
-    let setup = d.setup;
     SetupRead {
-        setup,
+        setup: no_setup(),
         wrong: number,
     }
 }
@@ -297,7 +295,7 @@ fn last_line(text: &[u8], d: Reading, at: usize) -> Reading
 
 // The setup of a text of any bytes, or the number of its first wrong line.
 pub fn read_setup(text: &[u8]) -> SetupRead
-    ensures { λ r. ⌜ setup-told (now (text .entry)) r ≡ setup-of-text (now (text .entry)) ⌝ }
+    ensures { λ r. ⌜ Read-as (now (text .entry)) r ⌝ }
 {
     let mut d = Reading {
         kind: 0,
@@ -309,18 +307,18 @@ pub fn read_setup(text: &[u8]) -> SetupRead
     loop {
         let end = piece_end(text, at, 10);
         if end == text.len() {
-            return read_wrong(d, number);
+            return read_wrong(number);
         }
         if same(&text[at..end], b"end") {
             if end + 1 == text.len() {
                 let setup = d.setup;
                 return SetupRead { setup, wrong: 0 };
             }
-            return read_wrong(d, number + 1);
+            return read_wrong(number + 1);
         }
         d = last_line(&text[..end], d, at);
         if !d.fits {
-            return read_wrong(d, number);
+            return read_wrong(number);
         }
         at = end + 1;
         number += 1;

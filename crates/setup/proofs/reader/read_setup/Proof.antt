@@ -12,7 +12,7 @@ use Rattle.setup.specs.Setup.{read-lines, setup}
 use Rattle.syntax.specs.Parts.{part}
 use Rattle.setup.specs.Reader.{Held, reading-value}
 use Rattle.setup.specs.ReaderLaws.{held-later}
-use Rattle.setup.specs.SetupLineLaws.{begins, ends-early, end-accepted, end-wrong, line-wrong, line-read, told-wrong, told-accepted}
+use Rattle.setup.specs.SetupLineLaws.{begins, ends-early, end-accepted, end-wrong, line-wrong, line-read, wrong-read, accepted-read}
 use Rattle.setup.proofs.reader.read_setup.Statement.{statement}
 use Rattle.setup.proofs.reader.read_setup.Tie as tie
 
@@ -43,7 +43,7 @@ piece-end-requires : tie.Need-piece-end-requires Inv-loop μ-loop
 piece-end-requires c κs = omega arith
 
 read-wrong-requires : tie.Need-read-wrong-requires Inv-loop μ-loop
-read-wrong-requires c κs = omega arith
+read-wrong-requires c κs = tt
 
 returns : tie.Need-returns Inv-loop μ-loop
 unfolding newline part bytes
@@ -51,8 +51,9 @@ returns c =
     let t = now (c .before .before .before .before .before .before .args .text) in
     let l = c .before .before .before .loop in
     let e = c .before .before .piece-end in
-    let told = told-wrong t (c .read-wrong .result) (l .number) (l .inv .from-one) (c .read-wrong .ensures .1) in
-    told ∙ sym (ends-early t (l .at) (e .result) (l .number) (reading-value t (l .d)) (l .inv .le) (e .ensures .0) (c .before .if1 .taken)) ∙ l .inv .goes
+    let r = c .read-wrong in
+    let whole = sym (ends-early t (l .at) (e .result) (l .number) (reading-value t (l .d)) (l .inv .le) (e .ensures .0) (c .before .if1 .taken)) ∙ l .inv .goes in
+    wrong-read t (r .result) (l .number) (l .inv .from-one) (r .ensures .0) (r .ensures .1 t) whole
 
 sub-same : tie.Need-sub-same Inv-loop μ-loop
 sub-same c = omega arith
@@ -81,13 +82,14 @@ returns-2 c =
     let s = c .before .before .before .same in
     let before : e .result < length t = omega (arith, e .ensures .1, c .before .before .before .before .before .before .if1 .left) in
     let word = sym (s .ensures) ∙ c .before .before .if2 .taken in
-    told-accepted t (l .d) ∙ sym (end-accepted t (l .at) (e .result) (l .number) (reading-value t (l .d)) (l .inv .le) (e .ensures .0) before word (c .before .if3 .taken)) ∙ l .inv .goes
+    let whole = sym (end-accepted t (l .at) (e .result) (l .number) (reading-value t (l .d)) (l .inv .le) (e .ensures .0) before word (c .before .if3 .taken)) ∙ l .inv .goes in
+    accepted-read t (l .d) (l .at) (l .inv .held) whole
 
 add-read-wrong : tie.Need-add-read-wrong Inv-loop μ-loop
 add-read-wrong c = omega arith
 
 read-wrong-requires-2 : tie.Need-read-wrong-requires-2 Inv-loop μ-loop
-read-wrong-requires-2 c κs = omega arith
+read-wrong-requires-2 c κs = tt
 
 returns-3 : tie.Need-returns-3 Inv-loop μ-loop
 unfolding newline part bytes
@@ -98,8 +100,9 @@ returns-3 c =
     let s = c .before .before .before .same in
     let before : e .result < length t = omega (arith, e .ensures .1, c .before .before .before .before .before .before .if1 .left) in
     let word = sym (s .ensures) ∙ c .before .before .if2 .taken in
-    let told = told-wrong t (c .read-wrong2 .result) (l .number + 1) (omega arith) (c .read-wrong2 .ensures .1) in
-    told ∙ sym (end-wrong t (l .at) (e .result) (l .number) (reading-value t (l .d)) (l .inv .le) (e .ensures .0) before word (c .before .if3 .left)) ∙ l .inv .goes
+    let r = c .read-wrong2 in
+    let whole = sym (end-wrong t (l .at) (e .result) (l .number) (reading-value t (l .d)) (l .inv .le) (e .ensures .0) before word (c .before .if3 .left)) ∙ l .inv .goes in
+    wrong-read t (r .result) (l .number + 1) (omega arith) (r .ensures .0) (r .ensures .1 t) whole
 
 slice-aggregate-last-line : tie.Need-slice-aggregate-last-line Inv-loop μ-loop
 slice-aggregate-last-line c =
@@ -116,7 +119,7 @@ last-line-requires c κs =
     ((held-later t (l .at) (e .result) (l .d .setup) (omega (arith, e .ensures .0)) (l .inv .held)), rw (length-take-le (e .result) t (e .ensures .1)) (omega (arith, e .ensures .0)))
 
 read-wrong-requires-3 : tie.Need-read-wrong-requires-3 Inv-loop μ-loop
-read-wrong-requires-3 c κs = omega arith
+read-wrong-requires-3 c κs = tt
 
 returns-4 : tie.Need-returns-4 Inv-loop μ-loop
 unfolding newline part bytes
@@ -129,8 +132,9 @@ returns-4 c =
     let before : e .result < length t = omega (arith, e .ensures .1, c .before .before .before .before .before .before .before .before .before .if1 .left) in
     let word = sym (s .ensures) ∙ c .before .before .before .before .before .if2 .left in
     let kept = held-later t (l .at) (e .result) (l .d .setup) (omega (arith, e .ensures .0)) (l .inv .held) in
-    let told = told-wrong t (c .read-wrong3 .result) (l .number) (l .inv .from-one) (c .read-wrong3 .ensures .1) in
-    told ∙ sym (line-wrong t (l .at) (e .result) (l .number) (l .d) (n .result) (omega (arith, e .ensures .0)) (l .inv .le) (e .ensures .0) before word kept (n .ensures) (not-true (n .result .fits) (c .before .if4 .taken))) ∙ l .inv .goes
+    let r = c .read-wrong3 in
+    let whole = sym (line-wrong t (l .at) (e .result) (l .number) (l .d) (n .result) (omega (arith, e .ensures .0)) (l .inv .le) (e .ensures .0) before word kept (n .ensures) (not-true (n .result .fits) (c .before .if4 .taken))) ∙ l .inv .goes in
+    wrong-read t (r .result) (l .number) (l .inv .from-one) (r .ensures .0) (r .ensures .1 t) whole
 
 add-at : tie.Need-add-at Inv-loop μ-loop
 add-at c = omega arith
