@@ -20,11 +20,11 @@ use accounts::Role;
 use accounts::Uid;
 use syntax::Number;
 use syntax::Span;
-use syntax::between;
 use syntax::field_at;
-use syntax::is_name;
+use syntax::name_at;
+use syntax::number_at;
 use syntax::piece_end;
-use syntax::same;
+use syntax::word_is;
 
 // A setup of nothing.
 fn no_setup() -> Setup
@@ -195,16 +195,10 @@ fn two_argument_line(text: &[u8], d: Reading, w: Span, a: Span, b: Span) -> Read
     requires { ⌜ (Held (now text) (d .setup)) × ((Inside w (now text)) × ((Inside a (now text)) × (Inside b (now text)))) ⌝ }
     ensures { λ r. ⌜ (reading-told (now (text .entry)) r ≡ fields-accepted (span-text (now (text .entry)) w ∷ (span-text (now (text .entry)) a ∷ (span-text (now (text .entry)) b ∷ []))) (reading-value (now (text .entry)) d)) × (Held (now (text .entry)) (r .setup)) ⌝ }
 {
-    let start = w.start;
-    let end = w.end;
-    let a_start = a.start;
-    let a_end = a.end;
-    let b_start = b.start;
-    let b_end = b.end;
-    if same(&text[start..end], b"r") {
-        return match between(&text[a_start..a_end], 0, 7) {
+    if word_is(text, w, b"r") {
+        return match number_at(text, a, 0, 7) {
             Number::Nothing => wrong(d),
-            Number::Value(s) => match between(&text[b_start..b_end], 0, 7) {
+            Number::Value(s) => match number_at(text, b, 0, 7) {
                 Number::Nothing => wrong(d),
                 Number::Value(j) => after_pair(
                     text,
@@ -215,15 +209,15 @@ fn two_argument_line(text: &[u8], d: Reading, w: Span, a: Span, b: Span) -> Read
             },
         };
     }
-    match between(&text[a_start..a_end], 1, 15) {
+    match number_at(text, a, 1, 15) {
         Number::Nothing => wrong(d),
-        Number::Value(u) => match between(&text[b_start..b_end], 1, 15) {
+        Number::Value(u) => match number_at(text, b, 1, 15) {
             Number::Nothing => wrong(d),
             Number::Value(g) => {
-                if same(&text[start..end], b"p") {
+                if word_is(text, w, b"p") {
                     return after_person(text, d, Uid((u % 256) as u8), Gid((g % 256) as u8));
                 }
-                if same(&text[start..end], b"g") {
+                if word_is(text, w, b"g") {
                     return after_group(text, d, Uid((u % 256) as u8), Gid((g % 256) as u8));
                 }
                 wrong(d)
@@ -237,23 +231,15 @@ fn three_argument_line(text: &[u8], d: Reading, w: Span, a: Span, b: Span, c: Sp
     requires { ⌜ (Held (now text) (d .setup)) × ((Inside w (now text)) × ((Inside a (now text)) × ((Inside b (now text)) × (Inside c (now text))))) ⌝ }
     ensures { λ r. ⌜ (reading-told (now (text .entry)) r ≡ fields-accepted (span-text (now (text .entry)) w ∷ (span-text (now (text .entry)) a ∷ (span-text (now (text .entry)) b ∷ (span-text (now (text .entry)) c ∷ [])))) (reading-value (now (text .entry)) d)) × (Held (now (text .entry)) (r .setup)) ⌝ }
 {
-    let start = w.start;
-    let end = w.end;
-    if !same(&text[start..end], b"l") {
+    if !word_is(text, w, b"l") {
         return wrong(d);
     }
-    let c_start = c.start;
-    let c_end = c.end;
-    if !is_name(&text[c_start..c_end]) {
+    if !name_at(text, c) {
         return wrong(d);
     }
-    let a_start = a.start;
-    let a_end = a.end;
-    let b_start = b.start;
-    let b_end = b.end;
-    match between(&text[a_start..a_end], 0, 15) {
+    match number_at(text, a, 0, 15) {
         Number::Nothing => wrong(d),
-        Number::Value(u) => match between(&text[b_start..b_end], 0, 7) {
+        Number::Value(u) => match number_at(text, b, 0, 7) {
             Number::Nothing => wrong(d),
             Number::Value(r) => after_grant(
                 text,
@@ -309,7 +295,7 @@ pub fn read_setup(text: &[u8]) -> SetupRead
         if end == text.len() {
             return read_wrong(number);
         }
-        if same(&text[at..end], b"end") {
+        if word_is(text, Span { start: at, end }, b"end") {
             if end + 1 == text.len() {
                 let setup = d.setup;
                 return SetupRead { setup, wrong: 0 };

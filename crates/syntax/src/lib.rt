@@ -1,11 +1,15 @@
 // The parts of command lines and of the setup text: fields, numbers, names and paths. Readers over a lent slice, answers by
 // value, no copying.
 mod numerals;
+mod parts;
 mod paths;
 mod text;
 
 pub use numerals::between;
 pub use numerals::mode;
+pub use parts::name_at;
+pub use parts::number_at;
+pub use parts::word_is;
 pub use paths::is_entry_path;
 pub use paths::is_path;
 pub use paths::last_slash;

@@ -9,7 +9,7 @@ use denote.Ref.{now}
 use Rattle.setup.specs.declared.Reading.{Reading}
 use Rattle.syntax.specs.Text.{Text, bytes, newline, pieces}
 use Rattle.setup.specs.Setup.{read-lines, setup}
-use Rattle.syntax.specs.Parts.{part}
+use Rattle.syntax.specs.Parts.{part, span-text}
 use Rattle.setup.specs.Reader.{Held, reading-value}
 use Rattle.setup.specs.ReaderLaws.{held-later}
 use Rattle.setup.specs.SetupLineLaws.{begins, ends-early, end-accepted, end-wrong, line-wrong, line-read, wrong-read, accepted-read}
@@ -46,7 +46,7 @@ read-wrong-requires : tie.Need-read-wrong-requires Inv-loop μ-loop
 read-wrong-requires c κs = tt
 
 returns : tie.Need-returns Inv-loop μ-loop
-unfolding newline part bytes
+unfolding newline span-text part bytes
 returns c =
     let t = now (c .before .before .before .before .before .before .args .text) in
     let l = c .before .before .before .loop in
@@ -55,32 +55,23 @@ returns c =
     let whole = sym (ends-early t (l .at) (e .result) (l .number) (reading-value t (l .d)) (l .inv .le) (e .ensures .0) (c .before .if1 .taken)) ∙ l .inv .goes in
     wrong-read t (r .result) (l .number) (l .inv .from-one) (r .ensures .0) (r .ensures .1 t) whole
 
-sub-same : tie.Need-sub-same Inv-loop μ-loop
-sub-same c = omega arith
+slice-aggregate-word-is : tie.Need-slice-aggregate-word-is Inv-loop μ-loop
+slice-aggregate-word-is c = omega arith
 
-part-same-start : tie.Need-part-same-start Inv-loop μ-loop
-part-same-start c = omega arith
-
-part-same-end : tie.Need-part-same-end Inv-loop μ-loop
-part-same-end c = omega arith
-
-slice-aggregate-same : tie.Need-slice-aggregate-same Inv-loop μ-loop
-slice-aggregate-same c = omega arith
-
-same-requires : tie.Need-same-requires Inv-loop μ-loop
-same-requires c κs = tt
+word-is-requires : tie.Need-word-is-requires Inv-loop μ-loop
+word-is-requires c κs = record { ordered = omega arith; ends = omega arith }
 
 add-if3 : tie.Need-add-if3 Inv-loop μ-loop
 add-if3 c = omega arith
 
 returns-2 : tie.Need-returns-2 Inv-loop μ-loop
-unfolding newline part bytes
+unfolding newline span-text part bytes
 returns-2 c =
-    let t = now (c .before .before .before .before .before .before .before .before .before .before .before .args .text) in
-    let l = c .before .before .before .before .before .before .before .before .loop in
-    let e = c .before .before .before .before .before .before .before .piece-end in
-    let s = c .before .before .before .same in
-    let before : e .result < length t = omega (arith, e .ensures .1, c .before .before .before .before .before .before .if1 .left) in
+    let t = now (c .before .before .before .before .before .before .before .before .before .before .args .text) in
+    let l = c .before .before .before .before .before .before .before .loop in
+    let e = c .before .before .before .before .before .before .piece-end in
+    let s = c .before .before .before .word-is in
+    let before : e .result < length t = omega (arith, e .ensures .1, c .before .before .before .before .before .if1 .left) in
     let word = sym (s .ensures) ∙ c .before .before .if2 .taken in
     let whole = sym (end-accepted t (l .at) (e .result) (l .number) (reading-value t (l .d)) (l .inv .le) (e .ensures .0) before word (c .before .if3 .taken)) ∙ l .inv .goes in
     accepted-read t (l .d) (l .at) (l .inv .held) whole
@@ -92,13 +83,13 @@ read-wrong-requires-2 : tie.Need-read-wrong-requires-2 Inv-loop μ-loop
 read-wrong-requires-2 c κs = tt
 
 returns-3 : tie.Need-returns-3 Inv-loop μ-loop
-unfolding newline part bytes
+unfolding newline span-text part bytes
 returns-3 c =
-    let t = now (c .before .before .before .before .before .before .before .before .before .before .before .args .text) in
-    let l = c .before .before .before .before .before .before .before .before .loop in
-    let e = c .before .before .before .before .before .before .before .piece-end in
-    let s = c .before .before .before .same in
-    let before : e .result < length t = omega (arith, e .ensures .1, c .before .before .before .before .before .before .if1 .left) in
+    let t = now (c .before .before .before .before .before .before .before .before .before .before .args .text) in
+    let l = c .before .before .before .before .before .before .before .loop in
+    let e = c .before .before .before .before .before .before .piece-end in
+    let s = c .before .before .before .word-is in
+    let before : e .result < length t = omega (arith, e .ensures .1, c .before .before .before .before .before .if1 .left) in
     let word = sym (s .ensures) ∙ c .before .before .if2 .taken in
     let r = c .read-wrong2 in
     let whole = sym (end-wrong t (l .at) (e .result) (l .number) (reading-value t (l .d)) (l .inv .le) (e .ensures .0) before word (c .before .if3 .left)) ∙ l .inv .goes in
@@ -106,30 +97,30 @@ returns-3 c =
 
 slice-aggregate-last-line : tie.Need-slice-aggregate-last-line Inv-loop μ-loop
 slice-aggregate-last-line c =
-    let t = now (c .before .before .before .before .before .before .before .before .before .before .args .text) in
-    let l = c .before .before .before .before .before .before .before .loop in
-    let e = c .before .before .before .before .before .before .piece-end in
+    let t = now (c .before .before .before .before .before .before .before .before .before .args .text) in
+    let l = c .before .before .before .before .before .before .loop in
+    let e = c .before .before .before .before .before .piece-end in
     sym (length-take-le (e .result) t (e .ensures .1))
 
 last-line-requires : tie.Need-last-line-requires Inv-loop μ-loop
 last-line-requires c κs =
-    let t = now (c .before .before .before .before .before .before .before .before .before .before .args .text) in
-    let l = c .before .before .before .before .before .before .before .loop in
-    let e = c .before .before .before .before .before .before .piece-end in
+    let t = now (c .before .before .before .before .before .before .before .before .before .args .text) in
+    let l = c .before .before .before .before .before .before .loop in
+    let e = c .before .before .before .before .before .piece-end in
     ((held-later t (l .at) (e .result) (l .d .setup) (omega (arith, e .ensures .0)) (l .inv .held)), rw (length-take-le (e .result) t (e .ensures .1)) (omega (arith, e .ensures .0)))
 
 read-wrong-requires-3 : tie.Need-read-wrong-requires-3 Inv-loop μ-loop
 read-wrong-requires-3 c κs = tt
 
 returns-4 : tie.Need-returns-4 Inv-loop μ-loop
-unfolding newline part bytes
+unfolding newline span-text part bytes
 returns-4 c =
-    let t = now (c .before .before .before .before .before .before .before .before .before .before .before .before .before .before .args .text) in
-    let l = c .before .before .before .before .before .before .before .before .before .before .before .loop in
-    let e = c .before .before .before .before .before .before .before .before .before .before .piece-end in
-    let s = c .before .before .before .before .before .before .same in
+    let t = now (c .before .before .before .before .before .before .before .before .before .before .before .before .before .args .text) in
+    let l = c .before .before .before .before .before .before .before .before .before .before .loop in
+    let e = c .before .before .before .before .before .before .before .before .before .piece-end in
+    let s = c .before .before .before .before .before .before .word-is in
     let n = c .before .before .before .last-line in
-    let before : e .result < length t = omega (arith, e .ensures .1, c .before .before .before .before .before .before .before .before .before .if1 .left) in
+    let before : e .result < length t = omega (arith, e .ensures .1, c .before .before .before .before .before .before .before .before .if1 .left) in
     let word = sym (s .ensures) ∙ c .before .before .before .before .before .if2 .left in
     let kept = held-later t (l .at) (e .result) (l .d .setup) (omega (arith, e .ensures .0)) (l .inv .held) in
     let r = c .read-wrong3 in
@@ -146,14 +137,14 @@ loop-less : tie.Need-loop-less Inv-loop μ-loop
 loop-less c = omega arith
 
 loop-again : tie.Need-loop-again Inv-loop μ-loop
-unfolding newline part bytes
+unfolding newline span-text part bytes
 loop-again c =
-    let t = now (c .before .before .before .before .before .before .before .before .before .before .before .before .before .args .text) in
-    let l = c .before .before .before .before .before .before .before .before .before .before .loop in
-    let e = c .before .before .before .before .before .before .before .before .before .piece-end in
-    let s = c .before .before .before .before .before .same in
+    let t = now (c .before .before .before .before .before .before .before .before .before .before .before .before .args .text) in
+    let l = c .before .before .before .before .before .before .before .before .before .loop in
+    let e = c .before .before .before .before .before .before .before .before .piece-end in
+    let s = c .before .before .before .before .before .word-is in
     let n = c .before .before .last-line in
-    let before : e .result < length t = omega (arith, e .ensures .1, c .before .before .before .before .before .before .before .before .if1 .left) in
+    let before : e .result < length t = omega (arith, e .ensures .1, c .before .before .before .before .before .before .before .if1 .left) in
     let word = sym (s .ensures) ∙ c .before .before .before .before .if2 .left in
     let kept = held-later t (l .at) (e .result) (l .d .setup) (omega (arith, e .ensures .0)) (l .inv .held) in
     let next = line-read t (l .at) (e .result) (l .number) (l .d) (n .result) (omega (arith, e .ensures .0)) (l .inv .le) (e .ensures .0) before word kept (n .ensures) (not-false (n .result .fits) (c .if4 .left)) in
@@ -176,11 +167,8 @@ read-setup-spec =
     piece-end-requires
     read-wrong-requires
     returns
-    sub-same
-    part-same-start
-    part-same-end
-    slice-aggregate-same
-    same-requires
+    slice-aggregate-word-is
+    word-is-requires
     add-if3
     returns-2
     add-read-wrong
