@@ -1,17 +1,16 @@
--- Laws of command lines: what the readers of arguments give, and how a line is cut into its caller, word and arguments.
+-- Laws of command lines: what the readers of arguments give, how a line is its caller, word and arguments, and where the parts of
+-- a command lie.
 use mathlib.Core.Path.{_≡_, refl, sym, ap, _∙_}
 use mathlib.Core.List.{List, [], _∷_}
 use mathlib.Core.Option.{Option, none, some, Option·map}
 use mathlib.Core.Bool.{Bool, true, false, _&&_}
-use Prim.Native.Nat.{ℕ, _+_, _-_, _/_, _%_, _≤_, _<_}
+use Prim.Native.Nat.{ℕ, _/_, _%_, _≤_, _<_}
 use native.Mathlib.Omega.{arith}
 use borrow.Author.Tests.{ne-eqb, lt-ltb, le-ltb, le-leb, leb-true, leb-false}
 use lib.Dec.{leb, ltb}
-use lib.ListN.{length, take, drop}
 use Rattle.accounts.specs.declared.Uid.{Uid}
 use Rattle.accounts.specs.Cases.{case, and-both}
 use Rattle.syntax.specs.declared.Span.{Span}
-use Rattle.syntax.specs.declared.Field.{Field}
 use Rattle.commands.specs.declared.Command.{Command as Parts}
 use Rattle.commands.specs.declared.Command.the-variants.{Create, Mkdir, Read, Write, Rm, Rmdir, Mv, Chmod, Chgrp, Chown, Login, Logout, Add, Co, Commit, Up, Del}
 use Rattle.commands.specs.declared.Found.{Found}
@@ -25,11 +24,10 @@ use Rattle.syntax.specs.Path.{Path, Entry-path, path, entry-path, is-name}
 use Rattle.syntax.specs.Field.{uid, gid, role, bounded, bounded-by, plain-mode, password, is-content, content}
 use Rattle.syntax.specs.FieldLaws.{between-gives, mode-gives, read-byte}
 use Rattle.commands.specs.Command.{add, Command, repository, Line, forms, line-of, line}
-use Rattle.syntax.specs.Parts.{part, span-text, Inside, text-in, field-at}
+use Rattle.syntax.specs.Parts.{span-text, Inside, text-in}
 use Rattle.syntax.specs.PartsLaws.{inside-text, text-inside}
 use Rattle.commands.specs.Parsed.{path-in, entry-in, with-path, with-entry, meaning, Placed, found, line-with, parsed, command-of}
 use Rattle.commands.specs.WordLaws.{is-none, the-some, same-word, finds-nothing, login-form, add-form, some-of-three, path-inside, entry-inside, two-found}
-use Rattle.syntax.specs.FieldAtLaws.{field-is, field-goes-on, last-piece, next-piece}
 
 pub gid-read : (n : ℕ) (t : Text) → some n ≡ between 0 24 t → gid t ≡ some (record { 0 = n % 256 })
 unfolding gid _>>=_
@@ -146,20 +144,6 @@ pub word-first : (t w : Text) (ts ps : List Text) (r : Found) → ps ≡ w ∷ t
     found t r ≡ Option·map some (by-form forms w ts) → found t r ≡ Option·map some (command-of ps)
 unfolding command-of
 word-first t w ts ps r e h = rw e h
-
--- the first field of a line
-first-part : (t : Text) (n : ℕ) → part t 0 n ≡ take n t
-unfolding part
-first-part t n = let k : n - 0 ≡ n = omega arith in ap (λ (m : ℕ). take m t) k
-
-pub only-field : (t : Text) (f : Field) → f ≡ field-at t 0 → f .last ≡ true → pieces comma t ≡ take (f .end) t ∷ []
-only-field t f e h = rw (← first-part t (f .end)) (last-piece (field-is t 0 f (omega arith) e) h)
-
-pub first-field : (t : Text) (f : Field) → f ≡ field-at t 0 → f .last ≡ false → pieces comma t ≡ take (f .end) t ∷ pieces comma (drop (f .end + 1) t)
-first-field t f e h = rw (← first-part t (f .end)) (next-piece (field-is t 0 f (omega arith) e) h)
-
-pub first-ends : (t : Text) (f : Field) → f ≡ field-at t 0 → f .last ≡ false → f .end + 1 ≤ length t
-first-ends t f e h = field-goes-on (field-is t 0 f (omega arith) e) h
 
 -- a line of one field has no form
 pub line-short : (t s : Text) → pieces comma t ≡ s ∷ [] → parsed t NoForm ≡ Option·map some (line t)

@@ -2,13 +2,13 @@
 ghost use mathlib.Core.Path.{_≡_};
 ghost use mathlib.Core.List.{[], _∷_};
 ghost use mathlib.Core.Option.{some, Option·map};
-ghost use Prim.Native.Nat.{_≤_, _<_};
+ghost use Prim.Native.Nat.{_≤_};
 ghost use lib.ListN.{length, drop};
-ghost use Rattle.syntax.specs.Text.{bytes, comma, pieces, same-text};
-ghost use Rattle.syntax.specs.Number.{between as between-of, mode as mode-of};
+ghost use Rattle.syntax.specs.Text.{bytes, comma, pieces};
+ghost use Rattle.syntax.specs.Number.{mode as mode-of};
 ghost use Rattle.syntax.specs.Path.{path as path-of, entry-path as entry-path-of};
 ghost use Rattle.syntax.specs.Form.{by-form, is-some};
-ghost use Rattle.syntax.specs.Field.{plain-mode};
+ghost use Rattle.syntax.specs.Field.{plain-mode, is-content};
 ghost use Rattle.commands.specs.Command.{forms, line as line-of-text};
 ghost use Rattle.syntax.specs.Parts.{Inside, span-text, number-of};
 ghost use Rattle.commands.specs.Parsed.{found, parsed, command-of};
@@ -20,40 +20,14 @@ use accounts::Role;
 use accounts::Uid;
 use syntax::Number;
 use syntax::Span;
-use syntax::between;
 use syntax::field_at;
 use syntax::is_content;
 use syntax::is_entry_path;
-use syntax::is_name;
 use syntax::is_path;
 use syntax::mode;
-use syntax::same;
-
-// The mode of a new file: one that begins with 0.
-fn file_mode(s: &[u8]) -> Number
-    ensures { λ r. ⌜ number-of r ≡ plain-mode (now (s .entry)) ⌝ }
-{
-    match mode(s) {
-        Number::Value(m) => {
-            if m < 512 {
-                Number::Value(m)
-            } else {
-                Number::Nothing
-            }
-        }
-        Number::Nothing => Number::Nothing,
-    }
-}
-
-// Whether a part of the line is that word.
-fn word_is(line: &[u8], s: Span, word: &[u8]) -> bool
-    requires { ⌜ Inside s (now line) ⌝ }
-    ensures { λ r. ⌜ r ≡ same-text (span-text (now (line .entry)) s) (now (word .entry)) ⌝ }
-{
-    let start = s.start;
-    let end = s.end;
-    same(&line[start..end], word)
-}
+use syntax::name_at;
+use syntax::number_at;
+use syntax::word_is;
 
 // Whether a part of the line is a path.
 fn path_at(line: &[u8], s: Span) -> bool
@@ -75,16 +49,6 @@ fn entry_path_at(line: &[u8], s: Span) -> bool
     is_entry_path(&line[start..end])
 }
 
-// The number from 0 to high that a part of the line is.
-fn number_at(line: &[u8], s: Span, high: u16) -> Number
-    requires { ⌜ (Inside s (now line)) × (high < 10000) ⌝ }
-    ensures { λ r. ⌜ number-of r ≡ between-of 0 high (span-text (now (line .entry)) s) ⌝ }
-{
-    let start = s.start;
-    let end = s.end;
-    between(&line[start..end], 0, high)
-}
-
 // The mode that a part of the line is.
 fn mode_at(line: &[u8], s: Span) -> Number
     requires { ⌜ Inside s (now line) ⌝ }
@@ -93,6 +57,33 @@ fn mode_at(line: &[u8], s: Span) -> Number
     let start = s.start;
     let end = s.end;
     mode(&line[start..end])
+}
+
+// The mode of a new file that a part of the line is: one that begins with 0.
+fn file_mode_at(line: &[u8], s: Span) -> Number
+    requires { ⌜ Inside s (now line) ⌝ }
+    ensures { λ r. ⌜ number-of r ≡ plain-mode (span-text (now (line .entry)) s) ⌝ }
+{
+    match mode_at(line, s) {
+        Number::Value(m) => {
+            if m < 512 {
+                Number::Value(m)
+            } else {
+                Number::Nothing
+            }
+        }
+        Number::Nothing => Number::Nothing,
+    }
+}
+
+// Whether a part of the line is a content.
+fn content_at(line: &[u8], s: Span) -> bool
+    requires { ⌜ Inside s (now line) ⌝ }
+    ensures { λ r. ⌜ r ≡ is-content (span-text (now (line .entry)) s) ⌝ }
+{
+    let start = s.start;
+    let end = s.end;
+    is_content(&line[start..end])
 }
 
 // A word without arguments.
@@ -143,12 +134,10 @@ fn create(line: &[u8], a: Span, b: Span) -> Found
     requires { ⌜ (Inside a (now line)) × (Inside b (now line)) ⌝ }
     ensures { λ r. ⌜ found (now (line .entry)) r ≡ Option·map some (by-form forms (bytes "create") (span-text (now (line .entry)) a ∷ (span-text (now (line .entry)) b ∷ []))) ⌝ }
 {
-    let start = b.start;
-    let end = b.end;
     if !path_at(line, a) {
         return Found::Nothing;
     }
-    match file_mode(&line[start..end]) {
+    match file_mode_at(line, b) {
         Number::Value(n) => Found::Command(Command::Create { path: a, mode: n }),
         Number::Nothing => Found::Nothing,
     }
@@ -190,7 +179,7 @@ fn chgrp(line: &[u8], a: Span, b: Span) -> Found
     if !path_at(line, a) {
         return Found::Nothing;
     }
-    match number_at(line, b, 24) {
+    match number_at(line, b, 0, 24) {
         Number::Value(n) => Found::Command(Command::Chgrp {
             path: a,
             group: Gid((n % 256) as u8),
@@ -207,7 +196,7 @@ fn chown(line: &[u8], a: Span, b: Span) -> Found
     if !path_at(line, a) {
         return Found::Nothing;
     }
-    match number_at(line, b, 23) {
+    match number_at(line, b, 0, 23) {
         Number::Value(n) => Found::Command(Command::Chown {
             path: a,
             owner: Uid((n % 256) as u8),
@@ -221,12 +210,10 @@ fn write(line: &[u8], a: Span, b: Span) -> Found
     requires { ⌜ (Inside a (now line)) × (Inside b (now line)) ⌝ }
     ensures { λ r. ⌜ found (now (line .entry)) r ≡ Option·map some (by-form forms (bytes "write") (span-text (now (line .entry)) a ∷ (span-text (now (line .entry)) b ∷ []))) ⌝ }
 {
-    let start = b.start;
-    let end = b.end;
     if !path_at(line, a) {
         return Found::Nothing;
     }
-    if !is_content(&line[start..end]) {
+    if !content_at(line, b) {
         return Found::Nothing;
     }
     Found::Command(Command::Write {
@@ -254,12 +241,10 @@ fn login(line: &[u8], a: Span, b: Span) -> Found
     requires { ⌜ (Inside a (now line)) × (Inside b (now line)) ⌝ }
     ensures { λ r. ⌜ found (now (line .entry)) r ≡ Option·map some (by-form forms (bytes "login") (span-text (now (line .entry)) a ∷ (span-text (now (line .entry)) b ∷ []))) ⌝ }
 {
-    let start = b.start;
-    let end = b.end;
-    if !is_name(&line[start..end]) {
+    if !name_at(line, b) {
         return Found::Nothing;
     }
-    match number_at(line, a, 7) {
+    match number_at(line, a, 0, 7) {
         Number::Value(n) => Found::Command(Command::Login {
             role: Role((n % 256) as u8),
             password: b,
@@ -331,7 +316,7 @@ fn three_arguments(line: &[u8], w: Span, a: Span, b: Span, c: Span) -> Found
     if !entry_path_at(line, b) {
         return Found::Nothing;
     }
-    match number_at(line, c, 7) {
+    match number_at(line, c, 0, 7) {
         Number::Value(n) => Found::Command(Command::Add {
             working: a,
             entry: b,
@@ -377,10 +362,9 @@ pub fn parse(line: &[u8]) -> Parsed
     if u.last {
         return Parsed::NoForm;
     }
-    let end = u.end;
-    match between(&line[..end], 0, 23) {
+    match number_at(line, u.span(), 0, 23) {
         Number::Nothing => Parsed::NoForm,
-        Number::Value(n) => match command_at(line, end + 1) {
+        Number::Value(n) => match command_at(line, u.end + 1) {
             Found::Nothing => Parsed::NoForm,
             Found::Command(c) => Parsed::Line {
                 caller: Uid((n % 256) as u8),

@@ -4,7 +4,7 @@ use denote.Ref.{now}
 use borrow.Author.Tests.{not-true, not-false}
 use borrow.Author.Needs.{needs}
 use Rattle.syntax.specs.Form.{_>>=_}
-use Rattle.syntax.specs.Parts.{span-text, part}
+use Rattle.syntax.specs.Parts.{span-text}
 use Rattle.syntax.specs.PartsLaws.{inside-text}
 use Rattle.commands.specs.Parsed.{meaning}
 use Rattle.commands.specs.WordLaws.{write-form, first-nothing, second-nothing, path-and}
@@ -23,35 +23,25 @@ returns c =
     let p = c .before .path-at in
     first-nothing write-form t (span-text t (a .a)) (span-text t (a .b)) (sym (p .ensures) ∙ not-true (p .result) (c .if1 .taken))
 
-sub-is-content : tie.Need-sub-is-content
-sub-is-content c = search needs
-
-part-is-content-start : tie.Need-part-is-content-start
-part-is-content-start c = search needs
-
-part-is-content-end : tie.Need-part-is-content-end
-part-is-content-end c = search needs
-
-is-content-requires : tie.Need-is-content-requires
-is-content-requires c κs = search needs
+content-at-requires : tie.Need-content-at-requires
+content-at-requires c κs = search needs
 
 returns-2 : tie.Need-returns-2
-unfolding span-text part
 returns-2 c =
-    let a = c .before .before .before .before .before .before .args in
+    let a = c .before .before .before .before .before .args in
     let t = now (a .line) in
-    let q = c .before .is-content in
+    let q = c .before .content-at in
     second-nothing write-form t (span-text t (a .a)) (span-text t (a .b)) (content-not-read (span-text t (a .b)) (sym (q .ensures) ∙ not-true (q .result) (c .if2 .taken)))
 
 returns-3 : tie.Need-returns-3
-unfolding meaning span-text part _>>=_
+unfolding meaning _>>=_
 returns-3 c =
-    let a = c .before .before .before .before .before .before .args in
-    let i = c .before .before .before .before .before .before .pre in
+    let a = c .before .before .before .before .before .args in
+    let i = c .before .before .before .before .before .pre in
     let t = now (a .line) in
-    let p = c .before .before .before .before .path-at in
-    let q = c .before .is-content in
-    path-and write-form t (a .a) (span-text t (a .b)) (span-text t (a .b)) (Write (a .a) (a .b)) (rw (inside-text (i .1))) (i .0) (sym (p .ensures) ∙ not-false (p .result) (c .before .before .before .if1 .left)) (content-read (span-text t (a .b)) (sym (q .ensures) ∙ not-false (q .result) (c .if2 .left)))
+    let p = c .before .before .before .path-at in
+    let q = c .before .content-at in
+    path-and write-form t (a .a) (span-text t (a .b)) (span-text t (a .b)) (Write (a .a) (a .b)) (rw (inside-text (i .1))) (i .0) (sym (p .ensures) ∙ not-false (p .result) (c .before .before .if1 .left)) (content-read (span-text t (a .b)) (sym (q .ensures) ∙ not-false (q .result) (c .if2 .left)))
 
 pub write-spec : {M : Type 1} → statement M
 write-spec =
@@ -59,9 +49,6 @@ write-spec =
     (tie.spec
     path-at-requires
     returns
-    sub-is-content
-    part-is-content-start
-    part-is-content-end
-    is-content-requires
+    content-at-requires
     returns-2
     returns-3)
