@@ -65,8 +65,9 @@ fn wrong(d: Reading) -> Reading
 fn read_wrong(number: usize) -> SetupRead
     ensures { λ r. ⌜ (r .wrong ≡ number) × ((t : Text) → (setup-value t (r .setup) ≡ no-setup) × (Held t (r .setup))) ⌝ }
 {
+    let setup = no_setup();
     SetupRead {
-        setup: no_setup(),
+        setup,
         wrong: number,
     }
 }
