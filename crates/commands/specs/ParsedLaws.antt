@@ -19,7 +19,7 @@ use Rattle.commands.specs.declared.Parsed.the-variants.{Line as Is-line,
 use Rattle.syntax.specs.Text.{Text, bytes, same-text, comma, pieces}
 use Rattle.syntax.specs.Number.{decimal, between, mode, set-gid, is-mode}
 use Rattle.syntax.specs.Form.{_>>=_, _>>_, check, is-some, by-form}
-use Rattle.syntax.specs.FormLaws.{no-answer, both-read, answered, then-none}
+use Rattle.syntax.specs.FormLaws.{no-answer, both-read, answered, then-none, the-some}
 use Rattle.syntax.specs.Path.{Path, Entry-path, path, entry-path, is-name}
 use Rattle.syntax.specs.Field.{uid, gid, role, bounded, bounded-by, plain-mode, password, is-content, content}
 use Rattle.syntax.specs.FieldLaws.{between-gives, mode-gives, read-byte}
@@ -27,7 +27,7 @@ use Rattle.commands.specs.Command.{add, Command, repository, Line, forms
 use Rattle.syntax.specs.Parts.{span-text, Inside, text-in}
 use Rattle.syntax.specs.PartsLaws.{inside-text, text-inside}
 use Rattle.commands.specs.Parsed.{path-in, entry-in, with-path, with-entry, meaning, Placed, found, line-with, parsed, command-of}
-use Rattle.commands.specs.WordLaws.{is-none, the-some, same-word, finds-nothing, login-form, add-form, some-of-three, path-inside, entry-inside, two-found}
+use Rattle.commands.specs.WordLaws.{is-none, same-word, finds-nothing, login-form, add-form, some-of-three, path-inside, entry-inside, two-found}
 
 pub gid-read : (n : ℕ) (t : Text) → some n ≡ between 0 24 t → gid t ≡ some (record { 0 = n % 256 })
 unfolding gid _>>=_

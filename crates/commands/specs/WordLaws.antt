@@ -27,7 +27,7 @@ use Rattle.syntax.specs.Field.{uid, gid, role, plain-mode, password, content}
 use Rattle.commands.specs.Command.{create, mkdir, read, write, rm, rmdir, mv, chmod, chgrp, chown, login, logout, add, co, commit, up, del, Command, shell, repository, form, forms}
 use Rattle.syntax.specs.Parts.{span-text, Inside}
 use Rattle.commands.specs.Parsed.{path-in, entry-in, with-path, with-entry, meaning, found}
-use Rattle.syntax.specs.FormLaws.{none-refuses, one-refuses, two-refuses, three-refuses}
+use Rattle.syntax.specs.FormLaws.{none-refuses, one-refuses, two-refuses, three-refuses, the-some}
 use Rattle.syntax.specs.PartsLaws.{inside-text, some-of-one}
 
 -- what is no answer is none
@@ -35,12 +35,6 @@ pub is-none : {A : Type 0} (m : Option A) → is-some m ≡ false → m ≡ none
 unfolding is-some
 is-none none e = refl
 is-none (some a) e = contra {b = true} refl e
-
--- and what is one is some value
-pub the-some : {A : Type 0} (m : Option A) → is-some m ≡ true → (a : A) × (m ≡ some a)
-unfolding is-some
-the-some none e = contra {b = false} e refl
-the-some (some a) e = (a, refl)
 
 pub not-read : {A : Type 0} (m : Option A) → none ≡ m → is-some m ≡ false
 unfolding is-some

@@ -104,7 +104,7 @@ listing-bounded b n room =
     let w = encode-decode b s (present-some (decode b) Unsound e) .1 in
     after-do (present (getElem? (listing (s .store .tree)) n) Missing) λ t i.
     let f = every-found (λ x. leb (length x) longest-listing-line) (listing (s .store .tree)) n t (lines-fit (s .store .tree) (parts s w .1 .1))
-            (present-some (getElem? (listing (s .store .tree)) n) Missing i) in
+    (present-some (getElem? (listing (s .store .tree)) n) Missing i) in
     ensured (record { stays = refl; short = λ x e. let q : x ≡ t = cc in rw q (leb-true (length t) 192 f); roomy = omega (arith, leb-true 4096 room l) })
 
 -- a line has at most 192 bytes

@@ -12,8 +12,6 @@ pub mod Transcript
 pub mod Encoding
 pub mod HeaderLaws
 pub mod EncodingLaws
-pub mod SoundSetup
-pub mod SoundSetupLaws
 pub mod SoundStore
 pub mod SoundStoreLaws
 pub mod Bytes

@@ -9,7 +9,7 @@ use Prim.Native.Nat.{ℕ}
 use lib.ListN.{length}
 use Rattle.tree.specs.SoundTree.{Sound-tree}
 use Rattle.repository.specs.Encoding.{State, encode}
-use Rattle.repository.specs.SoundSetup.{Sound-setup}
+use Rattle.setup.specs.SoundSetup.{Sound-setup}
 
 pub record Sound (b : List ℕ) : Type 0 where
   -- "The store buffer has exactly 65,536 bytes"

@@ -12,7 +12,7 @@ use Rattle.tree.specs.SoundTreeLaws.{tree-is-sound, sound-is-tree}
 use Rattle.tree.specs.UpdateLaws.{by-option}
 use Rattle.repository.specs.Encoding.{State, store-width, well-formed, decode}
 use Rattle.repository.specs.EncodingLaws.{parts, decode-encode, encode-decode, decode-length}
-use Rattle.repository.specs.SoundSetupLaws.{setup-is-sound, sound-is-setup}
+use Rattle.setup.specs.SoundSetupLaws.{setup-is-sound, sound-is-setup}
 use Rattle.repository.specs.SoundStore.{Sound}
 
 -- sound bytes are read as their state

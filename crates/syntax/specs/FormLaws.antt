@@ -8,7 +8,7 @@ use Prim.Native.Nat.{suc}
 use lib.ListN.{length}
 use Rattle.accounts.specs.Cases.{case, contra}
 use Rattle.syntax.specs.Text.{Text, same-text}
-use Rattle.syntax.specs.Form.{_>>=_, _>>_, check, Form, none-of, one-of, two-of, three-of, by-form}
+use Rattle.syntax.specs.Form.{_>>=_, _>>_, check, is-some, Form, none-of, one-of, two-of, three-of, by-form}
 
 -- no answer is not an answer
 pub no-answer : {A P : Type 0} {a : A} → none ≡ some a → P
@@ -126,3 +126,9 @@ pub three-refuses : {A B C X : Type 0} (r : Text → Option A) (r′ : Text → 
 unfolding three-of
 three-refuses r r′ r″ x [] h = refl
 three-refuses r r′ r″ x (s ∷ ts) h = then-none (r s) (λ a. two-of r′ r″ (x a) ts) (λ a. two-refuses r′ r″ (x a) ts (λ e. h (ap suc e)))
+
+-- what is an answer is some value
+pub the-some : {A : Type 0} (m : Option A) → is-some m ≡ true → (a : A) × (m ≡ some a)
+unfolding is-some
+the-some none e = contra {b = false} e refl
+the-some (some a) e = (a, refl)

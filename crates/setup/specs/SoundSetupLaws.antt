@@ -19,11 +19,10 @@ use Rattle.accounts.specs.Dominance.{falls}
 use Rattle.syntax.specs.Text.{every}
 use Rattle.syntax.specs.Path.{is-name}
 use Rattle.syntax.specs.Form.{is-some}
-use Rattle.syntax.specs.FormLaws.{no-answer, answered, both}
-use Rattle.commands.specs.WordLaws.{the-some}
+use Rattle.syntax.specs.FormLaws.{no-answer, answered, both, the-some}
 use Rattle.setup.specs.Setup.{Person, Grant, Setup, person, is-person, is-slot, is-pair, is-grant, is-setup}
 use Rattle.setup.specs.SetupLaws.{apart, together}
-use Rattle.repository.specs.SoundSetup.{Sound-person, Sound-pair, Sound-grant, Sound-setup}
+use Rattle.setup.specs.SoundSetup.{Sound-person, Sound-pair, Sound-grant, Sound-setup}
 
 -- ---- bits
 
