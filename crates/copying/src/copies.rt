@@ -36,8 +36,8 @@ fn copy_mode(kind: Kind) -> u16
     ensures { λ r. ⌜ r ≡ copy-mode kind ⌝ }
 {
     match kind {
-        Kind::File => 384,
-        Kind::Directory => 448,
+        Kind::File => 0o600,
+        Kind::Directory => 0o700,
     }
 }
 

@@ -133,7 +133,7 @@ pub calls-keep-sound : (u : Setup) → is-setup u ≡ true → (s : Store) → w
     well-formed (record { setup = u; store = after s (step store u s call) }) ≡ true
 calls-keep-sound = Keeping.step-keeps
 
--- So the bytes of a store that is reached from a fresh one are always read back: 18 never comes on them.
+-- So the bytes of a store that is reached from an initial one by calls of anyone are read back.
 pub reached-is-read-back : (u : Setup) (s : Store) → Reached u s →
     decode (encode (record { setup = u; store = s })) ≡ some (record { setup = u; store = s })
 reached-is-read-back = Keeping.reached-decodes

@@ -23,7 +23,7 @@ use tree::Kind;
 use tree::find_child;
 
 // The mode of a home, 0755.
-const HOME: u16 = 493;
+const HOME: u16 = 0o755;
 
 // Puts a directory in below `/`, where its name is not used yet.
 fn put_directory(tree: &mut [u8], name: &[u8], owner: Uid, group: Gid, mode: u16)
@@ -52,11 +52,11 @@ fn write_top(tree: &mut [u8])
         kind: Kind::Directory,
         owner: Uid(0),
         group: Gid(0),
-        mode: 493,
+        mode: 0o755,
         revision: 0,
     };
     plant(tree, top);
-    put_directory(tree, b"rep", Uid(16), Gid(24), 488);
+    put_directory(tree, b"rep", Uid(16), Gid(24), 0o750);
 }
 
 // Puts the home of an account in, if it is a person's.
