@@ -1,7 +1,7 @@
 -- Command lines: `uid,command,arguments`, the 17 forms of document 01.
 use mathlib.Core.List.{List, [], _∷_}
 use mathlib.Core.Option.{Option, none, some}
-use mathlib.Core.Bool.{Bool, true, _&&_}
+use mathlib.Core.Bool.{Bool, true, false, _&&_, _||_}
 use Prim.Native.Nat.{ℕ}
 use lib.Dec.{ltb}
 use Rattle.accounts.specs.declared.Uid.{Uid}
@@ -34,6 +34,34 @@ pub data Repository-command : Type 0 where
 pub data Command : Type 0 where
   shell : Shell-command → Command
   repository : Repository-command → Command
+
+-- whether a path of the command passes a test
+unfoldable pub some-path : (Path → Bool) → Shell-command → Bool
+some-path test (create p m) = test p
+some-path test (mkdir p m) = test p
+some-path test (read p) = test p
+some-path test (write p c) = test p
+some-path test (rm p) = test p
+some-path test (rmdir p) = test p
+some-path test (mv a b) = test a || test b
+some-path test (chmod p m) = test p
+some-path test (chgrp p g) = test p
+some-path test (chown p u) = test p
+
+-- whether one that is not an entry path does
+unfoldable pub some-working-path : (Path → Bool) → Repository-command → Bool
+some-working-path test (login r w) = false
+some-working-path test logout = false
+some-working-path test (add w e r) = test w
+some-working-path test (co e d) = test d
+some-working-path test (commit w) = test w
+some-working-path test (up w) = test w
+some-working-path test (del e) = false
+
+-- whether one that the caller walks does
+unfoldable pub some-walked-path : (Path → Bool) → Command → Bool
+some-walked-path test (shell c) = some-path test c
+some-walked-path test (repository c) = some-working-path test c
 
 pub record Line : Type 0 where
   pub caller : Uid

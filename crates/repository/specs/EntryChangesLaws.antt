@@ -31,7 +31,8 @@ use Rattle.tree.specs.Agree.{Ensures, ensured, ensured-done, after-do, after-fa
 use Rattle.tree.specs.UpdateLaws.{walked-at}
 use Rattle.tree.specs.WellFormed.{is-tree}
 use Rattle.tree.specs.JudgeLaws.{directory-is-one, set-revision-is, set-content-is}
-use Rattle.tree.specs.ChangeAtLaws.{Holds, holds-altered, holds-alter, holds-put, holds-drop, drop-gone}
+use Rattle.tree.specs.PathLaws.{drop-gone}
+use Rattle.tree.specs.ChangeAtLaws.{Holds, holds-altered, holds-alter, holds-put, holds-drop}
 use Rattle.shell.specs.declared.Caller.{Caller}
 use Rattle.shell.specs.Caller.{Outcome}
 use Rattle.shell.specs.Steps.{room, run-shell}

@@ -37,7 +37,7 @@ pub mod EntryPlacesLaws
 pub mod EntryChangesLaws
 pub mod EntryMakingLaws
 pub mod Reading
-pub mod Privacy
+pub mod PrivacyLaws
 pub mod Theorems
 pub mod Compute
 pub mod CallCases

@@ -13,8 +13,8 @@ use Rattle.accounts.specs.declared.Uid.{Uid}
 use Rattle.accounts.specs.Access.{is-root}
 use Rattle.accounts.specs.Dominance.{Bounded-role}
 use Rattle.syntax.specs.Text.{Text, every}
-use Rattle.syntax.specs.Path.{Path, Entry-path, same-path, within}
-use Rattle.commands.specs.Command.{Shell-command, read, Command, shell, Line, line}
+use Rattle.syntax.specs.Path.{Path, Entry-path, lies-below}
+use Rattle.commands.specs.Command.{Shell-command, Command, shell, some-path, some-walked-path, Line, line}
 use Rattle.setup.specs.Setup.{Setup, accepted, setup, is-setup}
 use Rattle.setup.specs.SetupLaws.{accepted-is-setup}
 use Rattle.tree.specs.declared.Kind.{Kind}
@@ -27,8 +27,7 @@ use Rattle.tree.specs.Node.{Node}
 use Rattle.tree.specs.WellFormed.{is-tree}
 use Rattle.shell.specs.declared.Caller.{Caller}
 use Rattle.shell.specs.Caller.{Outcome}
-use Rattle.shell.specs.Steps.{run-shell}
-use Rattle.shell.specs.Privacy.{Private, Stays, read-through}
+use Rattle.shell.specs.Privacy.{Private, Unaltered, walks-first}
 use Rattle.repository.specs.declared.Answer.the-variants.{Done, Refused}
 use Rattle.repository.specs.Machine.{caller, run}
 use Rattle.repository.specs.Store.{Store, store, entry-node, initial-store}
@@ -58,7 +57,7 @@ use Rattle.repository.specs.EntryChangesLaws
 use Rattle.repository.specs.EntryMakingLaws
 use Rattle.repository.specs.Reading.{May-read, Reads-all, More-pairs}
 use Rattle.repository.specs.Reading
-use Rattle.repository.specs.Privacy
+use Rattle.repository.specs.PrivacyLaws
 
 -- Demand 3. For every setup text that is taken and every list of calls, of any bytes and with any answer buffers, none of them
 -- root's, the store and the abstract machine give the same replies, and afterwards hold the same people's tree, sessions and entries.
@@ -186,13 +185,19 @@ pub more-pairs-hide-nothing : (u u′ : Setup) → is-setup u ≡ true → is-se
     (z : Bounded-role) (h : Abstract) → Kept h → (p : Path) (d : Place Node) → May-read u z (embed h) p d → May-read u′ z (embed h) p d
 more-pairs-hide-nothing = Reading.more-may-read
 
--- A command by anyone but its owner and root leaves all that lies below a directory of mode 0700 owned by a person as it was;
--- a directory above it, or it itself, may be moved, and it along.
-pub private-directory-stays : (u : Setup) (s : Store) (c : Caller) (p : Path) (d : Place Node) → place-at (s .tree) p ≡ some d →
-    Private (c .account) d → ltb (d .here .owner .0) 16 ≡ true → (command : Command) → Ensures (λ o. Stays d (o .state .tree)) (run store u s c command)
-private-directory-stays = Privacy.run-private
+-- A command by anyone but its owner and root leaves a directory of mode 0700 owned by a person the same with all below it: at its path,
+-- or where a `mv` of it or of a directory above it carries it; or nothing lay below it, and `rmdir` of it took it out.
+pub private-directory-stays : (u : Setup) (s : Store) (c : Caller) (p : Path) (d : Place Node) → is-tree (s .tree) ≡ true → place-at (s .tree) p ≡ some d →
+    Private (c .account) d → ltb (d .here .owner .0) 16 ≡ true → (command : Command) → Ensures (λ o. Unaltered d p command (o .state .tree)) (run store u s c command)
+private-directory-stays u s c p d whole there v small = PrivacyLaws.run-private u s c p d there v small whole
 
--- And a `read` through it is refused 5.
-pub private-directory-is-not-read : (c : Caller) (m : ℕ) (t : Place Node) (p : Path) (d : Place Node) → is-tree t ≡ true → place-at t p ≡ some d →
-    Private (c .account) d → (q : Path) → within p q ≡ true → same-path p q ≡ false → run-shell c m t (read q) ≡ refused Access
-private-directory-is-not-read = read-through
+-- Such a command is refused if a path that its caller walks lies below the directory,
+pub private-directory-is-not-passed : (u : Setup) (s : Store) (c : Caller) (p : Path) (d : Place Node) → place-at (s .tree) p ≡ some d →
+    Private (c .account) d → (command : Command) → some-walked-path (lies-below p) command ≡ true → (why : Cause) × (run store u s c command ≡ refused why)
+private-directory-is-not-passed = PrivacyLaws.run-refused
+
+-- and refused 5 if it is a shell command that walks before it refuses a path other than `/`: all but `rm`, `rmdir` and `mv`.
+pub private-directory-refuses-access : (u : Setup) (s : Store) (c : Caller) (p : Path) (d : Place Node) → is-tree (s .tree) ≡ true → place-at (s .tree) p ≡ some d →
+    Private (c .account) d → (command : Shell-command) → walks-first command ≡ true → some-path (lies-below p) command ≡ true →
+    run store u s c (shell command) ≡ refused Access
+private-directory-refuses-access u s c p d whole there v = PrivacyLaws.run-through u s c p d there v whole

@@ -5,5 +5,7 @@ pub mod Answers
 pub mod AnswerLaws
 pub mod Hiding
 pub mod Keeping
+pub mod ShutLaws
 pub mod Privacy
+pub mod PrivacyLaws
 pub mod Compute

@@ -4,7 +4,7 @@
 -- leading `rep`, and so has at least one name.
 use mathlib.Core.List.{List, [], _∷_, _++_}
 use mathlib.Core.Option.{Option, none, some}
-use mathlib.Core.Bool.{Bool, true, false, _&&_, _||_, cond}
+use mathlib.Core.Bool.{Bool, true, false, _&&_, _||_, not, cond}
 use Prim.Native.Nat.{ℕ, suc}
 use lib.Dec.{eqb, leb}
 use lib.ListN.{length}
@@ -50,6 +50,15 @@ same-path (p ▹ n) (q ▹ m) = same-text n m && same-path p q
 unfoldable pub within : Path → Path → Bool
 within a root = same-path a root
 within a (b ▹ n) = same-path a (b ▹ n) || within a b
+
+-- whether b lies below a
+unfoldable pub lies-below : Path → Path → Bool
+lies-below a b = within a b && not (same-path a b)
+
+-- where p leads after a was moved to b: b and what p has after a, or p if it is not within a
+unfoldable pub carried : Path → Path → Path → Path
+carried a b root = cond (same-path a root) b root
+carried a b (p ▹ n) = cond (same-path a (p ▹ n)) b (carried a b p ▹ n)
 
 -- the directory of the repository
 unfoldable pub rep : Name

@@ -1,10 +1,11 @@
--- A path that is another or lies below it, name by name: what the test `within` says.
+-- A path that is another or lies below it, name by name: what the tests `within` and `lies-below` say.
 use mathlib.Core.Path.{_≡_, refl, ap₂}
-use mathlib.Core.Bool.{true, false, or-true}
+use mathlib.Core.Bool.{true, false, not, or-true}
+use borrow.Author.Tests.{not-true}
 use Rattle.accounts.specs.Cases.{case, and-both, contra}
 use Rattle.syntax.specs.Text.{same-text}
 use Rattle.syntax.specs.TextLaws.{same-text-refl, same-text-sound}
-use Rattle.syntax.specs.Path.{Name, Path, root, _▹_, same-path, within}
+use Rattle.syntax.specs.Path.{Name, Path, root, _▹_, same-path, within, lies-below}
 
 -- the paths that are p or lie below it
 pub data Lies (p : Path) : Path → Type 0 where
@@ -54,3 +55,21 @@ lies-outside e l = contra (lies-within l) e
 pub lies-top : (q : Path) → Lies root q
 lies-top root = itself
 lies-top (q ▹ n) = deeper (lies-top q)
+
+-- what the test finds outside p is not p
+pub outside-differs : (p q : Path) → within p q ≡ false → same-path p q ≡ false
+unfolding within
+outside-differs p root e = e
+outside-differs p (q ▹ n) e = case (same-path p (q ▹ n)) (λ t. contra (rw t refl) e) (λ t. t)
+
+-- `/` lies below no path
+pub top-not-below : {P : Type 0} (p : Path) → lies-below p root ≡ true → P
+unfolding lies-below within
+top-not-below p b = let i = and-both (same-path p root) (not (same-path p root)) b in contra (i .0) (not-true (same-path p root) (i .1))
+
+-- the parent of a path below p is p or lies below it
+pub below-parent : (p q : Path) (n : Name) → lies-below p (q ▹ n) ≡ true → within p q ≡ true
+unfolding lies-below within
+below-parent p q n b =
+    let i = and-both (within p (q ▹ n)) (not (same-path p (q ▹ n))) b in
+    rw (not-true (same-path p (q ▹ n)) (i .1)) at (i .0)

@@ -72,6 +72,16 @@ pub data Ensures {X : Type 0} (P : X → Type 0) : Result X → Type 0 where
 pub ensured-done : {X : Type 0} {P : X → Type 0} {x : X} → Ensures P (done x) → P x
 ensured-done (ensured h) = h
 
+-- what follows is ensured too
+pub ensured-so : {X : Type 0} {P Q : X → Type 0} {r : Result X} → ((x : X) → P x → Q x) → Ensures P r → Ensures Q r
+ensured-so f (no-matter why) = no-matter why
+ensured-so f (ensured {x = x} h) = ensured (f x h)
+
+-- what ensures the impossible is refused
+pub never-done : {X : Type 0} {r : Result X} → Ensures (λ _. ⊥) r → (why : Cause) × (r ≡ refused why)
+never-done (no-matter why) = (why, refl)
+never-done (ensured h) = absurd h
+
 module _ {Y : Type 0} {P : Y → Type 0} where
   -- after a step that is done
   pub after-do : {X : Type 0} {f : X → Result Y} (a : Result X) → ((x : X) → a ≡ done x → Ensures P (f x)) → Ensures P (a >>= f)

@@ -13,20 +13,15 @@ use Rattle.syntax.specs.FormLaws.{no-answer}
 use Rattle.tree.specs.Forest.{Forest, nil, node, Place, get, is-empty, remove, at, under, update, place-at, alter, put, drop, leaf, map-place}
 use Rattle.tree.specs.ForestLaws.{get-map}
 use Rattle.tree.specs.Node.{Node}
-use Rattle.tree.specs.WellFormed.{is-forest, is-tree}
-use Rattle.tree.specs.UpdateLaws.{by-option, at-child, child-at}
-use Rattle.tree.specs.WellFormedLaws.{place-parts, forest-parts, tree-parts, place-below}
-use Rattle.tree.specs.ChangeLaws.{get-leads}
-use Rattle.tree.specs.PathLaws.{get-empty, empty-below, changed-at, changed-none, alter-keeps, put-keeps, put-stands, drop-keeps, none-below, put-none, drop-none}
+use Rattle.tree.specs.WellFormed.{is-tree}
+use Rattle.tree.specs.UpdateLaws.{by-option, at-child}
+use Rattle.tree.specs.PathLaws.{alone-at, changed-at, alter-keeps, put-keeps, put-stands, drop-empty-keeps, none-below, put-none, drop-none, drop-gone}
 use Rattle.tree.specs.Graft.{graft, Outside, first, further, get-graft, get-graft-other}
 
 -- nothing stands below a place without children
 only-there : {A : Type 0} (t : Place A) {a : Path} (e : Place A) → place-at t a ≡ some e → is-empty (e .below) ≡ true
     → {p : Path} → Lies a p → (d : Place A) → place-at t p ≡ some d → same-path p a ≡ true
-only-there t {a} e there alone itself d h = same-path-refl a
-only-there t e there alone (deeper {q = q} {n = n} l) d h =
-    let i = child-at t q n d h in
-    no-answer (sym (get-empty n (i .0 .below) (empty-below t l e there alone (i .0) (i .1))) ∙ i .2)
+only-there t e there alone {p} l d h = rw (alone-at t l e there alone d h) (same-path-refl p)
 
 -- ---- a payload after a change
 
@@ -71,12 +66,7 @@ module _ {A : Type 0} {t : Place A} {x : A} where
     unfolding drop under
     holds-drop n e there alone other = case (within p q)
         (λ i. holds-above (lies p q i) (drop n) (λ _ d. refl) k)
-        (λ i. record {
-          place = k .place;
-          stands = drop-keeps t p (k .place) q n (k .stands) i
-              (case (within (q ▹ n) p) (λ j. contra (only-there t e there alone (lies (q ▹ n) p j) (k .place) (k .stands)) other) (λ j. j));
-          here = k .here;
-        })
+        (λ i. record { place = k .place; stands = drop-empty-keeps t p (k .place) q n e (k .stands) i there alone other; here = k .here })
 
 -- ---- no place after a change
 
@@ -91,29 +81,11 @@ module _ {A : Type 0} (t : Place A) where
       (λ c z. contra (only-there (update q (put n (leaf x)) t) (leaf x) (put-stands t q d n (leaf x) there free) refl (lies (q ▹ n) p i) c z) other))
       (λ i. put-none t p q n (leaf x) i e)
 
--- siblings in order have no two of one name
-get-removed : (n : Name) (F : Forest Node) → is-forest F ≡ true → get n (remove n F) ≡ none
-unfolding get remove
-get-removed n nil h = refl
-get-removed n (node m x cs rest) h =
-    let v = forest-parts m (record { here = x; below = cs }) rest h in
-    case (same-text n m)
-    (λ s. rw s (rw (same-text-sound n m s) (get-leads m rest (v .others) (v .leading))))
-    (λ s. rw s (rw s (get-removed n rest (v .others))))
-
 module _ (t : Place Node) (whole : is-tree t ≡ true) where
-  -- in a well-formed tree nothing stands where a child was taken out
-  pub drop-gone : (q : Path) (n : Name) → place-at (update q (drop n) t) (q ▹ n) ≡ none
-  unfolding drop under
-  drop-gone q n = by-option (place-at t q)
-      (λ e. none-below (update q (drop n) t) (deeper itself) (changed-none t itself (drop n) e))
-      (λ d e. at-child (update q (drop n) t) q n (drop n d) (changed-at t q (drop n) d e)
-      ∙ get-removed n (d .below) (place-parts d (place-below t q d (tree-parts t whole .whole) e) .forest))
-
-  -- nor where nothing stood before
+  -- in a well-formed tree nothing stands after a child was taken out where nothing stood before
   pub drop-still-none : (p q : Path) (n : Name) → place-at t p ≡ none → place-at (update q (drop n) t) p ≡ none
   drop-still-none p q n e = case (within (q ▹ n) p)
-      (λ i. none-below (update q (drop n) t) (lies (q ▹ n) p i) (drop-gone q n))
+      (λ i. none-below (update q (drop n) t) (lies (q ▹ n) p i) (drop-gone t whole q n))
       (λ i. drop-none t p q n i e)
 
 -- ---- maps and grafts

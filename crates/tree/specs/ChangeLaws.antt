@@ -6,7 +6,7 @@ use Prim.Native.Nat.{suc, _+_, _-_, _≤_}
 use native.Mathlib.Omega.{arith}
 use Rattle.accounts.specs.Cases.{case, contra}
 use Rattle.syntax.specs.Text.{same-text, precedes}
-use Rattle.syntax.specs.TextLaws.{same-text-sound, precedes-total, precedes-differ}
+use Rattle.syntax.specs.TextLaws.{same-text-sound, precedes-total}
 use Rattle.syntax.specs.Path.{Name, Path, root, _▹_, is-name, depth}
 use Rattle.syntax.specs.FormLaws.{no-answer, answered}
 use Rattle.tree.specs.Result.{done}
@@ -16,7 +16,7 @@ use Rattle.tree.specs.Node.{is-directory, Node}
 use Rattle.tree.specs.Walk.{Judge, walk}
 use Rattle.tree.specs.WellFormed.{nodes, is-node, leads, is-forest, is-place, is-tree}
 use Rattle.tree.specs.UpdateLaws.{by-option, at-top, at-child, child-at, walked-at, height-below, update-none, here-update, size-update, height-update}
-use Rattle.tree.specs.WellFormedLaws.{leads-before, place-parts, place-of-parts, forest-parts, forest-of-parts, tree-parts, tree-of-parts, place-below}
+use Rattle.tree.specs.WellFormedLaws.{leads-before, get-leads, place-parts, place-of-parts, forest-parts, forest-of-parts, tree-parts, tree-of-parts, place-below}
 
 -- ---- a place changed
 
@@ -225,14 +225,6 @@ less-update : (p : Path) (f : Place Node → Place Node) → ((x : Place Node) �
 unfolding update under
 less-update root f h t = h t
 less-update (p ▹ n) f h t = less-update p (under (at n f)) (λ x. (refl, fewer-at n f h (x .below))) t
-
--- a name that comes before all siblings names none of them
-pub get-leads : (n : Name) (F : Forest Node) → is-forest F ≡ true → leads n F ≡ true → get n F ≡ none
-unfolding get leads
-get-leads n nil h b = refl
-get-leads n (node k y cs rest) h b =
-    let v = forest-parts k (record { here = y; below = cs }) rest h in
-    rw (precedes-differ n k b) (get-leads n rest (v .others) (leads-before n k rest b (v .leading)))
 
 -- a child that is left was there
 get-fewer : (n : Name) {E F : Forest Node} → Fewer E F → is-forest F ≡ true → (d : Place Node) → get n E ≡ some d

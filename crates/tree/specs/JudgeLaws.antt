@@ -1,5 +1,5 @@
 -- What the access test's judge says of a node, and what a node's setters leave, each as an equation, for the crates above.
-use mathlib.Core.Path.{_≡_, refl}
+use mathlib.Core.Path.{_≡_, refl, sym}
 use mathlib.Core.Option.{some}
 use mathlib.Core.Bool.{true, false, _&&_, _||_, not}
 use Prim.Native.Nat.{ℕ}
@@ -8,8 +8,9 @@ use Rattle.accounts.specs.declared.Right.the-variants.{R, W, X}
 use Rattle.accounts.specs.declared.Account.{Account}
 use Rattle.accounts.specs.Access.{may}
 use Rattle.syntax.specs.Text.{Text}
+use Rattle.tree.specs.declared.Kind.{Kind}
 use Rattle.tree.specs.declared.Kind.the-variants.{File, Directory}
-use Rattle.tree.specs.Node.{is-directory, Tag, Node, allows, set-revision, set-tag, set-content}
+use Rattle.tree.specs.Node.{is-directory, same-kind, Tag, Node, allows, set-revision, set-tag, set-content}
 use Rattle.tree.specs.Walk.{by-modes}
 
 pub file-is-none : is-directory File ≡ false
@@ -19,6 +20,12 @@ file-is-none = refl
 pub directory-is-one : is-directory Directory ≡ true
 unfolding is-directory
 directory-is-one = refl
+
+-- a directory is not of a file's kind
+pub directory-not-file : (k : Kind) → is-directory k ≡ true → same-kind k File ≡ false
+unfolding is-directory same-kind
+directory-not-file File h = sym h
+directory-not-file Directory h = refl
 
 module _ (a : Account) (n : Node) where
   -- the test of a node's owner, group and mode

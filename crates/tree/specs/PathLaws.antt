@@ -10,25 +10,25 @@ use Rattle.accounts.specs.Access.{is-root, may-root}
 use Rattle.accounts.specs.Cases.{case, contra}
 use Rattle.syntax.specs.Text.{same-text}
 use Rattle.syntax.specs.TextLaws.{same-text-sound}
-use Rattle.syntax.specs.Path.{Name, Path, root, _▹_, parent, same-path, within}
-use Rattle.syntax.specs.WithinLaws.{Lies, itself, deeper, same-path-sound, same-path-refl, lies, lies-outside, lies-top}
-use Rattle.syntax.specs.Form.{_>>=_}
+use Rattle.syntax.specs.Path.{Name, Path, root, _▹_, parent, same-path, within, lies-below, carried}
+use Rattle.syntax.specs.WithinLaws.{Lies, itself, deeper, same-path-sound, same-path-refl, lies, lies-outside, lies-top, top-not-below, below-parent}
+use Rattle.syntax.specs.Form
 use Rattle.syntax.specs.FormLaws.{no-answer, answered}
 use Rattle.tree.specs.declared.Cause.the-variants.{Access}
-use Rattle.tree.specs.Result.{refused, done, _>>_, require}
+use Rattle.tree.specs.Result.{Result, refused, done, _>>=_, _>>_, require}
 use Rattle.tree.specs.ResultLaws.{done-then, refused-then, done-bind, refused-bind}
-use Rattle.tree.specs.Forest.{Forest, nil, node, Place, get, is-empty, at, under, update, place-at, alter, put, drop}
+use Rattle.tree.specs.Forest.{Forest, nil, node, Place, get, is-empty, remove, at, under, update, place-at, alter, put, drop}
 use Rattle.tree.specs.ForestLaws.{get-at, get-at-other, get-insert, get-insert-other, get-remove-other}
 use Rattle.tree.specs.Node.{is-directory, Node}
-use Rattle.tree.specs.Walk.{Judge, by-modes, enter, walk, parent-walk}
+use Rattle.tree.specs.Walk.{Judge, by-modes, look, enter, walk, parent-walk}
 use Rattle.tree.specs.JudgeLaws.{allows-is, kind-by-modes, passes-by-modes}
 use Rattle.tree.specs.StepLaws.{look-some, walked, entered, enters, walk-root, walk-step, walks-on}
-use Rattle.tree.specs.WellFormed.{is-tree}
+use Rattle.tree.specs.WellFormed.{is-forest, is-tree}
 use Rattle.tree.specs.UpdateLaws.{by-option, at-top, at-child, child-at, walked-at, update-none}
-use Rattle.tree.specs.WellFormedLaws.{place-parts, tree-parts, place-below}
+use Rattle.tree.specs.WellFormedLaws.{get-leads, place-parts, forest-parts, tree-parts, place-below}
 
 -- in a forest without children no child is found
-pub get-empty : {A : Type 0} (n : Name) (F : Forest A) → is-empty F ≡ true → get n F ≡ none
+get-empty : {A : Type 0} (n : Name) (F : Forest A) → is-empty F ≡ true → get n F ≡ none
 unfolding get is-empty
 get-empty n nil e = refl
 get-empty n (node m x cs rest) e = contra {b = false} e refl
@@ -41,17 +41,17 @@ module _ {A : Type 0} (t : Place A) where
   above-at itself d e = (d, e)
   above-at (deeper {q = q} {n = n} l) d e = let i = child-at t q n d e in above-at l (i .0) (i .1)
 
-  -- no place lies below one without children
-  pub empty-below : {a p : Path} → Lies a p → (x : Place A) → place-at t a ≡ some x → is-empty (x .below) ≡ true
-      → (d : Place A) → place-at t p ≡ some d → is-empty (d .below) ≡ true
-  empty-below itself x h z d e = rw (answered (sym h ∙ e)) z
-  empty-below (deeper {q = q} {n = n} l) x h z d e =
+  -- nothing stands below a place without children
+  pub alone-at : {a p : Path} → Lies a p → (x : Place A) → place-at t a ≡ some x → is-empty (x .below) ≡ true → (d : Place A) → place-at t p ≡ some d → a ≡ p
+  alone-at itself x h z d e = refl
+  alone-at (deeper {q = q} {n = n} l) x h z d e =
       let i = child-at t q n d e in
-      no-answer (sym (get-empty n (i .0 .below) (empty-below l x h z (i .0) (i .1))) ∙ i .2)
+      let s = rw (alone-at l x h z (i .0) (i .1)) at h in
+      no-answer (sym (get-empty n (i .0 .below) (rw (answered (sym s ∙ i .1)) z)) ∙ i .2)
 
   -- the place changed
   pub changed-at : (q : Path) (f : Place A → Place A) (d : Place A) → place-at t q ≡ some d → place-at (update q f t) q ≡ some (f d)
-  unfolding update under place-at _>>=_
+  unfolding update under place-at Form._>>=_
   changed-at root f d e = rw (answered e)
   changed-at (q ▹ n) f d e =
       let i = child-at t q n d e in
@@ -65,7 +65,7 @@ module _ {A : Type 0} (t : Place A) where
   changed-some (deeper {n = n} l) f h c e = changed-some l (under (at n f)) (λ x. refl) c e
 
   -- and none is made there
-  pub changed-none : {p q : Path} → Lies p q → (f : Place A → Place A) → place-at t p ≡ none → place-at (update q f t) p ≡ none
+  changed-none : {p q : Path} → Lies p q → (f : Place A → Place A) → place-at t p ≡ none → place-at (update q f t) p ≡ none
   unfolding update
   changed-none {p} itself f e = rw (update-none t p f e) e
   changed-none (deeper {n = n} l) f e = changed-none l (under (at n f)) e
@@ -84,7 +84,7 @@ module _ {A : Type 0} (t : Place A) where
   kept : (q : Path) (f : Place A → Place A) (p : Path) → (Lies p q → ⊥)
       → ((e : Place A) (m : Name) → place-at t q ≡ some e → Lies (q ▹ m) p → get m (f e .below) ≡ get m (e .below))
       → place-at (update q f t) p ≡ place-at t p
-  unfolding place-at _>>=_
+  unfolding place-at Form._>>=_
   kept q f root off h = absurd (off (lies-top q))
   kept q f (p ▹ m) off h = case (within p q)
       (λ i. by-option (place-at t p)
@@ -113,16 +113,16 @@ module _ {A : Type 0} (t : Place A) where
       (case (same-text m n) (λ i. no-answer (sym z ∙ above-at (rw (same-text-sound m n i) at l) d h .1)) (λ i. i)) (e .below)) ∙ h
 
   -- a child taken out that does not lead to p
-  pub drop-keeps : (p : Path) (d : Place A) (q : Path) (n : Name) → place-at t p ≡ some d → within p q ≡ false → within (q ▹ n) p ≡ false
+  drop-keeps : (p : Path) (d : Place A) (q : Path) (n : Name) → place-at t p ≡ some d → within p q ≡ false → within (q ▹ n) p ≡ false
       → place-at (update q (drop n) t) p ≡ some d
   drop-keeps p d q n h b o = drop-same p q n b o ∙ h
 
-  -- a child taken out that has nothing below it: it is not above p, and p only if nothing is below that
+  -- a child taken out that has nothing below it and is not at p
   pub drop-empty-keeps : (p : Path) (d : Place A) (q : Path) (n : Name) (x : Place A) → place-at t p ≡ some d → within p q ≡ false
-      → place-at t (q ▹ n) ≡ some x → is-empty (x .below) ≡ true → (is-empty (d .below) ≡ true) ⊎ (place-at (update q (drop n) t) p ≡ some d)
-  drop-empty-keeps p d q n x h b a z = case (within (q ▹ n) p)
-      (λ i. inl (empty-below (lies (q ▹ n) p i) x a z d h))
-      (λ i. inr (drop-keeps p d q n h b i))
+      → place-at t (q ▹ n) ≡ some x → is-empty (x .below) ≡ true → same-path p (q ▹ n) ≡ false → place-at (update q (drop n) t) p ≡ some d
+  drop-empty-keeps p d q n x h b a z o = drop-keeps p d q n h b (case (within (q ▹ n) p)
+      (λ i. contra (rw (alone-at (lies (q ▹ n) p i) x a z d h) (same-path-refl p)) o)
+      (λ i. i))
 
   -- a child put in stands at its name
   pub put-stands : (q : Path) (e : Place A) (n : Name) (x : Place A) → place-at t q ≡ some e → place-at t (q ▹ n) ≡ none
@@ -130,21 +130,23 @@ module _ {A : Type 0} (t : Place A) where
   unfolding put under
   put-stands q e n x h z = at-child (update q (put n x) t) q n (put n x e) (changed-at q (put n x) e h) ∙ get-insert n x (e .below) (sym (at-child t q n e h) ∙ z)
 
--- what lies below a place lies below that place elsewhere
-below-elsewhere : {A : Type 0} (t s : Place A) (x : Place A) (b : Path) {a p : Path} → Lies a p → place-at t a ≡ some x → place-at s b ≡ some x
-    → (d : Place A) → place-at t p ≡ some d → (r : Path) × (place-at s r ≡ some d)
-below-elsewhere t s x b itself h k d e = (b, k ∙ sym h ∙ e)
-below-elsewhere t s x b (deeper {q = q} {n = n} l) h k d e =
-    let i = child-at t q n d e in
-    let r = below-elsewhere t s x b l h k (i .0) (i .1) in
-    (r .0 ▹ n, at-child s (r .0) n (i .0) (r .1) ∙ i .2)
+-- the place at a stands at b in another tree: what is within it is carried along
+carried-at : {A : Type 0} (t s : Place A) (x : Place A) (a b : Path) → place-at t a ≡ some x → place-at s b ≡ some x
+    → (p : Path) (d : Place A) → within a p ≡ true → place-at t p ≡ some d → place-at s (carried a b p) ≡ some d
+unfolding carried within
+carried-at t s x a b h k root d i e = rw i (k ∙ sym h ∙ rw (same-path-sound a root i) e)
+carried-at t s x a b h k (p ▹ n) d i e = case (same-path a (p ▹ n))
+    (λ o. rw o (k ∙ sym h ∙ rw (same-path-sound a (p ▹ n) o) e))
+    (λ o.
+    let c = child-at t p n d e in
+    rw o (at-child s (carried a b p) n (c .0) (carried-at t s x a b h k p (c .0) (rw o at i) (c .1)) ∙ c .2))
 
 module _ {A : Type 0} (t : Place A) where
   -- ---- where there is no place
 
   -- there is none below it
   pub none-below : {a p : Path} → Lies a p → place-at t a ≡ none → place-at t p ≡ none
-  unfolding place-at _>>=_
+  unfolding place-at Form._>>=_
   none-below itself e = e
   none-below (deeper l) e = rw (none-below l e)
 
@@ -179,18 +181,37 @@ module _ {A : Type 0} (t : Place A) where
       (λ i. changed-some t (lies p q i) (drop n) (λ x. refl) d e)
       (λ i. (d, drop-same t p q n i o ∙ e, refl))
 
-  -- a child moved: a place at p stays, or stands below the child where that was put
-  pub move-keeps : (p : Path) (d : Place A) (q : Path) (n : Name) (x : Place A) (r : Path) (f : Place A) (k : Name) → place-at t p ≡ some d
-      → within p q ≡ false → within p r ≡ false → place-at t (q ▹ n) ≡ some x → place-at t r ≡ some f → place-at t (r ▹ k) ≡ none → within (q ▹ n) (r ▹ k) ≡ false
-      → (s : Path) × (place-at (update r (put k x) (update q (drop n) t)) s ≡ some d)
-  move-keeps p d q n x r f k h b c a e z o =
-      let s = update q (drop n) t in
-      let y = drop-none (r ▹ k) q n o z in
-      case (within (q ▹ n) p)
-      (λ i.
-      let g = drop-some r f q n (case (within (q ▹ n) r) (λ l. lies-outside o (deeper (lies (q ▹ n) r l))) (λ l. l)) e in
-      below-elsewhere t (update r (put k x) s) x (r ▹ k) (lies (q ▹ n) p i) a (put-stands s r (g .0) k x (g .1) y) d h)
-      (λ i. (p, put-keeps s p d r k x (drop-keeps t p d q n h b i) c y))
+  module _ (p : Path) (d : Place A) (q : Path) (n : Name) (x : Place A) (r : Path) (f : Place A) (k : Name) (there : place-at t p ≡ some d)
+      (free : place-at t (r ▹ k) ≡ none) (off : within (q ▹ n) (r ▹ k) ≡ false) where
+    -- a child moved that does not lead to p
+    pub move-keeps : within p q ≡ false → within p r ≡ false → within (q ▹ n) p ≡ false → place-at (update r (put k x) (update q (drop n) t)) p ≡ some d
+    move-keeps b c o = put-keeps (update q (drop n) t) p d r k x (drop-keeps t p d q n there b o) c (drop-none (r ▹ k) q n off free)
+
+    -- and one that does carries what stands at p along
+    pub move-carries : place-at t (q ▹ n) ≡ some x → place-at t r ≡ some f → within (q ▹ n) p ≡ true
+        → place-at (update r (put k x) (update q (drop n) t)) (carried (q ▹ n) (r ▹ k) p) ≡ some d
+    move-carries a e i =
+        let s = update q (drop n) t in
+        let g = drop-some r f q n (case (within (q ▹ n) r) (λ l. lies-outside off (deeper (lies (q ▹ n) r l))) (λ l. l)) e in
+        carried-at t (update r (put k x) s) x (q ▹ n) (r ▹ k) a (put-stands s r (g .0) k x (g .1) (drop-none (r ▹ k) q n off free)) p d i there
+
+-- a child taken out of well-formed siblings is found no more
+get-removed : (n : Name) (F : Forest Node) → is-forest F ≡ true → get n (remove n F) ≡ none
+unfolding get remove
+get-removed n nil h = refl
+get-removed n (node k y cs rest) h =
+    let v = forest-parts k (record { here = y; below = cs }) rest h in
+    case (same-text n k)
+    (λ e. rw e (rw (same-text-sound n k e) (get-leads k rest (v .others) (v .leading))))
+    (λ e. rw e (rw e (get-removed n rest (v .others))))
+
+-- and in a well-formed tree nothing stands where it was
+pub drop-gone : (t : Place Node) → is-tree t ≡ true → (q : Path) (n : Name) → place-at (update q (drop n) t) (q ▹ n) ≡ none
+unfolding drop under
+drop-gone t whole q n = by-option (place-at t q)
+    (λ e. none-below (update q (drop n) t) (deeper itself) (changed-none t itself (drop n) e))
+    (λ d e. at-child (update q (drop n) t) q n (drop n d) (changed-at t q (drop n) d e)
+    ∙ get-removed n (d .below) (place-parts d (place-below t q d (tree-parts t whole .whole) e) .forest))
 
 -- ---- walks
 
@@ -234,21 +255,25 @@ module _ (j : Judge Node) (kinds : (n : Node) → j .kind n ≡ n .kind) (t : Pl
       (λ (w : walk j t p ≡ refused Access). inr (rw (w, refused-bind)))
       (walk-to p (i .0) (i .1)))
 
-  -- a walk through a directory that may not be passed is refused for want of x
-  walk-below : (p : Path) (d : Place Node) → place-at t p ≡ some d → is-directory (d .here .kind) ≡ true → j .passes (d .here) ≡ false
-      → {q : Path} → Lies p q → same-path p q ≡ false → walk j t q ≡ refused Access
-  walk-below p d h k b itself o = contra (same-path-refl p) o
-  walk-below p d h k b (deeper {q = q} {n = n} l) o = rw (walk-step j t q n) (case (same-path p q)
-      (λ i. rw (← same-path-sound p q i) (⊎-elim
-      (λ (w : walk j t p ≡ done d). rw (w, done-bind, enter-shut j (d .here) (ap is-directory (kinds (d .here)) ∙ k) b, refused-then))
-      (λ (w : walk j t p ≡ refused Access). rw (w, refused-bind))
-      (walk-to p d h)))
-      (λ i. rw (walk-below p d h k b l i, refused-bind)))
+  module _ (p : Path) (d : Place Node) (there : place-at t p ≡ some d) (directory : is-directory (d .here .kind) ≡ true) (shut : j .passes (d .here) ≡ false) where
+    -- a walk to a directory that may not be passed, or below it, goes no further
+    walk-stops : {B : Type 0} (k : Place Node → Result B) {q : Path} → Lies p q → (walk j t q >>= λ e. enter j (e .here) >> k e) ≡ refused Access
+    walk-stops k itself = ⊎-elim
+        (λ (w : walk j t p ≡ done d). rw (w, done-bind, enter-shut j (d .here) (ap is-directory (kinds (d .here)) ∙ directory) shut, refused-then))
+        (λ (w : walk j t p ≡ refused Access). rw (w, refused-bind))
+        (walk-to p d there)
+    walk-stops k (deeper {q = q} {n = n} l) = rw (walk-step j t q n, walk-stops (λ e. look n (e .below)) l, refused-bind)
 
-  -- so is the walk to every path below it
-  pub walk-shut : (p : Path) (d : Place Node) → place-at t p ≡ some d → is-directory (d .here .kind) ≡ true → j .passes (d .here) ≡ false
-      → (q : Path) → within p q ≡ true → same-path p q ≡ false → walk j t q ≡ refused Access
-  walk-shut p d h k b q i o = walk-below p d h k b (lies p q i) o
+    -- so the walk to a path below it is refused for want of x
+    pub walk-shut : (q : Path) → lies-below p q ≡ true → walk j t q ≡ refused Access
+    walk-shut root b = top-not-below p b
+    walk-shut (q ▹ n) b = walk-step j t q n ∙ walk-stops (λ e. look n (e .below)) (lies p q (below-parent p q n b))
+
+    -- and so is the parent walk
+    pub parent-walk-shut : (q : Path) → lies-below p q ≡ true → parent-walk j t q ≡ refused Access
+    unfolding parent-walk parent
+    parent-walk-shut root b = top-not-below p b
+    parent-walk-shut (q ▹ n) b = walk-stops done (lies p q (below-parent p q n b))
 
   -- a walk that passes everywhere leads to every place
   walk-open : ((n : Node) → j .passes n ≡ true) → (p : Path) (d : Place Node) → place-at t p ≡ some d → walk j t p ≡ done d

@@ -1,6 +1,6 @@
 -- Well-formed trees, forests and places by their parts, and the places of a well-formed tree.
 use mathlib.Core.Path.{_≡_, refl}
-use mathlib.Core.Option.{some}
+use mathlib.Core.Option.{none, some}
 use mathlib.Core.Bool.{Bool, true, false, _&&_, _||_}
 use Prim.Native.Nat.{_+_, _≤_}
 use native.Mathlib.Omega.{arith}
@@ -9,7 +9,7 @@ use borrow.Author.Tests.{leb-true, le-leb}
 use Rattle.accounts.specs.declared.Account.{Account}
 use Rattle.accounts.specs.Cases.{case, and-both, contra}
 use Rattle.syntax.specs.Text.{same-text, precedes}
-use Rattle.syntax.specs.TextLaws.{precedes-trans}
+use Rattle.syntax.specs.TextLaws.{precedes-trans, precedes-differ}
 use Rattle.syntax.specs.Path.{Name, Path, root, _▹_, depth, is-name, most-names}
 use Rattle.syntax.specs.FormLaws.{no-answer, answered}
 use Rattle.tree.specs.Result.{done}
@@ -135,6 +135,14 @@ pub leads-before : (m n : Name) (F : Forest Node) → precedes m n ≡ true → 
 unfolding leads
 leads-before m n nil b h = refl
 leads-before m n (node k y cs rest) b h = precedes-trans m n k b h
+
+-- it is none of theirs
+pub get-leads : (n : Name) (F : Forest Node) → is-forest F ≡ true → leads n F ≡ true → get n F ≡ none
+unfolding get leads
+get-leads n nil h b = refl
+get-leads n (node k y cs rest) h b =
+    let v = forest-parts k (record { here = y; below = cs }) rest h in
+    rw (precedes-differ n k b) (get-leads n rest (v .others) (leads-before n k rest b (v .leading)))
 
 -- ---- places
 

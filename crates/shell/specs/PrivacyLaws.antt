@@ -1,0 +1,223 @@
+-- A directory of mode 0700 is its owner's and root's alone: every shell command of anybody else that walks below it is refused, and
+-- every other one leaves it unaltered.
+use mathlib.Core.Path.{_≡_, refl, sym, _∙_, ap}
+use mathlib.Core.Option.{none, some}
+use mathlib.Core.Bool.{Bool, true, false, _&&_, _||_, not, or-true}
+use mathlib.Core.Logic.{_⊎_, inl, inr, ⊎-elim}
+use Prim.Native.Nat.{ℕ}
+use borrow.Author.Tests.{not-true}
+use Rattle.accounts.specs.declared.Uid.{Uid}
+use Rattle.accounts.specs.declared.Gid.{Gid}
+use Rattle.accounts.specs.declared.Right.{Right}
+use Rattle.accounts.specs.declared.Right.the-variants.{W, X}
+use Rattle.accounts.specs.Groups.{member}
+use Rattle.accounts.specs.declared.Account.{Account}
+use Rattle.accounts.specs.Access.{is-root, same-uid, may-group, may-other, grants-none}
+use Rattle.accounts.specs.Cases.{case, contra}
+use Rattle.syntax.specs.Text.{Text}
+use Rattle.syntax.specs.Number.{octal}
+use Rattle.syntax.specs.Path.{Name, Path, root, _▹_, parent, last, is-top, same-path, within, lies-below, reserved}
+use Rattle.syntax.specs.WithinLaws.{same-path-sound, top-not-below}
+use Rattle.syntax.specs.FormLaws.{answered}
+use Rattle.commands.specs.Command.{Shell-command, create, mkdir, read, write, rm, rmdir, mv, chmod, chgrp, chown, shell, some-path}
+use Rattle.tree.specs.declared.Kind.{Kind}
+use Rattle.tree.specs.declared.Kind.the-variants.{File, Directory}
+use Rattle.tree.specs.declared.Cause.the-variants.{Access, Exists, WrongKind, NotEmpty, Reserved, Full, IntoItself, TooDeep}
+use Rattle.tree.specs.Result.{Result, refused, done, _>>=_}
+use Rattle.tree.specs.Forest.{Place, is-empty, update, place-at, put, drop}
+use Rattle.tree.specs.Node.{same-kind, Node, allows, set-mode, set-group, set-content}
+use Rattle.tree.specs.Walk.{by-modes, unused, walk, parent-walk}
+use Rattle.tree.specs.WellFormed.{is-tree}
+use Rattle.tree.specs.Agree.{Ensures, ensured, ensured-so, after-do, after-facts, after-check, after-guard}
+use Rattle.tree.specs.ResultLaws.{done-then, refused-bind, require-true}
+use Rattle.tree.specs.JudgeLaws.{directory-not-file, allows-is, kind-by-modes, passes-by-modes}
+use Rattle.tree.specs.StepLaws.{was-unused, parent-walked}
+use Rattle.tree.specs.UpdateLaws.{at-child, walked-at}
+use Rattle.tree.specs.PathLaws.{alter-keeps, put-keeps, drop-empty-keeps, drop-gone, move-keeps, move-carries, walk-outside, walk-shut, parent-walk-shut}
+use Rattle.shell.specs.declared.Caller.{Caller}
+use Rattle.shell.specs.Caller.{owns}
+use Rattle.shell.specs.Steps.{room, run-create, run-read, run-write, run-rm, run-mv, run-chmod, run-chgrp, run-chown, run-shell}
+use Rattle.shell.specs.Privacy.{Private, Unaltered, in-place, moved-along, taken-out, walks-first}
+
+-- the account has no right there
+pub private-shut : {a : Account} {d : Place Node} → Private a d → (t : Right) → allows a t (d .here) ≡ false
+private-shut {a} {d} v t = rw (allows-is a (d .here) t, v .mode) (case (member (d .here .group) (a .groups))
+    (λ i. may-group a t (d .here .owner) (d .here .group) (octal 0 7 0 0) (v .not-root) (v .foreign) i ∙ grants-none t)
+    (λ i. may-other a t (d .here .owner) (d .here .group) (octal 0 7 0 0) (v .not-root) (v .foreign) i ∙ grants-none t))
+
+-- nor is the directory the account's
+pub private-foreign : {a : Account} {d : Place Node} → Private a d → owns a (d .here) ≡ false
+unfolding owns
+private-foreign v = rw (v .not-root, v .foreign)
+
+not-passed : {a : Account} {d : Place Node} → Private a d → by-modes a .passes (d .here) ≡ false
+not-passed {a} {d} v = passes-by-modes a (d .here) ∙ private-shut v X
+
+-- ---- changes where the account may write or owns
+
+module _ {a : Account} (t : Place Node) (p : Path) (d : Place Node) (there : place-at t p ≡ some d) (v : Private a d) where
+  -- a walk to a place that passes a test which the directory does not pass leads outside it
+  pub private-outside : (T : Node → Bool) → T (d .here) ≡ false → (q : Path) (e : Place Node) → walk (by-modes a) t q ≡ done e → T (e .here) ≡ true → within p q ≡ false
+  private-outside T o q e w = walk-outside (by-modes a) t p d there (not-passed v) q e w T o
+
+  -- so does one to where the account may write
+  written-outside : (q : Path) (e : Place Node) → walk (by-modes a) t q ≡ done e → allows a W (e .here) ≡ true → within p q ≡ false
+  written-outside = private-outside (allows a W) (private-shut v W)
+
+  -- a new node where the account may write leaves the directory
+  pub put-private : (q : Path) (e : Place Node) → parent-walk (by-modes a) t q ≡ done e → unused (last q) (e .below) ≡ done tt → allows a W (e .here) ≡ true
+      → (x : Place Node) → place-at (update (parent q) (put (last q) x) t) p ≡ some d
+  put-private q e w n b x =
+      let i = parent-walked (by-modes a) t q w .0 in
+      put-keeps t p d (parent q) (last q) x there (written-outside (parent q) e i b)
+      (at-child t (parent q) (last q) e (walked-at t (by-modes a) (parent q) e i) ∙ was-unused (last q) (e .below) n)
+
+  -- and so does the removal of another that has nothing below it
+  pub drop-private : (q : Path) (n : Name) (x e : Place Node) → walk (by-modes a) t (q ▹ n) ≡ done x → walk (by-modes a) t q ≡ done e → allows a W (e .here) ≡ true
+      → is-empty (x .below) ≡ true → same-path p (q ▹ n) ≡ false → place-at (update q (drop n) t) p ≡ some d
+  drop-private q n x e w i b z = drop-empty-keeps t p d q n x there (written-outside q e i b) (walked-at t (by-modes a) (q ▹ n) x w) z
+
+module _ (c : Caller) (m : ℕ) (t : Place Node) (p : Path) (d : Place Node) (there : place-at t p ≡ some d) (v : Private (c .account) d) where
+  -- a new node in the room found for it leaves the directory
+  pub room-private : (q : Path) → Ensures (λ e. (x : Place Node) → place-at (update (parent q) (put (last q) x) t) p ≡ some d) (room c m t q)
+  unfolding room
+  room-private q =
+      after-check Exists _ λ _.
+      after-do (parent-walk (by-modes (c .account)) t q) λ e w.
+      after-guard (unused (last q) (e .below)) λ n.
+      after-check Access _ λ b.
+      ensured (put-private t p d there v q e w n b)
+
+  module _ (whole : is-tree t ≡ true) where
+    -- ---- paths below it
+
+    -- a step after a walk through it is refused
+    walk-through : {A : Type 0} (k : Place Node → Result A) (q : Path) → lies-below p q ≡ true → (walk (by-modes (c .account)) t q >>= k) ≡ refused Access
+    walk-through k q b = rw (walk-shut (by-modes (c .account)) (kind-by-modes (c .account)) t whole p d there (v .directory) (not-passed v) q b, refused-bind)
+
+    create-through : (kind : Kind) (q : Path) (mode : ℕ) → lies-below p q ≡ true → run-create c m t kind q mode ≡ refused Access
+    unfolding run-create room is-top
+    create-through kind root mode b = top-not-below p b
+    create-through kind (q ▹ n) mode b = rw (
+      require-true Exists,
+      done-then,
+      parent-walk-shut (by-modes (c .account)) (kind-by-modes (c .account)) t whole p d there (v .directory) (not-passed v) (q ▹ n) b,
+      refused-bind,
+      refused-bind,
+    )
+
+    -- a command that walks first is refused for want of x where its path lies below it
+    pub run-shell-through : (command : Shell-command) → walks-first command ≡ true → some-path (lies-below p) command ≡ true → run-shell c m t command ≡ refused Access
+    unfolding walks-first some-path run-shell run-read run-write run-chmod run-chgrp run-chown
+    run-shell-through (create q mode) i b = create-through File q mode b
+    run-shell-through (mkdir q mode) i b = create-through Directory q mode b
+    run-shell-through (read q) i b = walk-through _ q b
+    run-shell-through (write q content) i b = walk-through _ q b
+    run-shell-through (rm q) i b = contra i refl
+    run-shell-through (rmdir q) i b = contra i refl
+    run-shell-through (mv q r) i b = contra i refl
+    run-shell-through (chmod q mode) i b = walk-through _ q b
+    run-shell-through (chgrp q group) i b = walk-through _ q b
+    run-shell-through (chown q owner) i b = walk-through _ q b
+
+    -- ---- what becomes of it
+
+    create-private : (kind : Kind) (q : Path) (mode : ℕ) → Ensures (λ o. place-at (o .state) p ≡ some d) (run-create c m t kind q mode)
+    unfolding run-create
+    create-private kind q mode =
+        after-facts (room-private q) λ e k.
+        after-check Full _ λ _.
+        ensured (k _)
+
+    read-private : (q : Path) → Ensures (λ o. place-at (o .state) p ≡ some d) (run-read c m t q)
+    unfolding run-read
+    read-private q =
+        after-do (walk (by-modes (c .account)) t q) λ e w.
+        after-check Access _ λ _.
+        ensured there
+
+    write-private : (q : Path) (content : Text) → Ensures (λ o. place-at (o .state) p ≡ some d) (run-write c m t q content)
+    unfolding run-write
+    write-private q content =
+        after-do (walk (by-modes (c .account)) t q) λ e w.
+        after-check WrongKind _ λ _.
+        after-check Access _ λ b.
+        ensured (alter-keeps t p d q (set-content content) there (written-outside t p d there v q e w b))
+
+    -- it stays, or was what was to be removed
+    rm-private : (kind : Kind) (q : Path)
+        → Ensures (λ o. (place-at (o .state) p ≡ some d)
+        ⊎ ((q ≡ p) × (same-kind (d .here .kind) kind ≡ true) × (is-empty (d .below) ≡ true) × (place-at (o .state) p ≡ none))) (run-rm c m t kind q)
+    unfolding run-rm reserved parent last
+    rm-private kind root = after-check Reserved _ λ i. contra i refl
+    rm-private kind (q ▹ n) =
+        after-check Reserved _ λ _.
+        after-do (walk (by-modes (c .account)) t (q ▹ n)) λ x w.
+        after-check WrongKind _ λ k.
+        after-do (walk (by-modes (c .account)) t q) λ e s.
+        after-check Access _ λ b.
+        after-check NotEmpty _ λ z.
+        ensured (case (same-path p (q ▹ n))
+        (λ i.
+        let o = same-path-sound p (q ▹ n) i in
+        let y = answered (sym (rw o at there) ∙ walked-at t (by-modes (c .account)) (q ▹ n) x w) in
+        inr (sym o, rw y at k, rw y at z, rw o (drop-gone t whole q n)))
+        (λ i. inl (drop-private t p d there v q n x e w s b z i)))
+
+    mv-private : (a b : Path) → Ensures (λ o. Unaltered d p (shell (mv a b)) (o .state)) (run-mv c m t a b)
+    unfolding run-mv reserved parent last
+    mv-private root b = after-check Reserved _ λ i. contra i refl
+    mv-private (q ▹ n) root = after-check Reserved _ λ i. contra i (ap not (or-true (reserved (q ▹ n))))
+    mv-private (q ▹ n) (r ▹ k) =
+        after-check Reserved _ λ _.
+        after-do (walk (by-modes (c .account)) t (q ▹ n)) λ x w.
+        after-do (parent-walk (by-modes (c .account)) t (r ▹ k)) λ f s.
+        after-guard (unused k (f .below)) λ u.
+        after-do (walk (by-modes (c .account)) t q) λ e i.
+        after-check Access _ λ b.
+        after-check Access _ λ g.
+        after-check IntoItself _ λ o.
+        after-check TooDeep _ λ _.
+        let l = parent-walked (by-modes (c .account)) t (r ▹ k) s .0 in
+        let h = walked-at t (by-modes (c .account)) r f l in
+        let free = at-child t r k f h ∙ was-unused k (f .below) u in
+        let off = not-true (within (q ▹ n) (r ▹ k)) o in
+        ensured (case (within (q ▹ n) p)
+        (λ y. moved-along y (move-carries t p d q n x r f k there free off (walked-at t (by-modes (c .account)) (q ▹ n) x w) h y))
+        (λ y. in-place (move-keeps t p d q n x r f k there free off (written-outside t p d there v q e i b) (written-outside t p d there v r f l g) y)))
+
+    chmod-private : (q : Path) (mode : ℕ) → Ensures (λ o. place-at (o .state) p ≡ some d) (run-chmod c m t q mode)
+    unfolding run-chmod
+    chmod-private q mode =
+        after-do (walk (by-modes (c .account)) t q) λ e w.
+        after-check WrongKind _ λ _.
+        after-check Reserved _ λ b.
+        ensured (alter-keeps t p d q (set-mode mode) there (private-outside t p d there v (owns (c .account)) (private-foreign v) q e w b))
+
+    chgrp-private : (q : Path) (group : Gid) → Ensures (λ o. place-at (o .state) p ≡ some d) (run-chgrp c m t q group)
+    unfolding run-chgrp
+    chgrp-private q group =
+        after-do (walk (by-modes (c .account)) t q) λ e w.
+        after-check Reserved _ λ b.
+        ensured (alter-keeps t p d q (set-group group) there (private-outside t p d there v
+        (λ n. is-root (c .account .uid) || (same-uid (c .account .uid) (n .owner) && member group (c .account .groups))) (rw (v .not-root, v .foreign)) q e w b))
+
+    chown-private : (q : Path) (owner : Uid) → Ensures (λ o. place-at (o .state) p ≡ some d) (run-chown c m t q owner)
+    unfolding run-chown
+    chown-private q owner =
+        after-do (walk (by-modes (c .account)) t q) λ e w.
+        after-check Reserved _ λ b. contra b (v .not-root)
+
+    -- every shell command leaves the directory unaltered
+    pub run-shell-private : (command : Shell-command) → Ensures (λ o. Unaltered d p (shell command) (o .state)) (run-shell c m t command)
+    unfolding run-shell
+    run-shell-private (create q mode) = ensured-so (λ o. in-place) (create-private File q mode)
+    run-shell-private (mkdir q mode) = ensured-so (λ o. in-place) (create-private Directory q mode)
+    run-shell-private (read q) = ensured-so (λ o. in-place) (read-private q)
+    run-shell-private (write q content) = ensured-so (λ o. in-place) (write-private q content)
+    run-shell-private (rm q) = ensured-so (λ o. ⊎-elim in-place (λ k. contra (k .1) (directory-not-file (d .here .kind) (v .directory)))) (rm-private File q)
+    run-shell-private (rmdir q) = ensured-so (λ o. ⊎-elim in-place (λ k. rw (k .0) (taken-out (k .2) (k .3)))) (rm-private Directory q)
+    run-shell-private (mv a b) = mv-private a b
+    run-shell-private (chmod q mode) = ensured-so (λ o. in-place) (chmod-private q mode)
+    run-shell-private (chgrp q group) = ensured-so (λ o. in-place) (chgrp-private q group)
+    run-shell-private (chown q owner) = ensured-so (λ o. in-place) (chown-private q owner)
