@@ -174,7 +174,7 @@ module _ (u : Setup) (s : Store) (c : Caller) (p : Path) (d : Place Node) (there
     run-repository-private (del e) = del-private e
 
     -- every command leaves the directory unaltered
-    pub run-private : is-tree (s .tree) ≡ true → (command : Command) → Ensures (λ o. Unaltered d p command (o .state .tree)) (run store u s c command)
+    pub run-private : is-tree (s .tree) ≡ true → (command : Command) → Ensures (λ o. Unaltered (c .account) (s .tree) d p command (o .state .tree)) (run store u s c command)
     unfolding run
     run-private whole (shell command) =
         after-facts (run-shell-private c 0 (s .tree) p d there v whole command) λ o k.

@@ -186,9 +186,10 @@ pub more-pairs-hide-nothing : (u u′ : Setup) → is-setup u ≡ true → is-se
 more-pairs-hide-nothing = Reading.more-may-read
 
 -- A command by anyone but its owner and root leaves a directory of mode 0700 owned by a person the same with all below it: at its path,
--- or where a `mv` of it or of a directory above it carries it; or nothing lay below it, and `rmdir` of it took it out.
+-- or where a `mv` of it or of a directory above it carries it; or nothing lay below it, and `rmdir` of it took it out. What is so moved
+-- or taken out stood in a directory in which the caller may write.
 pub private-directory-stays : (u : Setup) (s : Store) (c : Caller) (p : Path) (d : Place Node) → is-tree (s .tree) ≡ true → place-at (s .tree) p ≡ some d →
-    Private (c .account) d → ltb (d .here .owner .0) 16 ≡ true → (command : Command) → Ensures (λ o. Unaltered d p command (o .state .tree)) (run store u s c command)
+    Private (c .account) d → ltb (d .here .owner .0) 16 ≡ true → (command : Command) → Ensures (λ o. Unaltered (c .account) (s .tree) d p command (o .state .tree)) (run store u s c command)
 private-directory-stays u s c p d whole there v small = PrivacyLaws.run-private u s c p d there v small whole
 
 -- Such a command is refused if a path that its caller walks lies below the directory,

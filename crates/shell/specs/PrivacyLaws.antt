@@ -37,7 +37,7 @@ use Rattle.tree.specs.PathLaws.{alter-keeps, put-keeps, drop-empty-keeps, drop-
 use Rattle.shell.specs.declared.Caller.{Caller}
 use Rattle.shell.specs.Caller.{owns}
 use Rattle.shell.specs.Steps.{room, run-create, run-read, run-write, run-rm, run-mv, run-chmod, run-chgrp, run-chown, run-shell}
-use Rattle.shell.specs.Privacy.{Private, Unaltered, in-place, moved-along, taken-out, walks-first}
+use Rattle.shell.specs.Privacy.{Private, Writes, Unaltered, in-place, moved-along, taken-out, walks-first}
 
 -- the account has no right there
 pub private-shut : {a : Account} {d : Place Node} → Private a d → (t : Right) → allows a t (d .here) ≡ false
@@ -147,7 +147,7 @@ module _ (c : Caller) (m : ℕ) (t : Place Node) (p : Path) (d : Place Node) (th
     -- it stays, or was what was to be removed
     rm-private : (kind : Kind) (q : Path)
         → Ensures (λ o. (place-at (o .state) p ≡ some d)
-        ⊎ ((q ≡ p) × (same-kind (d .here .kind) kind ≡ true) × (is-empty (d .below) ≡ true) × (place-at (o .state) p ≡ none))) (run-rm c m t kind q)
+        ⊎ ((q ≡ p) × Writes (c .account) t (parent q) × (same-kind (d .here .kind) kind ≡ true) × (is-empty (d .below) ≡ true) × (place-at (o .state) p ≡ none))) (run-rm c m t kind q)
     unfolding run-rm reserved parent last
     rm-private kind root = after-check Reserved _ λ i. contra i refl
     rm-private kind (q ▹ n) =
@@ -161,10 +161,10 @@ module _ (c : Caller) (m : ℕ) (t : Place Node) (p : Path) (d : Place Node) (th
         (λ i.
         let o = same-path-sound p (q ▹ n) i in
         let y = answered (sym (rw o at there) ∙ walked-at t (by-modes (c .account)) (q ▹ n) x w) in
-        inr (sym o, rw y at k, rw y at z, rw o (drop-gone t whole q n)))
+        inr (sym o, record { place = e; stands = walked-at t (by-modes (c .account)) q e s; allowed = b }, rw y at k, rw y at z, rw o (drop-gone t whole q n)))
         (λ i. inl (drop-private t p d there v q n x e w s b z i)))
 
-    mv-private : (a b : Path) → Ensures (λ o. Unaltered d p (shell (mv a b)) (o .state)) (run-mv c m t a b)
+    mv-private : (a b : Path) → Ensures (λ o. Unaltered (c .account) t d p (shell (mv a b)) (o .state)) (run-mv c m t a b)
     unfolding run-mv reserved parent last
     mv-private root b = after-check Reserved _ λ i. contra i refl
     mv-private (q ▹ n) root = after-check Reserved _ λ i. contra i (ap not (or-true (reserved (q ▹ n))))
@@ -183,7 +183,7 @@ module _ (c : Caller) (m : ℕ) (t : Place Node) (p : Path) (d : Place Node) (th
         let free = at-child t r k f h ∙ was-unused k (f .below) u in
         let off = not-true (within (q ▹ n) (r ▹ k)) o in
         ensured (case (within (q ▹ n) p)
-        (λ y. moved-along y (move-carries t p d q n x r f k there free off (walked-at t (by-modes (c .account)) (q ▹ n) x w) h y))
+        (λ y. moved-along (record { place = e; stands = walked-at t (by-modes (c .account)) q e i; allowed = b }) y (move-carries t p d q n x r f k there free off (walked-at t (by-modes (c .account)) (q ▹ n) x w) h y))
         (λ y. in-place (move-keeps t p d q n x r f k there free off (written-outside t p d there v q e i b) (written-outside t p d there v r f l g) y)))
 
     chmod-private : (q : Path) (mode : ℕ) → Ensures (λ o. place-at (o .state) p ≡ some d) (run-chmod c m t q mode)
@@ -209,14 +209,14 @@ module _ (c : Caller) (m : ℕ) (t : Place Node) (p : Path) (d : Place Node) (th
         after-check Reserved _ λ b. contra b (v .not-root)
 
     -- every shell command leaves the directory unaltered
-    pub run-shell-private : (command : Shell-command) → Ensures (λ o. Unaltered d p (shell command) (o .state)) (run-shell c m t command)
+    pub run-shell-private : (command : Shell-command) → Ensures (λ o. Unaltered (c .account) t d p (shell command) (o .state)) (run-shell c m t command)
     unfolding run-shell
     run-shell-private (create q mode) = ensured-so (λ o. in-place) (create-private File q mode)
     run-shell-private (mkdir q mode) = ensured-so (λ o. in-place) (create-private Directory q mode)
     run-shell-private (read q) = ensured-so (λ o. in-place) (read-private q)
     run-shell-private (write q content) = ensured-so (λ o. in-place) (write-private q content)
-    run-shell-private (rm q) = ensured-so (λ o. ⊎-elim in-place (λ k. contra (k .1) (directory-not-file (d .here .kind) (v .directory)))) (rm-private File q)
-    run-shell-private (rmdir q) = ensured-so (λ o. ⊎-elim in-place (λ k. rw (k .0) (taken-out (k .2) (k .3)))) (rm-private Directory q)
+    run-shell-private (rm q) = ensured-so (λ o. ⊎-elim in-place (λ k. contra (k .2) (directory-not-file (d .here .kind) (v .directory)))) (rm-private File q)
+    run-shell-private (rmdir q) = ensured-so (λ o. ⊎-elim in-place (λ k. rw (k .0) (taken-out (rw (k .0) at (k .1)) (k .3) (k .4)))) (rm-private Directory q)
     run-shell-private (mv a b) = mv-private a b
     run-shell-private (chmod q mode) = ensured-so (λ o. in-place) (chmod-private q mode)
     run-shell-private (chgrp q group) = ensured-so (λ o. in-place) (chgrp-private q group)
