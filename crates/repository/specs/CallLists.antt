@@ -56,8 +56,8 @@ responses-to [] rs = []
 responses-to (q ∷ qs) [] = []
 responses-to (q ∷ qs) (r ∷ rs) = response q r ∷ responses-to qs rs
 
--- bytes that read as what the abstract machine holds: the people's tree, the sessions and the entries, below the same setup
-pub record Reads-as (setup : Setup) (h : Abstract) (b : List ℕ) : Type 0 where
+-- bytes that stand for a state of the abstract machine: they are read as a store of the setup with its people's tree, sessions and entries
+pub record Stands-for (setup : Setup) (h : Abstract) (b : List ℕ) : Type 0 where
   pub store : Store
   pub read : decode b ≡ some (record { setup = setup; store = store })
   pub workspace : workspace-of store ≡ h .workspace
@@ -74,5 +74,5 @@ pub record Calls-compared (text : Text) (requests : List Request) (responded : R
   pub setup : Setup
   pub taken : setup-of text ≡ accepted setup
   pub responses : responded .responses ≡ responses-to requests (runs abstract setup (initial-abstract setup) (map call-for requests) .replies)
-  pub store : Reads-as setup (runs abstract setup (initial-abstract setup) (map call-for requests) .state) (responded .store)
+  pub store : Stands-for setup (runs abstract setup (initial-abstract setup) (map call-for requests) .state) (responded .store)
   pub sound : all-sound (responded .responses) ≡ true
