@@ -11,7 +11,7 @@ use lib.Dec.{eqb, leb, ltb}
 use lib.ListN.{length}
 use Rattle.accounts.specs.Cases.{case, and-both, contra}
 use Rattle.syntax.specs.Text.{Text, every}
-use Rattle.syntax.specs.Number.{digit, value-after, no-leading-zero, decimal, mode-digits, mode, set-gid, is-mode, digits-before, decimal-text, mode-text}
+use Rattle.syntax.specs.Number.{digit, value-after, no-leading-zero, decimal, mode-digits, mode, set-gid, is-mode, octal, digits-before, decimal-text, mode-text}
 use Rattle.syntax.specs.Form.{_>>_, check}
 use Rattle.syntax.specs.FormLaws.{checked, answered}
 
@@ -156,6 +156,11 @@ decimal-one n h = rw (last-digit n n [] h)
 pub mode-length : (m : ℕ) → length (mode-text m) ≡ 4
 unfolding mode-text
 mode-length m = refl
+
+-- four octal digits are read as the number that they write
+pub octal-is-read : (a b c d : ℕ) → value-after 8 0 ((48 + a) ∷ (48 + b) ∷ (48 + c) ∷ (48 + d) ∷ []) ≡ octal a b c d
+unfolding value-after
+octal-is-read a b c d = omega arith
 
 by-mode : {P : Type 0} (m : ℕ) → is-mode m ≡ true → (m / 512 ≡ 0 → P) → (m / 512 ≡ 2 → P) → P
 unfolding is-mode set-gid

@@ -7,6 +7,7 @@ use Rattle.accounts.specs.declared.Right.{Right}
 use Rattle.accounts.specs.declared.Right.the-variants.{R, W, X}
 use Rattle.accounts.specs.declared.Account.{Account}
 use Rattle.accounts.specs.Access.{may}
+use Rattle.accounts.specs.Cases.{contra}
 use Rattle.syntax.specs.Text.{Text}
 use Rattle.tree.specs.declared.Kind.{Kind}
 use Rattle.tree.specs.declared.Kind.the-variants.{File, Directory}
@@ -65,3 +66,19 @@ module _ (n : Node) where
       set-content c n ≡ record { kind = n .kind; owner = n .owner; group = n .group; mode = n .mode; revision = n .revision; tag = n .tag; content = c }
   unfolding set-content
   set-content-is c = refl
+
+-- ---- kinds
+
+-- a kind is the same as itself
+pub same-kind-refl : (k : Kind) → same-kind k k ≡ true
+unfolding same-kind
+same-kind-refl File = refl
+same-kind-refl Directory = refl
+
+-- and as no other
+pub same-kind-sound : (a b : Kind) → same-kind a b ≡ true → a ≡ b
+unfolding same-kind
+same-kind-sound File File e = refl
+same-kind-sound File Directory e = contra e refl
+same-kind-sound Directory File e = contra e refl
+same-kind-sound Directory Directory e = refl
