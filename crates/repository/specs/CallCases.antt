@@ -21,7 +21,7 @@ use Rattle.repository.specs.Compute.{compute, compute-calls}
 
 -- ---- refused before the command
 
--- no bytes are no store: 20 with an answer buffer of 4,095 bytes, 18 with one of 4,096
+-- an empty buffer is no store: 20 with an answer buffer of 4,095 bytes, 18 with one of 4,096
 short-answer : run-call [] (bytes "1,logout") (replicate 4095 0) ≡ record { tells = record { number = 20; values = [] }; store = []; answer = replicate 4095 0 }
 unfolding compute compute-calls
 short-answer = refl

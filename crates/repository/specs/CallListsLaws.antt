@@ -5,7 +5,7 @@ use mathlib.Core.Option.{Option, none, some}
 use mathlib.Core.Bool.{true, not}
 use Prim.Native.Nat.{ℕ}
 use native.Mathlib.Omega.{arith}
-use borrow.Author.Tests.{eq-eqb}
+use borrow.Author.Tests.{eq-eqb, ne-eqb}
 use lib.Dec.{eqb, leb}
 use lib.ListN.{length}
 use Rattle.accounts.specs.Cases.{case, contra}
@@ -14,7 +14,7 @@ use Rattle.setup.specs.Setup.{Setup, Setup-answer, accepted, wrong-line, setup,
 use Rattle.setup.specs.SetupLaws.{accepted-is-setup}
 use Rattle.tree.specs.declared.Cause.the-variants.{Unsound, ShortAnswer}
 use Rattle.tree.specs.Causes.{number, wrong-setup}
-use Rattle.tree.specs.CausesLaws.{wrong-setup-is, number-not-0, only-unsound-is-18}
+use Rattle.tree.specs.CausesLaws.{wrong-setup-is, unsound-number, number-not-0, only-unsound-is-18}
 use Rattle.tree.specs.Result.{Result, refused, done, _>>=_, _>>_, require}
 use Rattle.tree.specs.ResultLaws.{done-bind, refused-bind, then-bind}
 use Rattle.shell.specs.Caller.{Outcome}
@@ -129,7 +129,12 @@ pub set-up-takes : (b : List ℕ) → length b ≡ 65536 → (text : Text) (u : 
 unfolding setup-call set-up store-width
 set-up-takes b w text u e = rw (eq-eqb (length b) 65536 w, e)
 
--- while a wrong one changes nothing
+-- a buffer of another length is refused by 18, whatever the text
+pub set-up-elsewhere : (b : List ℕ) → (length b ≡ 65536 → ⊥) → (text : Text) → setup-call b text ≡ record { tells = record { number = 18; values = [] }; store = b }
+unfolding setup-call store-width told
+set-up-elsewhere b w text = rw (ne-eqb (length b) 65536 w, unsound-number)
+
+-- while a wrong text changes nothing
 pub set-up-wrong : (b : List ℕ) → length b ≡ 65536 → (text : Text) (n : ℕ) → setup text ≡ wrong-line n →
     setup-call b text ≡ record { tells = told (WrongLine n); store = b }
 unfolding setup-call set-up store-width

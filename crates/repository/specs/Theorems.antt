@@ -2,24 +2,25 @@
 --
 -- Demand 3 and the calls come first, then soundness, then what follows for people, roles and entries.
 use mathlib.Core.Path.{_≡_, refl}
-use mathlib.Core.List.{List, []}
+use mathlib.Core.List.{List, [], _∷_}
 use mathlib.Core.Option.{none, some}
 use mathlib.Core.Bool.{true, false}
 use mathlib.Core.Logic.{_⊎_}
 use Prim.Native.Nat.{ℕ, _≤_, _<_}
 use lib.Dec.{eqb, ltb}
-use lib.ListN.{length}
+use lib.ListN.{length, getElem?}
 use Rattle.accounts.specs.declared.Uid.{Uid}
 use Rattle.accounts.specs.Access.{is-root}
 use Rattle.accounts.specs.Dominance.{Bounded-role}
 use Rattle.syntax.specs.Text.{Text, every}
 use Rattle.syntax.specs.Path.{Path, Entry-path, lies-below}
 use Rattle.commands.specs.Command.{Shell-command, Command, shell, some-path, some-walked-path, Line, line}
-use Rattle.setup.specs.Setup.{Setup, accepted, setup, is-setup}
+use Rattle.setup.specs.Setup.{Setup, accepted, wrong-line, setup, is-setup}
 use Rattle.setup.specs.SetupLaws.{accepted-is-setup}
 use Rattle.tree.specs.declared.Kind.{Kind}
 use Rattle.tree.specs.declared.Cause.{Cause}
 use Rattle.tree.specs.declared.Cause.the-variants.{Access}
+use Rattle.tree.specs.CausesLaws.{wrong-setup-is}
 use Rattle.tree.specs.Result.{refused, done}
 use Rattle.tree.specs.Agree.{Ensures}
 use Rattle.tree.specs.Forest.{Place, place-at}
@@ -38,6 +39,7 @@ use Rattle.repository.specs.CallsLaws
 use Rattle.repository.specs.Encoding.{State, encode, well-formed, decode}
 use Rattle.repository.specs.SoundStore.{Sound}
 use Rattle.repository.specs.SoundStoreLaws
+use Rattle.repository.specs.Listing.{listing}
 use Rattle.repository.specs.Transcript.{transcript}
 use Rattle.repository.specs.Bytes.{told, setup-call, run-result, run-call, listing-result, listing-call}
 use Rattle.repository.specs.BytesLaws
@@ -77,6 +79,16 @@ pub setup-is-done : (b : List ℕ) → length b ≡ 65536 → (text : Text) (u :
     setup-call b text ≡ record { tells = told Done; store = encode (record { setup = u; store = initial-store u }) }
 setup-is-done = CallListsLaws.set-up-takes
 
+-- Any other setup leaves the store's bytes: 18 on a buffer of another length, whatever the text,
+pub setup-elsewhere-is-18 : (b : List ℕ) → (length b ≡ 65536 → ⊥) → (text : Text) → setup-call b text ≡ record { tells = record { number = 18; values = [] }; store = b }
+setup-elsewhere-is-18 = CallListsLaws.set-up-elsewhere
+
+-- then 17 with the first wrong line.
+pub wrong-setup-is-17 : (b : List ℕ) → length b ≡ 65536 → (text : Text) (n : ℕ) → setup text ≡ wrong-line n →
+    setup-call b text ≡ record { tells = record { number = 17; values = n ∷ [] }; store = b }
+unfolding told
+wrong-setup-is-17 b w text n e = rw (CallListsLaws.set-up-wrong b w text n e, wrong-setup-is)
+
 -- A line without a listed form is not root's, one with a listed form is by its caller.
 pub root-has-a-form : (call : Call) → line (call .line) ≡ none → root's call ≡ false
 root-has-a-form = CallsLaws.no-form-not-root's
@@ -98,6 +110,19 @@ short-answer-is-20 = BytesLaws.short-answer-is-20
 pub unsound-is-18 : (b : List ℕ) → (Sound b → ⊥) → (line : Text) (answer : List ℕ) → 4096 ≤ length answer →
     run-call b line answer ≡ record { tells = record { number = 18; values = [] }; store = b; answer = answer }
 unsound-is-18 b h line answer l = BytesLaws.unsound-is-18 b (SoundStoreLaws.unsound-is-none b h) line answer l
+
+-- A listing likewise: 20, then 18, then 3 past the last line; no byte changes.
+pub listing-short-answer-is-20 : (b : List ℕ) (n : ℕ) (answer : List ℕ) → length answer < 4096 →
+    listing-call b n answer ≡ record { tells = record { number = 20; values = [] }; store = b; answer = answer }
+listing-short-answer-is-20 = BytesLaws.short-answer-lists-20
+
+pub listing-unsound-is-18 : (b : List ℕ) → (Sound b → ⊥) → (n : ℕ) (answer : List ℕ) → 4096 ≤ length answer →
+    listing-call b n answer ≡ record { tells = record { number = 18; values = [] }; store = b; answer = answer }
+listing-unsound-is-18 b h n answer l = BytesLaws.unsound-lists-18 b (SoundStoreLaws.unsound-is-none b h) n answer l
+
+pub listing-past-the-end-is-3 : (s : State) → well-formed s ≡ true → (n : ℕ) (answer : List ℕ) → 4096 ≤ length answer → getElem? (listing (s .store .tree)) n ≡ none →
+    listing-call (encode s) n answer ≡ record { tells = record { number = 3; values = [] }; store = encode s; answer = answer }
+listing-past-the-end-is-3 = BytesLaws.past-the-end-is-3
 
 -- Bytes are read as a state just if they are sound, as document 01's sentence has it.
 pub sound-is-read : (b : List ℕ) → Sound b → (s : State) × (decode b ≡ some s)

@@ -3,9 +3,9 @@ use mathlib.Core.Path.{_≡_}
 use mathlib.Core.List.{List, map}
 use mathlib.Core.Option.{Option, none, some}
 use mathlib.Core.Bool.{true, cond}
-use Prim.Native.Nat.{_≤_}
+use Prim.Native.Nat.{ℕ, _≤_}
 use lib.Dec.{eqb}
-use lib.ListN.{length, take}
+use lib.ListN.{length, getD, take}
 use Rattle.setup.specs.declared.Person.{Person as Slot}
 use Rattle.setup.specs.declared.Grant.{Grant as Held-grant}
 use Rattle.setup.specs.declared.Setup.{Setup as Held-setup}
@@ -29,6 +29,13 @@ setup-value t s = record {
   pairs = take (s .paired) (s .pairs);
   grants = map (grant-value t) (take (s .granted) (s .grants));
 }
+
+-- the grant of an index, as the code reads its array
+abbrev pub no-grant : Held-grant
+no-grant = record { uid = record { 0 = 0 }; role = record { 0 = 0 }; password = record { start = 0; end = 0 } }
+
+abbrev pub grant-at : Held-setup → ℕ → Held-grant
+grant-at s i = getD (s .grants) i no-grant
 
 unfoldable pub reading-value : Text → Held-reading → Reading
 reading-value t d = record { kind = d .kind; so-far = setup-value t (d .setup) }

@@ -31,7 +31,7 @@ use Rattle.syntax.specs.FormLaws.{both}
 use Rattle.setup.specs.Setup.{Person, most-pairs, most-grants, person, p-line, g-line, r-line, l-line, Reading, with-person, with-pair, with-grant, joining, accept}
 use Rattle.syntax.specs.Parts.{part, span-text, Inside, span-inside}
 use Rattle.syntax.specs.PartsLaws.{inside-true, true-inside}
-use Rattle.setup.specs.Reader.{slot-value, grant-value, setup-value, reading-value, Held, reading-told}
+use Rattle.setup.specs.Reader.{slot-value, grant-value, setup-value, reading-value, no-grant, grant-at, Held, reading-told}
 
 -- what a function that reads a line answers: the reading after it or none, and a setup that is held
 abbrev pub Told : Text → Held-reading → Option Reading → Type 0
@@ -294,14 +294,7 @@ held-longer p q s h =
       passwords = every-implies (λ g. span-inside p (g .password)) (λ g. span-inside (p ++ q) (g .password)) (λ g. inside-longer p q (g .password)) (take (s .granted) (s .grants)) (h .passwords);
     }
 
--- the grant at a place
-abbrev pub no-grant : Held-grant
-no-grant = record { uid = record { 0 = 0 }; role = record { 0 = 0 }; password = record { start = 0; end = 0 } }
-
-abbrev pub grant-at : Held-setup → ℕ → Held-grant
-grant-at s i = getD (s .grants) i no-grant
-
--- the password of each lies inside the text
+-- the password of each grant lies inside the text
 pub password-inside : (t : Text) (s : Held-setup) → Held t s → (i : ℕ) → i < s .granted → Inside (grant-at s i .password) t
 password-inside t s h i l =
     let empty : span-inside t (no-grant .password) ≡ true = inside-true (record { ordered = omega arith; ends = omega arith }) in

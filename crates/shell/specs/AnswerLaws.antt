@@ -137,7 +137,3 @@ module _ (c : Caller) (m : ℕ) (t : Place Node) where
 -- the text of a place of a well-formed tree fits
 pub place-text-fits : (t : Place Node) → is-tree t ≡ true → (p : Path) (d : Place Node) → place-at t p ≡ some d → Fits (some (text-of d))
 place-text-fits t h p d e x i = rw (answered i) (read-fits t p d h e)
-
--- so a shell command on a well-formed tree is refused by a cause of its own, or its text fits
-pub run-shell-gives : (c : Caller) (m : ℕ) (t : Place Node) → is-tree t ≡ true → (command : Shell-command) → Gives Own (λ o. Fits (o .text)) (run-shell c m t command)
-run-shell-gives c m t h command = run-shell-answers c m t Fits none-fits (place-text-fits t h) command

@@ -1,4 +1,4 @@
--- Document 01's shell commands, each a list of checks in its order and with its numbers, then the tree after it.
+-- Document 01's shell commands, each a list of checks in its order and for its causes, then the tree after it.
 --
 -- The tree is that in which persons walk. Nodes that exist elsewhere count towards the 256 too: none in the store, which is one
 -- tree, and the entries in the abstract machine.
