@@ -1,6 +1,7 @@
 pub mod Cases
 pub mod Groups
 pub mod Access
+pub mod Caller
 pub mod Dominance
 pub mod Service
 pub mod Closure

@@ -24,6 +24,12 @@ pub struct Account {
     pub groups: Groups,
 }
 
+// Who calls: an account with its primary group, which is among the account's groups.
+pub struct Caller {
+    pub account: Account,
+    pub primary: Gid,
+}
+
 // `r,senior,junior` of the setup: the senior role dominates the junior.
 pub struct Pair {
     pub senior: Role,

@@ -14,7 +14,7 @@ use Rattle.syntax.specs.PathLaws.{name-fits, entry-text-fits}
 use Rattle.syntax.specs.FieldLaws.{content-fits}
 use Rattle.tree.specs.Forest.{Forest, nil, node, Place, size, larger, height}
 use Rattle.tree.specs.ForestLaws.{height-node}
-use Rattle.tree.specs.Node.{Tag, Node}
+use Rattle.tree.specs.Node.{Tag, Node, new-node}
 use Rattle.tree.specs.Walk.{by-modes}
 use Rattle.tree.specs.WellFormed.{is-forest}
 use Rattle.tree.specs.WellFormedLaws.{Forest-parts, place-parts, forest-parts, forest-of-parts, forest-nil, leads-nil}
@@ -23,7 +23,6 @@ use Rattle.tree.specs.RowContext.{place-rows}
 use Rattle.tree.specs.Encoding.{row-width, row-bytes}
 use Rattle.tree.specs.RowBytesLaws.{node-parts}
 use Rattle.tree.specs.RowAt.{row-count, row-at, all-rows, tag-text-at, end-of-subtree}
-use Rattle.shell.specs.Caller.{new-node}
 use Rattle.edits.specs.Changes.{row-start}
 use Rattle.copying.specs.declared.Copier.{Copier}
 use Rattle.copying.specs.Copying.{copy-mode, copied, copy}

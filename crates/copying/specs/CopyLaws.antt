@@ -3,8 +3,10 @@ use mathlib.Core.Path.{_≡_, refl, sym, _∙_, ap}
 use mathlib.Core.Bool.{Bool, true, false, _||_, not}
 use Prim.Native.Nat.{_+_, _≤_}
 use native.Mathlib.Omega.{arith}
+use Rattle.accounts.specs.declared.Caller.{Caller}
 use Rattle.accounts.specs.Cases.{case}
 use Rattle.accounts.specs.declared.Account.{Account}
+use Rattle.accounts.specs.Caller.{is-caller}
 use Rattle.syntax.specs.Text.{Text, precedes}
 use Rattle.syntax.specs.Number.{set-gid, is-mode}
 use Rattle.syntax.specs.Path.{Name, Path, _▹_, Entry-path, parent, depth, in-rep, entry-location, is-path, is-entry-path}
@@ -13,15 +15,12 @@ use Rattle.tree.specs.declared.Kind.{Kind}
 use Rattle.tree.specs.declared.Kind.the-variants.{File, Directory}
 use Rattle.tree.specs.Forest.{Forest, nil, node, Place, is-empty, height}
 use Rattle.tree.specs.ForestLaws.{empty-is-nil, height-node}
-use Rattle.tree.specs.Node.{is-directory, Tag, Node, set-tag}
+use Rattle.tree.specs.Node.{is-directory, Tag, Node, set-tag, new-node}
 use Rattle.tree.specs.Walk.{by-modes}
 use Rattle.tree.specs.WellFormed.{is-node, leads, is-forest, is-place}
 use Rattle.tree.specs.JudgeLaws.{kind-by-modes}
-use Rattle.tree.specs.NodeLaws.{node-ranges, node-of-tag, node-of-any-content, kind-of-set-tag, kind-of-set-content}
+use Rattle.tree.specs.NodeLaws.{node-ranges, node-of-tag, node-of-any-content, kind-of-set-tag, kind-of-set-content, new-node-fits}
 use Rattle.tree.specs.WellFormedLaws.{place-parts, place-of-parts, forest-parts, forest-of-parts, leads-node, leads-before}
-use Rattle.shell.specs.declared.Caller.{Caller}
-use Rattle.shell.specs.Caller.{new-node}
-use Rattle.shell.specs.Keeping.{is-caller, new-node-fits}
 use Rattle.copying.specs.Copying.{below-rep, nodes-by, copy-mode, copy-node, copied, copy-children, copy}
 
 -- a copy's mode is one, and without set-gid

@@ -8,12 +8,13 @@ use native.Mathlib.Omega.{arith}
 use native.Mathlib.Nat.{add-zero}
 use lib.ListN.{length, getD, drop}
 use lib.Seq.{drop-at, drop-drop, getD-drop}
+use Rattle.accounts.specs.declared.Caller.{Caller}
 use Rattle.accounts.specs.Cases.{case}
 use Rattle.accounts.specs.declared.Gid.{Gid}
 use Rattle.syntax.specs.Number.{set-gid}
 use Rattle.syntax.specs.Path.{Name, Path, _▹_, Entry-path, depth}
 use Rattle.tree.specs.Forest.{Forest, nil, node, Place, size}
-use Rattle.tree.specs.Node.{Node, set-tag, set-content}
+use Rattle.tree.specs.Node.{Node, set-tag, set-content, new-node}
 use Rattle.tree.specs.Walk.{by-modes}
 use Rattle.tree.specs.Rows.{Row, flatten}
 use Rattle.tree.specs.RowLaws.{length-flatten}
@@ -21,8 +22,6 @@ use Rattle.tree.specs.RowContext.{ends-flatten, place-rows, ends}
 use Rattle.tree.specs.RowScan.{below-span}
 use Rattle.tree.specs.RowAt.{row-count, row-at, all-rows, first-depth, depth-of, end-of-subtree}
 use Rattle.tree.specs.RowAtLaws.{row-in-rows}
-use Rattle.shell.specs.declared.Caller.{Caller}
-use Rattle.shell.specs.Caller.{new-node}
 use Rattle.copying.specs.declared.Copier.{Copier}
 use Rattle.copying.specs.Copying.{below-rep, copy-mode, copy-node, copied, copy-children, copy}
 use Rattle.copying.specs.CopyLaws.{copy-mode-fits}

@@ -1,16 +1,15 @@
 -- The copies that `co` makes: of a node and of all below it that may be read, as nodes of the person's.
 use mathlib.Core.Bool.{Bool, cond}
 use Prim.Native.Nat.{ℕ}
+use Rattle.accounts.specs.declared.Caller.{Caller}
 use Rattle.syntax.specs.Text.{Text}
 use Rattle.syntax.specs.Number.{octal}
 use Rattle.syntax.specs.Path.{Path, _▹_, Entry-path}
 use Rattle.tree.specs.declared.Kind.{Kind}
 use Rattle.tree.specs.declared.Kind.the-variants.{File, Directory}
 use Rattle.tree.specs.Forest.{Forest, nil, node, Place}
-use Rattle.tree.specs.Node.{Tag, Node, set-tag, set-content}
+use Rattle.tree.specs.Node.{Tag, Node, set-tag, set-content, new-node}
 use Rattle.tree.specs.Walk.{Judge}
-use Rattle.shell.specs.declared.Caller.{Caller}
-use Rattle.shell.specs.Caller.{new-node}
 
 -- the path of an entry below `/rep`
 unfoldable pub below-rep : Entry-path → Path

@@ -2,8 +2,8 @@
 mod copies;
 
 use accounts::Account;
+use accounts::Caller;
 pub use copies::copy_entry;
-use shell::Caller;
 
 // Who copies: the account that reads, and the caller whose the copies are.
 pub struct Copier {

@@ -5,6 +5,7 @@ use mathlib.Core.Option.{Option, none, some}
 use mathlib.Core.Bool.{true, false}
 use lib.Dec.{leb}
 use lib.ListN.{getD}
+use Rattle.accounts.specs.declared.Caller.{Caller}
 use Rattle.accounts.specs.declared.Uid.{Uid}
 use Rattle.accounts.specs.declared.Right.{Right}
 use Rattle.accounts.specs.declared.Right.the-variants.{R, W}
@@ -17,7 +18,7 @@ use Rattle.commands.specs.Command.{line, Repository-command, login, logout, add
 use Rattle.setup.specs.Setup.{Setup, person}
 use Rattle.tree.specs.declared.Cause.{Cause}
 use Rattle.tree.specs.declared.Cause.the-variants.{NoForm, UnknownCaller, Access, WrongKind, NotEmpty, Reserved, Full, NoSession, NoGrant, Stale, Untagged, RevisionsSpent, Unsound, TooDeep, ShortAnswer}
-use Rattle.tree.specs.Result.{Result, refused, done}
+use Rattle.tree.specs.Result.{Result, refused, done, Outcome}
 use Rattle.tree.specs.ResultLaws.{done-then, refused-then, require-true, require-false}
 use Rattle.tree.specs.Forest.{Place, place-at}
 use Rattle.tree.specs.Node.{Node}
@@ -25,8 +26,6 @@ use Rattle.tree.specs.Walk.{by-modes, walk, parent-walk}
 use Rattle.tree.specs.WellFormed.{is-tree}
 use Rattle.tree.specs.Gives.{Gives, gives, Refuses, refused-by, done-with, only-refuses, present-refuses, then-step, then-check, then-guard}
 use Rattle.tree.specs.GivesLaws.{unused-refuses, walk-refuses, parent-walk-refuses}
-use Rattle.shell.specs.declared.Caller.{Caller}
-use Rattle.shell.specs.Caller.{Outcome}
 use Rattle.shell.specs.Steps.{text-of}
 use Rattle.shell.specs.Answers.{Own, Fits}
 use Rattle.shell.specs.AnswerLaws.{none-fits, place-text-fits, room-refuses, run-shell-answers}

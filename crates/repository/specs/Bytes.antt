@@ -9,8 +9,7 @@ use Rattle.syntax.specs.Text.{Text}
 use Rattle.setup.specs.Setup.{Setup, Setup-answer, accepted, wrong-line, setup}
 use Rattle.tree.specs.declared.Cause.the-variants.{Missing, Unsound, ShortAnswer}
 use Rattle.tree.specs.Causes.{number, wrong-setup}
-use Rattle.tree.specs.Result.{Result, done, _>>=_, _>>_, require, present}
-use Rattle.shell.specs.Caller.{Outcome}
+use Rattle.tree.specs.Result.{Result, done, _>>=_, _>>_, require, present, Outcome}
 use Rattle.repository.specs.declared.Answer.{Answer}
 use Rattle.repository.specs.declared.Answer.the-variants.{Done, Refused, WrongLine}
 use Rattle.repository.specs.declared.Answer.the-variants

@@ -12,9 +12,8 @@ use Rattle.syntax.specs.Text.{Text}
 use Rattle.tree.specs.declared.Cause.{Cause}
 use Rattle.tree.specs.declared.Cause.the-variants.{Missing, Unsound, ShortAnswer}
 use Rattle.tree.specs.CausesLaws.{missing-number, unsound-number, short-answer-number}
-use Rattle.tree.specs.Result.{Result, refused, done, _>>=_, _>>_, require, present}
+use Rattle.tree.specs.Result.{Result, refused, done, _>>=_, _>>_, require, present, Outcome}
 use Rattle.tree.specs.ResultLaws.{present-of, present-none, done-bind, refused-bind, done-then, refused-then, require-true, require-false, holds-bind, holds-then}
-use Rattle.shell.specs.Caller.{Outcome}
 use Rattle.repository.specs.declared.Answer.the-variants.{Refused}
 use Rattle.repository.specs.Store.{store}
 use Rattle.repository.specs.Calls.{least-room, reply, after, perform}

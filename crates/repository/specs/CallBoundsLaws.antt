@@ -1,7 +1,7 @@
 -- Every text fits: how long the texts of done calls are, and that every call keeps the lengths of both buffers, whatever they hold.
 use mathlib.Core.Path.{_≡_, refl, sym, _∙_, ap}
 use mathlib.Core.List.{List, [], _∷_, _++_}
-use mathlib.Core.Option.{Option, none, some}
+use mathlib.Core.Option.{none, some}
 use mathlib.Core.Bool.{Bool, true}
 use Prim.Native.Nat.{ℕ, zero, suc, _≤_}
 use native.Mathlib.Omega.{arith}
@@ -12,10 +12,9 @@ use Rattle.accounts.specs.Cases.{and-both, contra}
 use Rattle.syntax.specs.Text.{Text, every}
 use Rattle.syntax.specs.FormLaws.{answered, no-answer}
 use Rattle.tree.specs.declared.Cause.the-variants.{Missing, Unsound, ShortAnswer}
-use Rattle.tree.specs.Result.{Result, refused, done, require, present}
+use Rattle.tree.specs.Result.{Result, refused, done, present, Outcome}
 use Rattle.tree.specs.ResultLaws.{present-some}
-use Rattle.tree.specs.Agree.{Ensures, no-matter, ensured, ensured-done, after-do, after-check}
-use Rattle.shell.specs.Caller.{Outcome}
+use Rattle.tree.specs.Agree.{Ensures, ensured, ensured-done, after-do, after-check}
 use Rattle.shell.specs.Steps.{longest-text}
 use Rattle.repository.specs.Store.{store}
 use Rattle.repository.specs.Calls.{least-room, Reply, ok, refusal, reply, after, perform}

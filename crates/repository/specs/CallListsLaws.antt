@@ -15,23 +15,21 @@ use Rattle.setup.specs.SetupLaws.{accepted-is-setup}
 use Rattle.tree.specs.declared.Cause.the-variants.{Unsound, ShortAnswer}
 use Rattle.tree.specs.Causes.{number, wrong-setup}
 use Rattle.tree.specs.CausesLaws.{wrong-setup-is, unsound-number, number-not-0, only-unsound-is-18}
-use Rattle.tree.specs.Result.{Result, refused, done, _>>=_, _>>_, require}
+use Rattle.tree.specs.Result.{Result, refused, done, _>>=_, _>>_, require, Outcome}
 use Rattle.tree.specs.ResultLaws.{done-bind, refused-bind, then-bind}
-use Rattle.shell.specs.Caller.{Outcome}
 use Rattle.repository.specs.declared.Answer.the-variants.{Done, Refused, WrongLine}
 use Rattle.repository.specs.Machine.{Machine}
 use Rattle.repository.specs.Store.{Store, store, initial-store}
-use Rattle.repository.specs.Abstract.{Abstract, abstract, initial-abstract}
-use Rattle.repository.specs.Calls.{least-room, Call, Ran, ok, reply, after, perform, step, runs, root's}
+use Rattle.repository.specs.Calls.{least-room, ok, reply, after, perform, step, runs, root's}
 use Rattle.repository.specs.AnswerLaws.{never-18}
 use Rattle.repository.specs.Encoding.{State, store-width, encode, well-formed, decode}
 use Rattle.repository.specs.EncodingLaws.{decode-encode}
-use Rattle.repository.specs.Bytes.{Told, told, answer-of, written, Set-up, set-up, setup-call, Called, called, encoded, run-result, run-call}
+use Rattle.repository.specs.Bytes.{Told, told, answer-of, written, set-up, setup-call, called, encoded, run-result, run-call}
 use Rattle.repository.specs.BytesLaws.{run-on-encoding}
-use Rattle.repository.specs.Observed.{Compared, without-root}
+use Rattle.repository.specs.Observed.{without-root}
 use Rattle.repository.specs.Keeping.{initial-well-formed, step-keeps, runs-keep}
 use Rattle.repository.specs.Lists.{compared-lists}
-use Rattle.repository.specs.CallLists.{Request, Response, Responded, run-calls, call-for, rootless, response, responses-to, all-sound, Calls-compared}
+use Rattle.repository.specs.CallLists.{Request, run-calls, call-for, rootless, response, responses-to, all-sound, Calls-compared}
 
 -- ---- one call
 

@@ -10,12 +10,14 @@ use native.Mathlib.Nat.{div-eq-of-lt}
 use borrow.Author.Tests.{eqb-true, ne-eqb, leb-true, ltb-true, ltb-false, lt-ltb}
 use lib.Dec.{eqb, leb, ltb}
 use lib.ListN.{length, getD, List·getD-eq-default}
+use Rattle.accounts.specs.declared.Caller.{Caller}
 use Rattle.accounts.specs.Cases.{case, and-both, contra}
 use Rattle.accounts.specs.declared.Uid.{Uid}
 use Rattle.accounts.specs.declared.Right.{Right}
 use Rattle.accounts.specs.declared.Right.the-variants.{W}
 use Rattle.accounts.specs.Groups.{same-gid, member, with-group, member-with}
 use Rattle.accounts.specs.Access.{is-root, same-uid, grants, may-other, grants-none}
+use Rattle.accounts.specs.Caller.{root-caller}
 use Rattle.accounts.specs.Service.{all-services}
 use Rattle.syntax.specs.Number.{octal}
 use Rattle.syntax.specs.Text.{every}
@@ -23,12 +25,10 @@ use Rattle.syntax.specs.TextLaws.{every-getD}
 use Rattle.syntax.specs.Form.{is-some}
 use Rattle.setup.specs.Setup.{Person, Setup, accounts, person, is-person, is-slot, is-setup}
 use Rattle.tree.specs.declared.Cause.the-variants.{UnknownCaller}
-use Rattle.tree.specs.Node.{allows}
+use Rattle.tree.specs.Node.{allows, owns}
 use Rattle.tree.specs.Result.{done, present}
 use Rattle.tree.specs.ResultLaws.{present-some, bind-done}
 use Rattle.tree.specs.JudgeLaws.{allows-is}
-use Rattle.shell.specs.declared.Caller.{Caller}
-use Rattle.shell.specs.Caller.{root-caller, owns}
 use Rattle.repository.specs.Machine.{person-caller, known-caller, caller}
 use Rattle.repository.specs.Initial.{directory-of, top-node, rep-node}
 use Rattle.repository.specs.Judges.{top-allows}

@@ -10,8 +10,7 @@ use Rattle.commands.specs.Command.{Line, line}
 use Rattle.setup.specs.Setup.{Setup}
 use Rattle.tree.specs.declared.Cause.{Cause}
 use Rattle.tree.specs.declared.Cause.the-variants.{NoForm, ShortAnswer}
-use Rattle.tree.specs.Result.{Result, refused, done, _>>=_, _>>_, require, present}
-use Rattle.shell.specs.Caller.{Outcome}
+use Rattle.tree.specs.Result.{Result, refused, done, _>>=_, _>>_, require, present, Outcome}
 use Rattle.repository.specs.Machine.{Machine, caller, run}
 
 -- a command line and the length of the answer buffer lent for it

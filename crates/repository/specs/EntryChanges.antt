@@ -4,6 +4,7 @@ use mathlib.Core.Option.{Option, none, some, Option·map}
 use mathlib.Core.Bool.{true}
 use Prim.Native.Nat.{ℕ, suc}
 use lib.ListN.{getD}
+use Rattle.accounts.specs.declared.Caller.{Caller}
 use Rattle.accounts.specs.Dominance.{Bounded-role}
 use Rattle.syntax.specs.Path.{Path, Entry-path, entry-location}
 use Rattle.commands.specs.Command.{add, commit, del, Command, repository}
@@ -12,7 +13,6 @@ use Rattle.tree.specs.declared.Kind.{Kind}
 use Rattle.tree.specs.declared.Kind.the-variants.{File}
 use Rattle.tree.specs.Forest.{Place, place-at, alter}
 use Rattle.tree.specs.Node.{Node, set-tag}
-use Rattle.shell.specs.declared.Caller.{Caller}
 use Rattle.copying.specs.Copying.{below-rep}
 use Rattle.repository.specs.Machine.{Sessions}
 use Rattle.repository.specs.Store.{Store, entry-node}

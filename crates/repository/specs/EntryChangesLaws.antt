@@ -7,6 +7,7 @@ use Prim.Native.Nat.{ℕ, suc}
 use native.Mathlib.Omega.{arith}
 use borrow.Author.Tests.{not-true, eqb-true, eq-eqb}
 use lib.Dec.{eqb}
+use Rattle.accounts.specs.declared.Caller.{Caller}
 use Rattle.accounts.specs.declared.Uid.{Uid}
 use Rattle.accounts.specs.declared.Right.the-variants.{R, W}
 use Rattle.accounts.specs.Access.{is-root, same-uid}
@@ -22,7 +23,7 @@ use Rattle.setup.specs.Setup.{Setup}
 use Rattle.tree.specs.declared.Kind.{Kind}
 use Rattle.tree.specs.declared.Kind.the-variants.{File, Directory}
 use Rattle.tree.specs.declared.Cause.the-variants.{Access, WrongKind, NotEmpty, Reserved, Full, NoGrant, Stale, Untagged, RevisionsSpent, TooDeep}
-use Rattle.tree.specs.Result.{done, present}
+use Rattle.tree.specs.Result.{done, present, Outcome}
 use Rattle.tree.specs.ResultLaws.{present-some}
 use Rattle.tree.specs.Forest.{Place}
 use Rattle.tree.specs.Node.{is-directory, Node, set-content}
@@ -33,8 +34,6 @@ use Rattle.tree.specs.WellFormed.{is-tree}
 use Rattle.tree.specs.JudgeLaws.{directory-is-one, set-revision-is, set-content-is}
 use Rattle.tree.specs.PathLaws.{drop-gone}
 use Rattle.tree.specs.ChangeAtLaws.{Holds, holds-altered, holds-alter, holds-put, holds-drop}
-use Rattle.shell.specs.declared.Caller.{Caller}
-use Rattle.shell.specs.Caller.{Outcome}
 use Rattle.shell.specs.Steps.{room, run-shell}
 use Rattle.copying.specs.Copying.{below-rep}
 use Rattle.repository.specs.Machine.{Working, tagged, caller, run-login, run-logout, session, run-add, run-co, working-file, original, run-commit, run-up, run-del, run-repository, run}

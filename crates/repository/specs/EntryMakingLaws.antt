@@ -3,6 +3,7 @@ use mathlib.Core.Path.{_≡_, refl, sym, _∙_, ap}
 use mathlib.Core.Option.{none, some, Option·map}
 use mathlib.Core.Bool.{true, false}
 use mathlib.Core.Logic.{_⊎_, inl, inr}
+use Rattle.accounts.specs.declared.Caller.{Caller}
 use Rattle.accounts.specs.declared.Uid.{Uid}
 use Rattle.accounts.specs.declared.Right.the-variants.{R, W}
 use Rattle.accounts.specs.Access.{is-root}
@@ -13,9 +14,9 @@ use Rattle.syntax.specs.WithinLaws.{same-path-sound}
 use Rattle.commands.specs.Command.{login, logout, add, co, commit, up, del, Command, shell, repository}
 use Rattle.setup.specs.Setup.{Setup}
 use Rattle.tree.specs.declared.Cause.the-variants.{Access, NotEmpty, Reserved, Full, NoGrant, Stale, RevisionsSpent, TooDeep}
-use Rattle.tree.specs.Result.{done}
+use Rattle.tree.specs.Result.{done, Outcome}
 use Rattle.tree.specs.Forest.{Place, update, place-at, put, leaf}
-use Rattle.tree.specs.Node.{Node}
+use Rattle.tree.specs.Node.{Node, owns}
 use Rattle.tree.specs.Walk.{by-modes, walk, parent-walk, unused}
 use Rattle.tree.specs.WellFormed.{is-tree}
 use Rattle.tree.specs.Agree.{Ensures, ensured, ensured-done, after-do, after-check, after-guard}
@@ -24,8 +25,6 @@ use Rattle.tree.specs.UpdateLaws.{walked-at}
 use Rattle.tree.specs.PlaceLaws.{leaf-here}
 use Rattle.tree.specs.PathLaws.{put-stands, alter-none}
 use Rattle.tree.specs.ChangeAtLaws.{put-leaf-none, drop-still-none}
-use Rattle.shell.specs.declared.Caller.{Caller}
-use Rattle.shell.specs.Caller.{owns, Outcome}
 use Rattle.shell.specs.Steps.{room, run-shell}
 use Rattle.copying.specs.Copying.{below-rep}
 use Rattle.repository.specs.Machine.{tagged, caller, run-login, run-logout, session, run-add, run-co, working-file, original, run-commit, run-up, run-del, run-repository, run}

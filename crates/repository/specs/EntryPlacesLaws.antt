@@ -4,6 +4,7 @@ use mathlib.Core.Option.{Option, none, some, Option·map, map-eq-some-iff}
 use mathlib.Core.Bool.{true, false, not}
 use Prim.Native.Nat.{ℕ}
 use lib.ListN.{getD}
+use Rattle.accounts.specs.declared.Caller.{Caller}
 use Rattle.accounts.specs.declared.Uid.{Uid}
 use Rattle.accounts.specs.Access.{is-root}
 use Rattle.accounts.specs.Dominance.{Bounded-role, dominates}
@@ -15,12 +16,12 @@ use Rattle.setup.specs.Setup.{Setup}
 use Rattle.setup.specs.SetupLaws.{accepted-is-setup}
 use Rattle.tree.specs.declared.Kind.{Kind}
 use Rattle.tree.specs.declared.Cause.the-variants.{NoSession}
-use Rattle.tree.specs.Result.{done}
+use Rattle.tree.specs.Result.{done, Outcome}
 use Rattle.tree.specs.ResultLaws.{present-some}
 use Rattle.tree.specs.Forest.{Place, update, place-at, alter, put, drop, leaf, map-place}
 use Rattle.tree.specs.ForestLaws.{leaf-map}
 use Rattle.tree.specs.RootedLaws.{rooted-put, rooted-drop, rooted-alter}
-use Rattle.tree.specs.Node.{is-directory, Node, set-tag}
+use Rattle.tree.specs.Node.{is-directory, Node, set-tag, owns}
 use Rattle.tree.specs.Walk.{Judge, by-modes, walk, parent-walk, unused}
 use Rattle.tree.specs.Agree.{done-first}
 use Rattle.tree.specs.StepLaws.{was-unused, parent-walked}
@@ -30,8 +31,6 @@ use Rattle.tree.specs.WellFormed.{is-tree}
 use Rattle.tree.specs.PathLaws.{changed-at}
 use Rattle.tree.specs.Graft.{Outside}
 use Rattle.tree.specs.ChangeAtLaws.{Holds, place-map, place-inside, place-outside}
-use Rattle.shell.specs.declared.Caller.{Caller}
-use Rattle.shell.specs.Caller.{owns, Outcome}
 use Rattle.copying.specs.Copying.{below-rep}
 use Rattle.repository.specs.Machine.{tagged, caller, session, run}
 use Rattle.repository.specs.Store.{Store, store}

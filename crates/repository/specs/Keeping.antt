@@ -9,10 +9,12 @@ use native.Mathlib.Omega.{arith}
 use lib.Dec.{eqb, leb, ltb}
 use lib.ListN.{length, set, length-set}
 use borrow.Author.Tests.{not-true, eqb-false, eq-eqb, leb-true, le-leb, ltb-true, lt-ltb}
+use Rattle.accounts.specs.declared.Caller.{Caller}
 use Rattle.accounts.specs.declared.Uid.{Uid}
 use Rattle.accounts.specs.declared.Right.{Right}
 use Rattle.accounts.specs.declared.Right.the-variants.{R, W}
 use Rattle.accounts.specs.Cases.{and-both}
+use Rattle.accounts.specs.Caller.{is-caller}
 use Rattle.accounts.specs.Dominance.{Bounded-role}
 use Rattle.accounts.specs.Service.{service}
 use Rattle.syntax.specs.Text.{Text}
@@ -23,7 +25,7 @@ use Rattle.commands.specs.CommandLaws.{line-is-line}
 use Rattle.setup.specs.Setup.{Setup, accounts, is-setup}
 use Rattle.setup.specs.SetupLaws.{accepted-is-setup}
 use Rattle.tree.specs.declared.Cause.the-variants.{NoForm, Access, WrongKind, NotEmpty, Reserved, Full, NoGrant, Stale, Untagged, RevisionsSpent, TooDeep, ShortAnswer}
-use Rattle.tree.specs.Result.{Result, done}
+use Rattle.tree.specs.Result.{Result, done, Outcome}
 use Rattle.tree.specs.ResultLaws.{present-some}
 use Rattle.tree.specs.Forest.{Place, update, alter, leaf, size, height}
 use Rattle.tree.specs.Node.{is-directory, Tag, Node, set-tag, set-content}
@@ -37,11 +39,9 @@ use Rattle.tree.specs.UpdateLaws.{leaf-height}
 use Rattle.tree.specs.NodeLaws.{last-revision-is, node-ranges, node-of-revision, node-of-tag, node-of-content, kind-of-set-revision, kind-of-set-tag, kind-of-set-content}
 use Rattle.tree.specs.WellFormedLaws.{place-node, leaf-place, entered-directory, walked-place, walked-depth}
 use Rattle.tree.specs.ChangeLaws.{keep-alter, keep-alter-all, keep-put, keep-drop}
-use Rattle.shell.specs.declared.Caller.{Caller}
-use Rattle.shell.specs.Caller.{Outcome}
-use Rattle.shell.specs.Keeping.{is-caller, room-found, fit-most, room-keeps, run-shell-keeps}
 use Rattle.copying.specs.Copying.{below-rep, copy}
 use Rattle.copying.specs.CopyLaws.{copy-is-place}
+use Rattle.shell.specs.Keeping.{room-found, fit-most, room-keeps, run-shell-keeps}
 use Rattle.repository.specs.Machine.{source, Working, run-login, run-logout, run-add, run-co, working-file, original, run-commit, run-up, run-del, run-repository, caller, run}
 use Rattle.repository.specs.Initial.{no-sessions}
 use Rattle.repository.specs.Store.{Store, entry-node, next-node, store, initial-store}

@@ -2,6 +2,7 @@
 use mathlib.Core.Path.{_≡_, _∙_, ap}
 use mathlib.Core.Option.{some}
 use mathlib.Core.Bool.{Bool, true, false}
+use Rattle.accounts.specs.declared.Caller.{Caller}
 use Rattle.accounts.specs.declared.Uid.{Uid}
 use Rattle.accounts.specs.declared.Right.the-variants.{X}
 use Rattle.accounts.specs.Access.{is-root}
@@ -17,7 +18,6 @@ use Rattle.tree.specs.Agree.{never-done, after-facts}
 use Rattle.tree.specs.PlaceLaws.{leaf-here}
 use Rattle.tree.specs.UpdateLaws.{at-top, at-child}
 use Rattle.tree.specs.Graft.{graft, get-graft}
-use Rattle.shell.specs.declared.Caller.{Caller}
 use Rattle.shell.specs.ShutLaws.{never-run}
 use Rattle.repository.specs.Machine.{caller, run}
 use Rattle.repository.specs.Initial.{rep-node}

@@ -15,9 +15,9 @@ use Rattle.commands.specs.Command.{Line, line}
 use Rattle.setup.specs.Setup.{Person, Setup, accounts, person, is-setup, accepted, setup}
 use Rattle.setup.specs.SetupLaws.{accepted-is-setup}
 use Rattle.tree.specs.declared.Cause.the-variants.{NoForm, ShortAnswer}
-use Rattle.tree.specs.Result.{Result, present}
+use Rattle.tree.specs.Result.{Result, present, Outcome}
 use Rattle.tree.specs.ResultLaws.{present-some}
-use Rattle.tree.specs.Forest.{Forest, nil, Place, get, leaf, rooted}
+use Rattle.tree.specs.Forest.{Forest, nil, Place, get, leaf}
 use Rattle.tree.specs.Node.{Node}
 use Rattle.tree.specs.ForestLaws.{get-first, get-insert-other}
 use Rattle.tree.specs.MapLaws.{map-nil}
@@ -25,7 +25,6 @@ use Rattle.tree.specs.RootedLaws.{rooted-here, rooted-below}
 use Rattle.tree.specs.PlaceLaws.{leaf-here, leaf-below, update-root}
 use Rattle.tree.specs.Graft.{graft-own, get-graft, update-inside}
 use Rattle.tree.specs.Agree.{Agree, refusal, both, each, check}
-use Rattle.shell.specs.Caller.{Outcome}
 use Rattle.repository.specs.Machine.{caller}
 use Rattle.repository.specs.Initial.{rep-node, home-node, home-name, with-home, homes, initial-tree}
 use Rattle.repository.specs.Store.{Store, store, initial-store}

@@ -9,11 +9,13 @@ use mathlib.Core.Bool.{Bool, false, _&&_, _||_, not, cond}
 use Prim.Native.Nat.{ℕ, suc, _+_}
 use lib.Dec.{eqb, leb}
 use lib.ListN.{getD, set}
+use Rattle.accounts.specs.declared.Caller.{Caller}
 use Rattle.accounts.specs.declared.Uid.{Uid}
 use Rattle.accounts.specs.declared.Right.{Right}
 use Rattle.accounts.specs.declared.Right.the-variants.{R, W}
 use Rattle.accounts.specs.Groups.{with-group}
 use Rattle.accounts.specs.Access.{is-root, same-uid}
+use Rattle.accounts.specs.Caller.{root-caller}
 use Rattle.accounts.specs.Dominance.{same-role, Bounded-role, dominates}
 use Rattle.syntax.specs.Text.{Text, same-text}
 use Rattle.syntax.specs.Path.{Path, Entry-path, parent, last, depth, most-names}
@@ -21,13 +23,11 @@ use Rattle.commands.specs.Command.{Repository-command, login, logout, add, co, 
 use Rattle.setup.specs.Setup.{Person, Grant, Setup, person}
 use Rattle.tree.specs.declared.Kind.{Kind}
 use Rattle.tree.specs.declared.Cause.the-variants.{UnknownCaller, Access, WrongKind, NotEmpty, Reserved, Full, NoSession, NoGrant, Stale, Untagged, RevisionsSpent, TooDeep}
-use Rattle.tree.specs.Result.{Result, done, _>>=_, _>>_, require, present}
+use Rattle.tree.specs.Result.{Result, done, _>>=_, _>>_, require, present, Outcome}
 use Rattle.tree.specs.Forest.{Place, is-empty, update, alter, put, size, height}
-use Rattle.tree.specs.Node.{is-directory, Tag, Node, allows, set-tag, set-content}
+use Rattle.tree.specs.Node.{is-directory, Tag, Node, allows, set-tag, set-content, owns}
 use Rattle.tree.specs.Walk.{Judge, by-modes, unused, walk, parent-walk}
 use Rattle.tree.specs.WellFormed.{last-revision}
-use Rattle.shell.specs.declared.Caller.{Caller}
-use Rattle.shell.specs.Caller.{root-caller, owns, Outcome}
 use Rattle.shell.specs.Steps.{room, fit, run-shell}
 use Rattle.copying.specs.Copying.{below-rep, Source, copy}
 

@@ -7,6 +7,7 @@ use Prim.Native.Nat.{_+_}
 use native.Mathlib.Omega.{arith}
 use borrow.Author.Tests.{ltb-true, ne-eqb}
 use lib.Dec.{ltb}
+use Rattle.accounts.specs.declared.Caller.{Caller}
 use Rattle.accounts.specs.declared.Right.{Right}
 use Rattle.accounts.specs.declared.Right.the-variants.{R, W, X}
 use Rattle.accounts.specs.Access.{same-uid}
@@ -22,14 +23,12 @@ use Rattle.tree.specs.declared.Cause.the-variants.{Access, WrongKind, NotEmpty,
 use Rattle.tree.specs.Result.{refused, present}
 use Rattle.tree.specs.ResultLaws.{refused-bind}
 use Rattle.tree.specs.Forest.{Place, place-at}
-use Rattle.tree.specs.Node.{is-directory, Node}
+use Rattle.tree.specs.Node.{is-directory, Node, owns}
 use Rattle.tree.specs.Walk.{by-modes, unused, walk, parent-walk}
 use Rattle.tree.specs.WellFormed.{is-tree}
 use Rattle.tree.specs.Agree.{Ensures, ensured, ensured-so, never-done, after-do, after-facts, after-check, after-guard}
 use Rattle.tree.specs.JudgeLaws.{kind-by-modes, readable-by-modes, writable-by-modes}
 use Rattle.tree.specs.PathLaws.{alter-keeps}
-use Rattle.shell.specs.declared.Caller.{Caller}
-use Rattle.shell.specs.Caller.{owns}
 use Rattle.shell.specs.ShutLaws.{never-walked, never-room, never-run}
 use Rattle.shell.specs.Privacy.{Private, Unaltered, in-place, walks-first}
 use Rattle.shell.specs.PrivacyLaws.{private-shut, private-foreign, private-outside, put-private, drop-private, room-private, run-shell-through, run-shell-private}

@@ -1,46 +1,39 @@
 -- The program prints `transcript`, whatever the two buffers hold.
 use mathlib.Core.Path.{_≡_, refl, sym, _∙_, ap}
 use mathlib.Core.List.{List, [], _∷_, _++_, map}
-use mathlib.Core.Option.{Option, none, some}
-use mathlib.Core.Bool.{Bool, true, false, cond}
+use mathlib.Core.Option.{none, some}
+use mathlib.Core.Bool.{true, cond}
 use Prim.Native.Nat.{ℕ, zero, suc, _+_, _-_, _≤_, _<_}
 use native.Mathlib.Omega.{arith}
-use borrow.Author.Tests.{eq-eqb, le-leb, leb-true}
-use lib.Dec.{eqb, leb}
-use lib.ListN.{length, take, drop, getElem?, length-append, length-drop, drop-of-length-le}
+use borrow.Author.Tests.{eq-eqb}
+use lib.Dec.{eqb}
+use lib.ListN.{length, drop, getElem?, drop-of-length-le}
 use lib.Seq.{take-append-seam}
-use Rattle.accounts.specs.Cases.{and-both, contra}
-use Rattle.syntax.specs.Text.{Text, bytes, comma, newline, every, pieces, joined}
+use Rattle.syntax.specs.Text.{Text, bytes, comma, newline, pieces, joined}
 use Rattle.syntax.specs.FormLaws.{answered, no-answer}
 use Rattle.syntax.specs.Number.{digits-before, decimal-text}
 use Rattle.setup.specs.Setup.{Setup, Setup-answer, accepted, wrong-line, setup, is-setup}
 use Rattle.setup.specs.SetupLaws.{accepted-is-setup}
-use Rattle.tree.specs.declared.Cause.{Cause}
-use Rattle.tree.specs.declared.Cause.the-variants.{Missing, Unsound, ShortAnswer}
-use Rattle.tree.specs.Causes.{number, wrong-setup}
+use Rattle.tree.specs.declared.Cause.the-variants.{Missing}
+use Rattle.tree.specs.Causes.{number}
 use Rattle.tree.specs.CausesLaws.{wrong-setup-is, number-not-0}
-use Rattle.tree.specs.Result.{Result, refused, done, _>>=_, _>>_, require, present}
-use Rattle.tree.specs.ResultLaws.{then-done, require-true, done-then, present-of, present-none, done-bind, refused-bind}
+use Rattle.tree.specs.ResultLaws.{require-true, done-then, present-of, present-none, done-bind, refused-bind}
 use Rattle.tree.specs.UpdateLaws.{by-option}
-use Rattle.tree.specs.WellFormed.{is-tree}
 use Rattle.tree.specs.WellFormedLaws.{most-nodes-is}
-use Rattle.shell.specs.Caller.{Outcome}
-use Rattle.shell.specs.Steps.{longest-text}
-use Rattle.repository.specs.declared.Answer.the-variants.{Done, Refused, WrongLine}
 use Rattle.repository.specs.Store.{Store, store, initial-store}
-use Rattle.repository.specs.Calls.{Call, least-room, Reply, ok, refusal, reply, after, perform, step, runs}
+use Rattle.repository.specs.Calls.{least-room, Reply, ok, refusal, reply, after, step, runs}
 use Rattle.repository.specs.Encoding.{State, encode, well-formed}
 use Rattle.repository.specs.EncodingLaws.{parts as state-parts}
-use Rattle.repository.specs.Listing.{longest-listing-line, listing}
-use Rattle.repository.specs.ListingLaws.{listing-few, lines-fit}
-use Rattle.repository.specs.Bytes.{Told, told, answer-of, written, set-up, setup-call, Called, called, run-call, listing-result, listing-call}
+use Rattle.repository.specs.Listing.{listing}
+use Rattle.repository.specs.ListingLaws.{listing-few}
+use Rattle.repository.specs.Bytes.{told, answer-of, written, setup-call, called, run-call, listing-call}
 use Rattle.repository.specs.BytesLaws.{listing-on-encoding}
 use Rattle.repository.specs.Transcript.{parts, command-lines, reply-line, lines-text, call-of, session-text, output, transcript}
 use Rattle.repository.specs.Keeping.{initial-well-formed, step-keeps, runs-keep}
 use Rattle.repository.specs.CallBoundsLaws.{run-keeps-lengths, listing-keeps-lengths}
 use Rattle.repository.specs.CallLists.{Request, call-for}
 use Rattle.repository.specs.CallListsLaws.{run-on-state, set-up-takes, set-up-wrong}
-use Rattle.repository.specs.Program.{text-told, done-line, refused-line, call-line, Ran-lines, run-lines, list-lines, run-and-list, program}
+use Rattle.repository.specs.Program.{text-told, done-line, refused-line, call-line, run-lines, list-lines, run-and-list, program}
 
 -- ---- what is printed for a reply
 

@@ -5,6 +5,7 @@ use mathlib.Core.Option.{none, some}
 use mathlib.Core.Bool.{Bool, true, false, not}
 use Prim.Native.Nat.{ℕ, _+_}
 use native.Mathlib.Omega.{arith}
+use Rattle.accounts.specs.declared.Caller.{Caller}
 use Rattle.accounts.specs.declared.Uid.{Uid}
 use Rattle.accounts.specs.declared.Right.{Right}
 use Rattle.accounts.specs.declared.Right.the-variants.{R, W}
@@ -12,14 +13,14 @@ use Rattle.accounts.specs.Access.{is-root}
 use Rattle.accounts.specs.Dominance.{Bounded-role}
 use Rattle.accounts.specs.Service.{service}
 use Rattle.syntax.specs.Text.{Text}
-use Rattle.syntax.specs.Path.{Name, Path, _▹_, Entry-path, parent, rep, in-rep, entry-location}
+use Rattle.syntax.specs.Path.{Path, _▹_, Entry-path, parent, rep, in-rep, entry-location}
 use Rattle.commands.specs.Command.{Shell-command, Repository-command, login, logout, add, co, commit, up, del, Command, shell, repository}
 use Rattle.setup.specs.Setup.{Setup, is-setup}
 use Rattle.tree.specs.declared.Kind.{Kind}
 use Rattle.tree.specs.declared.Cause.the-variants.{Access, WrongKind, NotEmpty, Reserved, Full, NoGrant, Stale, Untagged, RevisionsSpent, TooDeep}
-use Rattle.tree.specs.Result.{done, present}
+use Rattle.tree.specs.Result.{done, present, Outcome}
 use Rattle.tree.specs.Forest.{Forest, nil, node, Place, get, insert, remove, at, update, update-forest, alter, put, drop, leaf, size, map-forest, map-place, rooted}
-use Rattle.tree.specs.Node.{is-directory, Node, allows}
+use Rattle.tree.specs.Node.{is-directory, Node, allows, owns}
 use Rattle.tree.specs.Walk.{by-modes, enter, walk, parent-walk}
 use Rattle.tree.specs.WellFormed.{nodes}
 use Rattle.tree.specs.Agree.{Agree, both, done-second, bind, each, check, guard}
@@ -30,8 +31,6 @@ use Rattle.tree.specs.RootedLaws.{rooted-here, rooted-size, rooted-put, rooted-
 use Rattle.tree.specs.PlaceLaws.{leaf-here, leaf-size}
 use Rattle.tree.specs.MapLaws.{map-nil, map-node, map-here, map-below, unused-map, walk-map, parent-walk-map}
 use Rattle.tree.specs.Graft.{graft, Outside, nodes-graft, update-inside, walk-inside, parent-walk-inside, Seen, seen-here}
-use Rattle.shell.specs.declared.Caller.{Caller}
-use Rattle.shell.specs.Caller.{owns, Outcome}
 use Rattle.shell.specs.Steps.{room, fit, run-shell}
 use Rattle.shell.specs.Hiding.{Kept-out, Beside, Alike, update-beside, walk-alike, owned-outside, file-outside, room-alike, fit-alike, run-shell-alike}
 use Rattle.copying.specs.Copying.{below-rep, copied, copy-children, copy}

@@ -9,6 +9,7 @@ use mathlib.Core.Logic.{_⊎_}
 use Prim.Native.Nat.{ℕ, _≤_, _<_}
 use lib.Dec.{eqb, ltb}
 use lib.ListN.{length, getElem?}
+use Rattle.accounts.specs.declared.Caller.{Caller}
 use Rattle.accounts.specs.declared.Uid.{Uid}
 use Rattle.accounts.specs.Access.{is-root}
 use Rattle.accounts.specs.Dominance.{Bounded-role}
@@ -21,13 +22,11 @@ use Rattle.tree.specs.declared.Kind.{Kind}
 use Rattle.tree.specs.declared.Cause.{Cause}
 use Rattle.tree.specs.declared.Cause.the-variants.{Access}
 use Rattle.tree.specs.CausesLaws.{wrong-setup-is}
-use Rattle.tree.specs.Result.{refused, done}
+use Rattle.tree.specs.Result.{refused, done, Outcome}
 use Rattle.tree.specs.Agree.{Ensures}
 use Rattle.tree.specs.Forest.{Place, place-at}
 use Rattle.tree.specs.Node.{Node}
 use Rattle.tree.specs.WellFormed.{is-tree}
-use Rattle.shell.specs.declared.Caller.{Caller}
-use Rattle.shell.specs.Caller.{Outcome}
 use Rattle.shell.specs.Privacy.{Private, Unaltered, walks-first}
 use Rattle.repository.specs.declared.Answer.the-variants.{Done, Refused}
 use Rattle.repository.specs.Machine.{caller, run}

@@ -3,6 +3,7 @@ use mathlib.Core.Path.{_≡_, refl}
 use mathlib.Core.Option.{Option, none, some}
 use mathlib.Core.Bool.{true}
 use Prim.Native.Nat.{ℕ}
+use Rattle.accounts.specs.declared.Caller.{Caller}
 use Rattle.accounts.specs.declared.Uid.{Uid}
 use Rattle.accounts.specs.declared.Gid.{Gid}
 use Rattle.syntax.specs.Text.{Text}
@@ -12,7 +13,7 @@ use Rattle.commands.specs.Command.{Shell-command, create, mkdir, read, write, r
 use Rattle.tree.specs.declared.Kind.{Kind}
 use Rattle.tree.specs.declared.Kind.the-variants.{File, Directory}
 use Rattle.tree.specs.declared.Cause.the-variants.{Access, Exists, WrongKind, NotEmpty, Reserved, Full, IntoItself, TooDeep}
-use Rattle.tree.specs.Result.{Result}
+use Rattle.tree.specs.Result.{Result, Outcome}
 use Rattle.tree.specs.Forest.{Place, place-at}
 use Rattle.tree.specs.Node.{Node}
 use Rattle.tree.specs.Walk.{by-modes, walk, parent-walk}
@@ -20,8 +21,6 @@ use Rattle.tree.specs.WellFormed.{is-tree}
 use Rattle.tree.specs.Gives.{Gives, gives, Refuses, only-refuses, then-step, then-check, then-guard}
 use Rattle.tree.specs.GivesLaws.{unused-refuses, walk-refuses, parent-walk-refuses}
 use Rattle.tree.specs.UpdateLaws.{walked-at}
-use Rattle.shell.specs.declared.Caller.{Caller}
-use Rattle.shell.specs.Caller.{Outcome}
 use Rattle.shell.specs.Steps.{text-of, room, run-create, run-read, run-write, run-rm, run-mv, run-chmod, run-chgrp, run-chown, run-shell}
 use Rattle.shell.specs.ReadLaws.{read-fits}
 use Rattle.shell.specs.Answers.{Own, Fits}

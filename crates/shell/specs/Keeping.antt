@@ -1,14 +1,16 @@
 -- No shell command makes a well-formed tree ill-formed, whoever calls, root too.
 use mathlib.Core.Path.{_≡_, refl, sym}
 use mathlib.Core.Option.{none}
-use mathlib.Core.Bool.{Bool, true, false, _&&_, _||_, not}
+use mathlib.Core.Bool.{true, false, _||_, not}
 use Prim.Native.Nat.{ℕ, suc, _+_, _/_, _≤_}
 use native.Mathlib.Omega.{arith}
 use lib.Dec.{ltb}
 use borrow.Author.Tests.{not-true, leb-true, ltb-true, ne-eqb}
+use Rattle.accounts.specs.declared.Caller.{Caller}
 use Rattle.accounts.specs.declared.Uid.{Uid}
 use Rattle.accounts.specs.declared.Gid.{Gid}
-use Rattle.accounts.specs.Cases.{case, and-both, contra, neither}
+use Rattle.accounts.specs.Cases.{and-both, contra, neither}
+use Rattle.accounts.specs.Caller.{is-caller}
 use Rattle.syntax.specs.Text.{Text}
 use Rattle.syntax.specs.Number.{set-gid, is-mode}
 use Rattle.syntax.specs.Path.{Path, root, _▹_, parent, last, depth, is-top, reserved, is-path, most-names}
@@ -18,9 +20,9 @@ use Rattle.commands.specs.Command.{Shell-command, create, mkdir, read, write, r
 use Rattle.tree.specs.declared.Kind.{Kind}
 use Rattle.tree.specs.declared.Kind.the-variants.{File, Directory}
 use Rattle.tree.specs.declared.Cause.the-variants.{Access, Exists, WrongKind, NotEmpty, Reserved, Full, IntoItself, TooDeep}
-use Rattle.tree.specs.Result.{Result, done}
+use Rattle.tree.specs.Result.{Result, done, Outcome}
 use Rattle.tree.specs.Forest.{Place, get, update, put, leaf, size, height}
-use Rattle.tree.specs.Node.{is-directory, Node, set-owner, set-group, set-mode, set-content}
+use Rattle.tree.specs.Node.{is-directory, Node, set-owner, set-group, set-mode, set-content, new-node}
 use Rattle.tree.specs.Walk.{by-modes, walk}
 use Rattle.tree.specs.WellFormed.{nodes, is-node, is-place, is-tree}
 use Rattle.tree.specs.Agree.{Ensures, ensured, ensured-done, after-do, after-check, after-guard}
@@ -28,26 +30,10 @@ use Rattle.tree.specs.JudgeLaws.{file-is-none, directory-is-one}
 use Rattle.tree.specs.StepLaws.{was-unused, parent-walked}
 use Rattle.tree.specs.PlaceLaws.{leaf-size}
 use Rattle.tree.specs.UpdateLaws.{leaf-height}
-use Rattle.tree.specs.NodeLaws.{node-ranges, plain-node, node-of-owner, node-of-group, node-of-mode, node-of-content, kind-of-set-owner, kind-of-set-group, kind-of-set-mode, kind-of-set-content}
+use Rattle.tree.specs.NodeLaws.{new-node-fits, node-of-owner, node-of-group, node-of-mode, node-of-content, kind-of-set-owner, kind-of-set-group, kind-of-set-mode, kind-of-set-content}
 use Rattle.tree.specs.WellFormedLaws.{most-nodes-is, place-node, leaf-place, entered-directory, walked-place}
 use Rattle.tree.specs.ChangeLaws.{keep-alter, keep-put, keep-drop, keep-move}
-use Rattle.shell.specs.declared.Caller.{Caller}
-use Rattle.shell.specs.Caller.{new-node, Outcome}
 use Rattle.shell.specs.Steps.{room, fit, run-create, run-read, run-write, run-rm, run-mv, run-chmod, run-chgrp, run-chown, run-shell}
-
--- a caller whose account and primary group are in range
-unfoldable pub is-caller : Caller → Bool
-is-caller c = ltb (c .account .uid .0) 24 && ltb (c .primary .0) 25
-
--- a node that a caller in range makes is in range
-pub new-node-fits : (c : Caller) (parent : Node) (kind : Kind) (mode : ℕ) → is-caller c ≡ true → is-node parent ≡ true → is-mode mode ≡ true
-    → (is-directory kind || not (set-gid mode)) ≡ true → is-node (new-node c parent kind mode) ≡ true
-unfolding new-node is-caller
-new-node-fits c parent kind mode o h a b =
-    let i = and-both (ltb (c .account .uid .0) 24) (ltb (c .primary .0) 25) o in
-    case (set-gid (parent .mode))
-    (λ t. rw t (plain-node kind (c .account .uid) (parent .group) mode (i .0) (node-ranges parent h .group) a b))
-    (λ t. rw t (plain-node kind (c .account .uid) (c .primary) mode (i .0) (i .1) a b))
 
 -- a mode below 01000 is one, without set-gid
 plain-mode-fits : (m : ℕ) → ltb m 512 ≡ true → (is-mode m ≡ true) × (set-gid m ≡ false)

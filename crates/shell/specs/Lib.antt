@@ -1,4 +1,3 @@
-pub mod Caller
 pub mod Steps
 pub mod ReadLaws
 pub mod Answers

@@ -6,6 +6,7 @@ use mathlib.Core.Bool.{Bool, true, false, _&&_, _||_, not, or-true}
 use mathlib.Core.Logic.{_⊎_, inl, inr, ⊎-elim}
 use Prim.Native.Nat.{ℕ}
 use borrow.Author.Tests.{not-true}
+use Rattle.accounts.specs.declared.Caller.{Caller}
 use Rattle.accounts.specs.declared.Uid.{Uid}
 use Rattle.accounts.specs.declared.Gid.{Gid}
 use Rattle.accounts.specs.declared.Right.{Right}
@@ -25,7 +26,7 @@ use Rattle.tree.specs.declared.Kind.the-variants.{File, Directory}
 use Rattle.tree.specs.declared.Cause.the-variants.{Access, Exists, WrongKind, NotEmpty, Reserved, Full, IntoItself, TooDeep}
 use Rattle.tree.specs.Result.{Result, refused, done, _>>=_}
 use Rattle.tree.specs.Forest.{Place, is-empty, update, place-at, put, drop}
-use Rattle.tree.specs.Node.{same-kind, Node, allows, set-mode, set-group, set-content}
+use Rattle.tree.specs.Node.{same-kind, Node, allows, set-mode, set-group, set-content, owns}
 use Rattle.tree.specs.Walk.{by-modes, unused, walk, parent-walk}
 use Rattle.tree.specs.WellFormed.{is-tree}
 use Rattle.tree.specs.Agree.{Ensures, ensured, ensured-so, after-do, after-facts, after-check, after-guard}
@@ -34,8 +35,6 @@ use Rattle.tree.specs.JudgeLaws.{directory-not-file, allows-is, kind-by-modes, 
 use Rattle.tree.specs.StepLaws.{was-unused, parent-walked}
 use Rattle.tree.specs.UpdateLaws.{at-child, walked-at}
 use Rattle.tree.specs.PathLaws.{alter-keeps, put-keeps, drop-empty-keeps, drop-gone, move-keeps, move-carries, walk-outside, walk-shut, parent-walk-shut}
-use Rattle.shell.specs.declared.Caller.{Caller}
-use Rattle.shell.specs.Caller.{owns}
 use Rattle.shell.specs.Steps.{room, run-create, run-read, run-write, run-rm, run-mv, run-chmod, run-chgrp, run-chown, run-shell}
 use Rattle.shell.specs.Privacy.{Private, Writes, Unaltered, in-place, moved-along, taken-out, walks-first}
 

@@ -3,6 +3,7 @@ use mathlib.Core.Path.{_≡_, _∙_}
 use mathlib.Core.Option.{some}
 use mathlib.Core.Bool.{true, false, _||_}
 use Prim.Native.Nat.{ℕ}
+use Rattle.accounts.specs.declared.Caller.{Caller}
 use Rattle.accounts.specs.declared.Right.the-variants.{X}
 use Rattle.accounts.specs.Cases.{case, contra}
 use Rattle.syntax.specs.Path.{Path, root, _▹_, parent, within, lies-below}
@@ -19,7 +20,6 @@ use Rattle.tree.specs.Agree.{Ensures, after-do, after-facts, after-check}
 use Rattle.tree.specs.JudgeLaws.{passes-by-modes}
 use Rattle.tree.specs.StepLaws.{entered, walked, parent-walked}
 use Rattle.tree.specs.PathLaws.{walk-outside}
-use Rattle.shell.specs.declared.Caller.{Caller}
 use Rattle.shell.specs.Steps.{room, run-create, run-read, run-write, run-rm, run-mv, run-chmod, run-chgrp, run-chown, run-shell}
 
 module _ (c : Caller) (t : Place Node) (p : Path) (d : Place Node) (there : place-at t p ≡ some d) (shut : allows (c .account) X (d .here) ≡ false) where

@@ -6,6 +6,7 @@ use mathlib.Core.Option.{none, some}
 use mathlib.Core.Bool.{Bool, _&&_, _||_, not, cond}
 use Prim.Native.Nat.{ℕ, _+_}
 use lib.Dec.{leb}
+use Rattle.accounts.specs.declared.Caller.{Caller}
 use Rattle.accounts.specs.declared.Uid.{Uid}
 use Rattle.accounts.specs.declared.Gid.{Gid}
 use Rattle.accounts.specs.declared.Right.{Right}
@@ -19,13 +20,11 @@ use Rattle.commands.specs.Command.{Shell-command, create, mkdir, read, write, r
 use Rattle.tree.specs.declared.Kind.{Kind}
 use Rattle.tree.specs.declared.Kind.the-variants.{File, Directory}
 use Rattle.tree.specs.declared.Cause.the-variants.{Access, Exists, WrongKind, NotEmpty, Reserved, Full, IntoItself, TooDeep}
-use Rattle.tree.specs.Result.{Result, done, _>>=_, _>>_, require}
+use Rattle.tree.specs.Result.{Result, done, _>>=_, _>>_, require, Outcome}
 use Rattle.tree.specs.Forest.{Place, is-empty, update, alter, put, drop, leaf, height, names}
-use Rattle.tree.specs.Node.{is-directory, same-kind, Node, allows, set-owner, set-group, set-mode, set-content}
+use Rattle.tree.specs.Node.{is-directory, same-kind, Node, allows, set-owner, set-group, set-mode, set-content, owns, new-node}
 use Rattle.tree.specs.Walk.{by-modes, unused, walk, parent-walk}
 use Rattle.tree.specs.WellFormed.{most-nodes, nodes}
-use Rattle.shell.specs.declared.Caller.{Caller}
-use Rattle.shell.specs.Caller.{owns, new-node, Outcome}
 
 -- a file's content, or a directory's names in byte order parted by commas
 unfoldable pub text-of : Place Node → Text

@@ -1,13 +1,16 @@
 -- A node of the file tree: kind, owner, group, mode, revision, tag, content.
-use mathlib.Core.Option.{Option, some}
-use mathlib.Core.Bool.{Bool, true, false}
+use mathlib.Core.List.{[]}
+use mathlib.Core.Option.{Option, none, some}
+use mathlib.Core.Bool.{Bool, true, false, _||_, cond}
 use Prim.Native.Nat.{ℕ}
 use Rattle.accounts.specs.declared.Uid.{Uid}
 use Rattle.accounts.specs.declared.Gid.{Gid}
 use Rattle.accounts.specs.declared.Right.{Right}
 use Rattle.accounts.specs.declared.Account.{Account}
-use Rattle.accounts.specs.Access.{may}
+use Rattle.accounts.specs.declared.Caller.{Caller}
+use Rattle.accounts.specs.Access.{is-root, same-uid, may}
 use Rattle.syntax.specs.Text.{Text}
+use Rattle.syntax.specs.Number.{set-gid}
 use Rattle.syntax.specs.Path.{Entry-path}
 use Rattle.tree.specs.declared.Kind.{Kind}
 use Rattle.tree.specs.declared.Kind.the-variants.{File, Directory}
@@ -39,6 +42,22 @@ pub record Node : Type 0 where
 -- the access test at a node
 unfoldable pub allows : Account → Right → Node → Bool
 allows a t n = may a t (n .owner) (n .group) (n .mode)
+
+-- the owner or root
+unfoldable pub owns : Account → Node → Bool
+owns a n = is-root (a .uid) || same-uid (a .uid) (n .owner)
+
+-- A new node is the caller's; its group is its parent's if the parent has set-gid, else the person's primary group.
+unfoldable pub new-node : Caller → Node → Kind → ℕ → Node
+new-node c parent kind mode = record {
+  kind = kind;
+  owner = c .account .uid;
+  group = cond (set-gid (parent .mode)) (parent .group) (c .primary);
+  mode = mode;
+  revision = 0;
+  tag = none;
+  content = [];
+}
 
 -- a node with one attribute changed
 unfoldable pub set-owner : Uid → Node → Node

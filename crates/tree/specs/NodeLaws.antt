@@ -10,7 +10,9 @@ use lib.ListN.{length}
 use borrow.Author.Tests.{ne-eqb}
 use Rattle.accounts.specs.declared.Uid.{Uid}
 use Rattle.accounts.specs.declared.Gid.{Gid}
-use Rattle.accounts.specs.Cases.{and-both, contra}
+use Rattle.accounts.specs.declared.Caller.{Caller}
+use Rattle.accounts.specs.Cases.{case, and-both, contra}
+use Rattle.accounts.specs.Caller.{is-caller}
 use Rattle.syntax.specs.Text.{Text, every}
 use Rattle.syntax.specs.Number.{set-gid, is-mode}
 use Rattle.syntax.specs.Path.{is-entry-path}
@@ -18,7 +20,7 @@ use Rattle.syntax.specs.Field.{content-limit, is-content}
 use Rattle.syntax.specs.FormLaws.{no-answer, answered, both}
 use Rattle.tree.specs.declared.Kind.{Kind}
 use Rattle.tree.specs.declared.Kind.the-variants.{File, Directory}
-use Rattle.tree.specs.Node.{is-directory, Tag, Node, set-owner, set-group, set-mode, set-revision, set-tag, set-content}
+use Rattle.tree.specs.Node.{is-directory, Tag, Node, new-node, set-owner, set-group, set-mode, set-revision, set-tag, set-content}
 use Rattle.tree.specs.WellFormed.{last-revision, is-tag, fits-kind, is-node}
 
 -- the last revision's number
@@ -202,3 +204,13 @@ kind-of-set-tag t n = refl
 pub kind-of-set-content : (c : Text) (n : Node) → set-content c n .kind ≡ n .kind
 unfolding set-content
 kind-of-set-content c n = refl
+
+-- a node that a caller in range makes is in range
+pub new-node-fits : (c : Caller) (parent : Node) (kind : Kind) (mode : ℕ) → is-caller c ≡ true → is-node parent ≡ true → is-mode mode ≡ true
+    → (is-directory kind || not (set-gid mode)) ≡ true → is-node (new-node c parent kind mode) ≡ true
+unfolding new-node is-caller
+new-node-fits c parent kind mode o h a b =
+    let i = and-both (ltb (c .account .uid .0) 24) (ltb (c .primary .0) 25) o in
+    case (set-gid (parent .mode))
+    (λ t. rw t (plain-node kind (c .account .uid) (parent .group) mode (i .0) (node-ranges parent h .group) a b))
+    (λ t. rw t (plain-node kind (c .account .uid) (c .primary) mode (i .0) (i .1) a b))

@@ -3,6 +3,7 @@
 -- `Causes` gives each cause document 01's number.
 use mathlib.Core.Option.{Option, none, some}
 use mathlib.Core.Bool.{Bool, true, false}
+use Rattle.syntax.specs.Text.{Text}
 use Rattle.tree.specs.declared.Cause.{Cause}
 
 pub data Result (A : Type 0) : Type 0 where
@@ -33,3 +34,8 @@ present (some a) why = done a
 unfoldable pub absent : {A : Type 0} → Option A → Cause → Result (Unit {0})
 absent none why = done tt
 absent (some a) why = refused why
+
+-- the text of a done command, and the state after it
+pub record Outcome (S : Type 0) : Type 0 where
+  pub text : Option Text
+  pub state : S
