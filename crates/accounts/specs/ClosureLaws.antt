@@ -12,9 +12,9 @@ use lib.Bits.{bitOr, or-block, or-shifted-r}
 use lib.ListN.{getD}
 use borrow.Author.Tests.{ltb-true, eqb-true, eqb-false}
 use lib.Pow.{pow-mono, pow-lt, pow-add}
+use Rattle.buffers.specs.Cases.{case, and-both}
 use Rattle.accounts.specs.declared.Role.{Role}
 use Rattle.accounts.specs.declared.Pair.{Pair}
-use Rattle.accounts.specs.Cases.{case, and-both}
 use Rattle.accounts.specs.Groups.{same-gid, member, no-groups, with-group, member-with}
 use Rattle.accounts.specs.Dominance.{Bounded-role, Listed, first, later, Dominates, self, down, same-role, same-role-is, juniors, any-role, chain, dominates, dominates-is, falls, all-fall, all-fall-is}
 use Rattle.accounts.specs.Service.{service-gid, all-services, service-groups, service, service-uid}

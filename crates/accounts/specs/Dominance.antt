@@ -6,9 +6,9 @@ use Prim.Native.Nat.{ℕ, zero, suc, _+_, _≤_, _<_}
 use native.Mathlib.Omega.{arith}
 use lib.Dec.{eqb, ltb}
 use borrow.Author.Tests.{ltb-true, eqb-true, eq-eqb}
+use Rattle.buffers.specs.Cases.{case, and-both, contra}
 use Rattle.accounts.specs.declared.Role.{Role}
 use Rattle.accounts.specs.declared.Pair.{Pair}
-use Rattle.accounts.specs.Cases.{case, and-both, contra}
 
 unfoldable pub same-role : Role → Role → Bool
 same-role s r = eqb (s .0) (r .0)

@@ -11,9 +11,9 @@ use lib.Dec.{eqb, eqb·zero-suc, eqb·suc-zero, eqb·suc-suc}
 use lib.Pow.{pow-lt}
 use lib.Bits.{bitOr, or-shr, or-step}
 use borrow.Author.Tests.{eq-eqb, eqb-true, eqb-false}
+use Rattle.buffers.specs.Cases.{case}
 use Rattle.accounts.specs.declared.Gid.{Gid}
 use Rattle.accounts.specs.declared.Groups.{Groups}
-use Rattle.accounts.specs.Cases.{case}
 
 unfoldable pub same-gid : Gid → Gid → Bool
 same-gid g h = eqb (g .0) (h .0)

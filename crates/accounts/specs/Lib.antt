@@ -1,4 +1,3 @@
-pub mod Cases
 pub mod Groups
 pub mod Access
 pub mod Caller

@@ -4,10 +4,11 @@ use mathlib.Core.Option.{Option, none, some}
 use mathlib.Core.Bool.{Bool, true, false, _&&_, _||_}
 use Prim.Native.Nat.{ℕ}
 use lib.Dec.{ltb}
+use Rattle.buffers.specs.Text.{Text}
 use Rattle.accounts.specs.declared.Uid.{Uid}
 use Rattle.accounts.specs.declared.Gid.{Gid}
 use Rattle.accounts.specs.Dominance.{Bounded-role}
-use Rattle.syntax.specs.Text.{Text, bytes, comma, pieces}
+use Rattle.syntax.specs.Pieces.{bytes, comma, pieces}
 use Rattle.syntax.specs.Number.{mode, is-mode}
 use Rattle.syntax.specs.Form.{_>>=_, Form, none-of, one-of, two-of, three-of, by-form}
 use Rattle.syntax.specs.Path.{Path, Entry-path, is-name, is-path, is-entry-path, path, entry-path}

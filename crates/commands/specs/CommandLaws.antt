@@ -3,7 +3,8 @@ use mathlib.Core.Path.{_≡_, refl}
 use mathlib.Core.List.{List, [], _∷_}
 use mathlib.Core.Option.{some}
 use mathlib.Core.Bool.{true}
-use Rattle.syntax.specs.Text.{Text, comma, pieces}
+use Rattle.buffers.specs.Text.{Text}
+use Rattle.syntax.specs.Pieces.{comma, pieces}
 use Rattle.syntax.specs.Form.{_>>=_, by-form}
 use Rattle.syntax.specs.Field.{uid, role}
 use Rattle.commands.specs.Command.{Line, form, forms, line-of, line, is-shell-command, is-repository-command, is-command, is-line}

@@ -4,6 +4,7 @@
 -- none, so the promises of `parse` and its helpers also say that every part lies inside and has its form.
 use mathlib.Core.List.{List, [], _∷_}
 use mathlib.Core.Option.{Option, none, some}
+use Rattle.buffers.specs.Text.{Text}
 use Rattle.accounts.specs.declared.Uid.{Uid}
 use Rattle.syntax.specs.declared.Span.{Span}
 use Rattle.commands.specs.declared.Command.{Command as Parts}
@@ -12,7 +13,6 @@ use Rattle.commands.specs.declared.Found.{Found}
 use Rattle.commands.specs.declared.Found.the-variants.{Command as Is, Nothing}
 use Rattle.commands.specs.declared.Parsed.{Parsed}
 use Rattle.commands.specs.declared.Parsed.the-variants.{Line as Is-line, NoForm}
-use Rattle.syntax.specs.Text.{Text}
 use Rattle.syntax.specs.Form.{_>>=_, by-form}
 use Rattle.syntax.specs.Path.{Path, Entry-path, path, entry-path}
 use Rattle.syntax.specs.Field.{bounded}

@@ -8,15 +8,16 @@ use Prim.Native.Nat.{ℕ, _/_, _%_, _≤_, _<_}
 use native.Mathlib.Omega.{arith}
 use borrow.Author.Tests.{ne-eqb, lt-ltb, le-ltb, le-leb, leb-true, leb-false}
 use lib.Dec.{leb, ltb}
+use Rattle.buffers.specs.Cases.{case, and-both}
+use Rattle.buffers.specs.Text.{Text, same-text}
 use Rattle.accounts.specs.declared.Uid.{Uid}
-use Rattle.accounts.specs.Cases.{case, and-both}
 use Rattle.syntax.specs.declared.Span.{Span}
+use Rattle.syntax.specs.Pieces.{bytes, comma, pieces}
 use Rattle.commands.specs.declared.Command.{Command as Parts}
 use Rattle.commands.specs.declared.Command.the-variants.{Create, Mkdir, Read, Write, Rm, Rmdir, Mv, Chmod, Chgrp, Chown, Login, Logout, Add, Co, Commit, Up, Del}
 use Rattle.commands.specs.declared.Found.{Found}
 use Rattle.commands.specs.declared.Found.the-variants.{Command as Is, Nothing}
 use Rattle.commands.specs.declared.Parsed.the-variants.{Line as Is-line, NoForm}
-use Rattle.syntax.specs.Text.{Text, bytes, same-text, comma, pieces}
 use Rattle.syntax.specs.Number.{decimal, between, mode, set-gid, is-mode}
 use Rattle.syntax.specs.Form.{_>>=_, _>>_, check, is-some, by-form}
 use Rattle.syntax.specs.FormLaws.{no-answer, both-read, answered, then-none, the-some}

@@ -9,17 +9,18 @@ use native.Mathlib.Omega.{arith}
 use borrow.Author.Tests.{eqb-false, ne-eqb}
 use lib.Dec.{eqb}
 use lib.ListN.{length}
-use Rattle.accounts.specs.Cases.{case, and-both, contra}
+use Rattle.buffers.specs.Cases.{case, and-both, contra}
+use Rattle.buffers.specs.Text.{Text, same-text}
+use Rattle.buffers.specs.TextLaws.{same-text-sound}
 use Rattle.accounts.specs.declared.Uid.{Uid}
 use Rattle.accounts.specs.declared.Gid.{Gid}
 use Rattle.accounts.specs.Dominance.{Bounded-role}
 use Rattle.syntax.specs.declared.Span.{Span}
+use Rattle.syntax.specs.Pieces.{bytes}
 use Rattle.commands.specs.declared.Command.{Command as Parts}
 use Rattle.commands.specs.declared.Command.the-variants.{Logout}
 use Rattle.commands.specs.declared.Found.{Found}
 use Rattle.commands.specs.declared.Found.the-variants.{Command as Is, Nothing}
-use Rattle.syntax.specs.Text.{Text, bytes, same-text}
-use Rattle.syntax.specs.TextLaws.{same-text-sound}
 use Rattle.syntax.specs.Number.{mode}
 use Rattle.syntax.specs.Form.{_>>=_, Form, none-of, one-of, two-of, three-of, by-form, is-some}
 use Rattle.syntax.specs.Path.{Path, Entry-path, path, entry-path}

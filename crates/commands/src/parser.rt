@@ -4,7 +4,7 @@ ghost use mathlib.Core.List.{[], _∷_};
 ghost use mathlib.Core.Option.{some, Option·map};
 ghost use Prim.Native.Nat.{_≤_};
 ghost use lib.ListN.{length, drop};
-ghost use Rattle.syntax.specs.Text.{bytes, comma, pieces};
+ghost use Rattle.syntax.specs.Pieces.{bytes, comma, pieces};
 ghost use Rattle.syntax.specs.Number.{mode as mode-of};
 ghost use Rattle.syntax.specs.Path.{path as path-of, entry-path as entry-path-of};
 ghost use Rattle.syntax.specs.Form.{by-form, is-some};

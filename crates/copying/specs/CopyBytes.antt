@@ -8,20 +8,20 @@ use native.Mathlib.Omega.{arith}
 use native.Mathlib.Numerals.{add-one}
 use lib.ListN.{length, take, drop, replicate, length-append, length-replicate, length-drop, take-append-drop}
 use lib.Seq.{paste, paste-zero, length-take-le, take-all, take-at, drop-at, drop-append-le, take-append-le}
+use Rattle.buffers.specs.Text.{Text}
+use Rattle.buffers.specs.Fields.{two-bytes, padded, text-at, all-bytes}
+use Rattle.buffers.specs.FieldsLaws.{length-padded, text-at-padded, length-two-bytes}
+use Rattle.buffers.specs.PasteLaws.{paste-join}
 use Rattle.accounts.specs.declared.Uid.{Uid}
 use Rattle.accounts.specs.declared.Gid.{Gid}
-use Rattle.syntax.specs.Text.{Text}
 use Rattle.syntax.specs.Path.{Name, _▹_, Entry-path, depth, in-rep, entry-location, is-name, is-entry-path, names-text, path-text, entry-text}
 use Rattle.syntax.specs.PathLaws.{path-more, entry-text-fits}
 use Rattle.tree.specs.Node.{Tag, Node, set-tag}
 use Rattle.tree.specs.Rows.{Row}
-use Rattle.tree.specs.Fields.{two-bytes, padded, text-at, all-bytes}
-use Rattle.tree.specs.FieldsLaws.{length-padded, text-at-padded, length-two-bytes}
 use Rattle.tree.specs.Encoding.{row-width, kind-byte, tag-bytes, row-bytes, row-of}
 use Rattle.tree.specs.RowAt.{row-bytes-at, row-at, tag-text-at}
 use Rattle.edits.specs.declared.Fresh.{Fresh}
 use Rattle.edits.specs.Changes.{row-start, field-put, fresh-node}
-use Rattle.edits.specs.Paste.{paste-join}
 use Rattle.edits.specs.EncodedRows.{all-append, field-pieces}
 use Rattle.copying.specs.declared.Copier.{Copier}
 use Rattle.copying.specs.Copying.{below-rep, copy-mode}

@@ -5,6 +5,7 @@ use Prim.Native.Nat.{ℕ, suc, _*_, _≤_, _<_}
 use native.Mathlib.Omega.{arith}
 use lib.ListN.{length, drop}
 use lib.Seq.{paste}
+use Rattle.buffers.specs.Fields.{all-bytes}
 use Rattle.accounts.specs.declared.Gid.{Gid}
 use Rattle.syntax.specs.Path.{Name, depth, last}
 use Rattle.syntax.specs.PathLaws.{entry-text-fits}
@@ -15,7 +16,6 @@ use Rattle.tree.specs.WellFormedLaws.{Place-parts, place-parts, place-below, tr
 use Rattle.tree.specs.Rows.{Row}
 use Rattle.tree.specs.RowContext.{place-rows, index-of, around, length-place-rows}
 use Rattle.tree.specs.RowScan.{rows-from-place, index-bound}
-use Rattle.tree.specs.Fields.{all-bytes}
 use Rattle.tree.specs.Encoding.{row-width, row-bytes, encode-tree}
 use Rattle.tree.specs.RowBytesLaws.{node-parts}
 use Rattle.tree.specs.RowAt.{row-count, row-at, all-rows}

@@ -3,11 +3,11 @@ use mathlib.Core.Path.{_≡_, refl, sym, _∙_, ap}
 use mathlib.Core.Bool.{Bool, true, false, _||_, not}
 use Prim.Native.Nat.{_+_, _≤_}
 use native.Mathlib.Omega.{arith}
+use Rattle.buffers.specs.Cases.{case}
+use Rattle.buffers.specs.Text.{Text, precedes}
 use Rattle.accounts.specs.declared.Caller.{Caller}
-use Rattle.accounts.specs.Cases.{case}
 use Rattle.accounts.specs.declared.Account.{Account}
 use Rattle.accounts.specs.Caller.{is-caller}
-use Rattle.syntax.specs.Text.{Text, precedes}
 use Rattle.syntax.specs.Number.{set-gid, is-mode}
 use Rattle.syntax.specs.Path.{Name, Path, _▹_, Entry-path, parent, depth, in-rep, entry-location, is-path, is-entry-path}
 use Rattle.syntax.specs.PathLaws.{path-more}

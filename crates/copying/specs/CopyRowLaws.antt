@@ -8,8 +8,8 @@ use native.Mathlib.Omega.{arith}
 use native.Mathlib.Nat.{add-zero}
 use lib.ListN.{length, getD, drop}
 use lib.Seq.{drop-at, drop-drop, getD-drop}
+use Rattle.buffers.specs.Cases.{case}
 use Rattle.accounts.specs.declared.Caller.{Caller}
-use Rattle.accounts.specs.Cases.{case}
 use Rattle.accounts.specs.declared.Gid.{Gid}
 use Rattle.syntax.specs.Number.{set-gid}
 use Rattle.syntax.specs.Path.{Name, Path, _▹_, Entry-path, depth}

@@ -7,6 +7,7 @@ use mathlib.Core.Bool.{true, false}
 use Prim.Native.Nat.{ℕ, suc, _+_, _*_, _≤_}
 use lib.ListN.{length, drop}
 use lib.Seq.{paste}
+use Rattle.buffers.specs.Fields.{all-bytes}
 use Rattle.accounts.specs.declared.Uid.{Uid}
 use Rattle.accounts.specs.declared.Gid.{Gid}
 use Rattle.syntax.specs.Number.{set-gid}
@@ -17,7 +18,6 @@ use Rattle.tree.specs.Walk.{by-modes}
 use Rattle.tree.specs.WellFormed.{is-forest, is-tree}
 use Rattle.tree.specs.Rows.{Row, flatten}
 use Rattle.tree.specs.RowContext.{place-rows, ends, index-of}
-use Rattle.tree.specs.Fields.{all-bytes}
 use Rattle.tree.specs.Encoding.{row-width, row-bytes, encode-tree}
 use Rattle.tree.specs.RowAt.{row-at, all-rows, tag-text-at}
 use Rattle.edits.specs.Changes.{row-start}

@@ -1,8 +1,8 @@
 -- The copies that `co` makes: of a node and of all below it that may be read, as nodes of the person's.
 use mathlib.Core.Bool.{Bool, cond}
 use Prim.Native.Nat.{ℕ}
+use Rattle.buffers.specs.Text.{Text}
 use Rattle.accounts.specs.declared.Caller.{Caller}
-use Rattle.syntax.specs.Text.{Text}
 use Rattle.syntax.specs.Number.{octal}
 use Rattle.syntax.specs.Path.{Path, _▹_, Entry-path}
 use Rattle.tree.specs.declared.Kind.{Kind}

@@ -4,8 +4,8 @@ use mathlib.Core.Option.{none}
 use Prim.Native.Nat.{ℕ, _+_, _-_, _*_}
 use lib.ListN.{length, take, drop, replicate}
 use lib.Seq.{paste}
+use Rattle.buffers.specs.Fields.{two-bytes}
 use Rattle.tree.specs.Node.{Node}
-use Rattle.tree.specs.Fields.{two-bytes}
 use Rattle.tree.specs.Encoding.{row-width, kind-byte}
 use Rattle.tree.specs.RowAt.{row-count}
 use Rattle.edits.specs.declared.Fresh.{Fresh}

@@ -10,11 +10,14 @@ use Prim.Native.Nat.{ℕ, suc, _+_, _*_, _≤_, _<_}
 use native.Mathlib.Omega.{arith}
 use lib.ListN.{length, take, replicate, length-append}
 use lib.ListN as L
+use Rattle.buffers.specs.Cases.{and-both}
+use Rattle.buffers.specs.Text.{Text, every}
+use Rattle.buffers.specs.TextLaws.{every-append}
+use Rattle.buffers.specs.Fields.{two-bytes, padded, all-bytes}
+use Rattle.buffers.specs.FieldsLaws.{length-padded, length-two-bytes}
+use Rattle.buffers.specs.TableLaws.{length-all-bytes}
 use Rattle.accounts.specs.declared.Uid.{Uid}
 use Rattle.accounts.specs.declared.Gid.{Gid}
-use Rattle.accounts.specs.Cases.{and-both}
-use Rattle.syntax.specs.Text.{Text, every}
-use Rattle.syntax.specs.TextLaws.{every-append}
 use Rattle.syntax.specs.Path.{Name, Path, _▹_, last, depth, is-name, Entry-path, is-entry-path, entry-text}
 use Rattle.syntax.specs.PathLaws.{name-fits, entry-text-fits}
 use Rattle.syntax.specs.FieldLaws.{content-fits}
@@ -26,9 +29,6 @@ use Rattle.tree.specs.RowContext.{place-rows, index-of, length-place-rows, arou
 use Rattle.tree.specs.RowEdits.{lesser, tree-sorted, alter-rows, before, after, length-before, spot-index, put-rows, drop-rows}
 use Rattle.tree.specs.WellFormed.{most-nodes, nodes, is-tag, is-place, is-tree}
 use Rattle.tree.specs.WellFormedLaws.{place-parts}
-use Rattle.tree.specs.Fields.{two-bytes, padded, all-bytes}
-use Rattle.tree.specs.FieldsLaws.{length-padded, length-two-bytes}
-use Rattle.tree.specs.TableLaws.{length-all-bytes}
 use Rattle.tree.specs.Encoding.{row-width, kind-byte, tag-bytes, row-bytes, encode-rows, encode-tree}
 use Rattle.tree.specs.RowBytesLaws.{length-tag-bytes, node-parts}
 use Rattle.tree.specs.EncodingLaws.{fits, fits-parts, fits-of, forest-fits, tree-fits, length-fitting}

@@ -7,16 +7,16 @@ use native.Mathlib.Omega.{arith}
 use native.Mathlib.Nat.{zero-add, suc-add}
 use lib.ListN.{length, take, drop, replicate, length-append, length-replicate}
 use lib.Seq.{take-at, drop-at}
+use Rattle.buffers.specs.Fields.{two-bytes, all-bytes}
+use Rattle.buffers.specs.FieldsLaws.{length-two-bytes, number-at-bytes}
+use Rattle.buffers.specs.PasteLaws.{paste-piece}
 use Rattle.tree.specs.Forest.{Place}
 use Rattle.tree.specs.Node.{Node}
 use Rattle.tree.specs.Rows.{Row, rows}
 use Rattle.tree.specs.WellFormed.{most-nodes}
-use Rattle.tree.specs.Fields.{two-bytes, all-bytes}
-use Rattle.tree.specs.FieldsLaws.{length-two-bytes, number-at-bytes}
 use Rattle.tree.specs.Encoding.{row-width, row-bytes, encode-rows, encode-tree}
 use Rattle.tree.specs.RowAt.{row-count}
 use Rattle.edits.specs.Changes.{row-start, rows-put, rows-taken, field-at, field-put}
-use Rattle.edits.specs.Paste.{paste-piece}
 
 -- ---- bytes in pieces
 

@@ -1,5 +1,4 @@
 pub mod Changes
-pub mod Paste
 pub mod Written
 pub mod EncodedRows
 pub mod EditLaws

@@ -6,18 +6,18 @@ use native.Mathlib.Omega.{arith}
 use native.Mathlib.Nat.{zero-add, suc-add}
 use lib.ListN.{length, set, take, drop, replicate, length-append, length-drop, length-replicate, drop-of-length-le}
 use lib.Seq.{paste, length-take-le, take-add, take-all, take-take, drop-at}
+use Rattle.buffers.specs.Fields.{two-bytes, padded, all-bytes}
+use Rattle.buffers.specs.FieldsLaws.{length-padded, length-two-bytes, text-part}
+use Rattle.buffers.specs.PasteLaws.{paste-two, paste-join, set-paste, set-behind, gap-filled}
 use Rattle.tree.specs.Forest.{leaf}
 use Rattle.tree.specs.Node.{Node}
 use Rattle.tree.specs.Rows.{Row, flatten, rows}
 use Rattle.tree.specs.WellFormed.{most-nodes}
-use Rattle.tree.specs.Fields.{two-bytes, padded, all-bytes}
-use Rattle.tree.specs.FieldsLaws.{length-padded, length-two-bytes}
 use Rattle.tree.specs.Encoding.{row-width, kind-byte, tag-bytes, row-bytes, encode-rows, encode-tree}
 use Rattle.tree.specs.RowAt.{row-count, tag-text-at}
-use Rattle.tree.specs.RowAtLaws.{text-in-row, text-part}
+use Rattle.tree.specs.RowAtLaws.{text-in-row}
 use Rattle.edits.specs.declared.Fresh.{Fresh}
 use Rattle.edits.specs.Changes.{row-start, rows-put, rows-taken, field-at, field-put, fresh-node, head-bytes}
-use Rattle.edits.specs.Paste.{paste-two, paste-join, set-paste, set-behind, gap-filled}
 
 -- ---- a field
 

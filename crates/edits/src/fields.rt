@@ -3,14 +3,14 @@ ghost use mathlib.Core.Path.{_≡_};
 ghost use mathlib.Core.List.{[], _∷_, _++_};
 ghost use Prim.Native.Nat.{_+_, _≤_, _<_};
 ghost use lib.ListN.{length};
-ghost use Rattle.tree.specs.Fields.{two-bytes, padded};
+ghost use Rattle.buffers.specs.Fields.{two-bytes, padded};
 ghost use Rattle.tree.specs.RowAt.{tag-text-at};
 ghost use Rattle.edits.specs.Changes.{field-at, field-put};
-use crate::bytes::move_bytes;
-use crate::bytes::write_number;
-use crate::bytes::write_padded;
 use accounts::Gid;
 use accounts::Uid;
+use buffers::move_bytes;
+use buffers::write_number;
+use buffers::write_padded;
 use tree::tag_path_at;
 
 // The bytes of a row.

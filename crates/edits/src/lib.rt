@@ -1,11 +1,9 @@
 // Changes of a tree that lies as rows in preorder in a lent buffer of 59,394 bytes; docs/FORMAT.md has the layout.
-mod bytes;
 mod fields;
 mod rows;
 
 use accounts::Gid;
 use accounts::Uid;
-pub use bytes::write_padded;
 pub use fields::copy_content;
 pub use fields::set_content;
 pub use fields::set_group;

@@ -1,6 +1,5 @@
 // Rows put in and taken out.
 ghost use mathlib.Core.Path.{_≡_};
-ghost use mathlib.Core.List.{[], _∷_};
 ghost use Prim.Native.Nat.{_+_, _*_, _≤_, _<_};
 ghost use lib.ListN.{length};
 ghost use lib.Seq.{paste};
@@ -9,13 +8,14 @@ ghost use Rattle.tree.specs.Encoding.{row-width, kind-byte, row-bytes, encode-t
 ghost use Rattle.tree.specs.RowAt.{row-count};
 ghost use Rattle.edits.specs.Changes.{rows-put, rows-taken, fresh-node, head-bytes};
 use crate::Fresh;
-use crate::bytes::clear;
-use crate::bytes::move_bytes;
-use crate::bytes::write_number;
-use crate::bytes::write_padded;
+use buffers::clear;
+use buffers::move_bytes;
+use buffers::write_four;
+use buffers::write_many;
+use buffers::write_number;
+use buffers::write_padded;
 use tree::Kind;
 use tree::count;
-use tree::write;
 
 // The bytes of a row.
 const ROW: usize = 232;
@@ -28,7 +28,7 @@ pub fn put_rows(tree: &mut [u8], at: usize, n: usize, rows: &[u8])
     let c = count(tree);
     let start = 2 + ROW * at;
     move_bytes(tree, start, start + ROW * n, ROW * (c - at));
-    write(tree, start, rows, ROW * n);
+    write_many(tree, start, rows, ROW * n);
     write_number(tree, 0, (c + n) as u16);
 }
 
@@ -52,17 +52,6 @@ fn kind_byte(kind: Kind) -> u8
         Kind::File => b'f',
         Kind::Directory => b'd',
     }
-}
-
-// Writes four bytes.
-fn write_four(b: &mut [u8], at: usize, v: u8, w: u8, x: u8, y: u8)
-    requires { ⌜ at + 4 ≤ length (now b) ⌝ }
-    ensures { λ _. ⌜ now (b .exit) ≡ paste (now (b .entry)) at (v ∷ w ∷ x ∷ y ∷ []) 4 ⌝ }
-{
-    b[at] = v;
-    b[at + 1] = w;
-    b[at + 2] = x;
-    b[at + 3] = y;
 }
 
 // Writes the fields of a row before its name.

@@ -15,7 +15,7 @@ fn setup_end(text: &[u8]) -> usize
         if end == text.len() {
             return end;
         }
-        if syntax::same(&text[at..end], b"end") {
+        if buffers::same(&text[at..end], b"end") {
             return end + 1;
         }
         at = end + 1;

@@ -8,10 +8,12 @@ use native.Mathlib.Omega.{arith}
 use lib.ListN.{length, take, length-append}
 use lib.ListN as L
 use lib.Seq.{paste}
+use Rattle.buffers.specs.Cases.{case, contra}
+use Rattle.buffers.specs.Text.{Text}
+use Rattle.buffers.specs.Fields.{all-bytes}
 use Rattle.accounts.specs.declared.Account.{Account}
 use Rattle.accounts.specs.Access.{is-root}
-use Rattle.accounts.specs.Cases.{case, contra}
-use Rattle.syntax.specs.Text.{Text, bytes}
+use Rattle.syntax.specs.Pieces.{bytes}
 use Rattle.syntax.specs.Path.{Name, Path, root, _▹_, parent, last, depth, is-top, within, path, is-name, names-text, path-text}
 use Rattle.syntax.specs.PathLaws.{name-fits, path-is-path, path-depth, last-is-name, parent-depth}
 use Rattle.syntax.specs.Parts.{last-slash}
@@ -34,7 +36,6 @@ use Rattle.tree.specs.ChangeLaws.{keep-drop, nodes-drop}
 use Rattle.tree.specs.RowContext.{index-of, place-rows}
 use Rattle.tree.specs.RowLaws.{length-rows}
 use Rattle.tree.specs.RowEdits.{lesser}
-use Rattle.tree.specs.Fields.{all-bytes}
 use Rattle.tree.specs.Encoding.{row-width, row-bytes, encode-tree}
 use Rattle.tree.specs.RowAt as rows
 use Rattle.tree.specs.RowAt.{row-count, row-at, all-rows, end-of-subtree}

@@ -7,19 +7,19 @@ use native.Mathlib.Omega.{arith}
 use native.Mathlib.Numerals.{add-one}
 use lib.ListN.{length, getD, set, replicate, length-append, length-set}
 use lib.Seq.{paste, set-at, getD-at}
-use Rattle.accounts.specs.Cases.{and-both}
-use Rattle.syntax.specs.Text.{Text, every}
+use Rattle.buffers.specs.Cases.{and-both}
+use Rattle.buffers.specs.Text.{Text, every}
+use Rattle.buffers.specs.Fields.{two-bytes, padded, all-bytes}
+use Rattle.buffers.specs.FieldsLaws.{length-padded}
+use Rattle.buffers.specs.PasteLaws.{paste-piece}
 use Rattle.syntax.specs.Path.{Name}
 use Rattle.tree.specs.Forest.{Forest, nil, node, Place, size, height}
 use Rattle.tree.specs.ForestLaws.{height-node}
 use Rattle.tree.specs.Node.{Node}
 use Rattle.tree.specs.Rows.{Row, flatten}
 use Rattle.tree.specs.RowContext.{place-rows, length-place-rows}
-use Rattle.tree.specs.Fields.{two-bytes, padded, all-bytes}
-use Rattle.tree.specs.FieldsLaws.{length-padded}
 use Rattle.tree.specs.Encoding.{row-width, kind-byte, tag-bytes, row-bytes}
 use Rattle.tree.specs.EncodingLaws.{fits, fits-parts, fits-of, length-fitting}
-use Rattle.edits.specs.Paste.{paste-piece}
 
 -- a depth that is counted from a new one instead of an old one
 unfoldable pub shifted : ℕ → ℕ → ℕ → ℕ

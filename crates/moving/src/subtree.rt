@@ -1,9 +1,8 @@
 // A place moved with all below it: its rows are held in a buffer, taken out, and put in under the new name and at the new depth.
 ghost use mathlib.Core.Path.{_≡_};
-ghost use mathlib.Core.Option.{some};
 ghost use Prim.Native.Nat.{suc, _+_, _*_, _≤_, _<_};
 ghost use lib.ListN.{length};
-ghost use Rattle.syntax.specs.Path.{Path, parent, last, depth, path};
+ghost use Rattle.syntax.specs.Path.{parent, last, depth, path};
 ghost use Rattle.tree.specs.Forest.{update, put, drop, size};
 ghost use Rattle.tree.specs.Encoding.{row-width, encode-tree};
 ghost use Rattle.tree.specs.RowContext.{index-of};
@@ -13,14 +12,14 @@ ghost use Rattle.moving.specs.Moving.{behind-slash, Vacant, Movable, hel
 use accounts::Account;
 use accounts::Groups;
 use accounts::Uid;
+use buffers::write_many;
+use buffers::write_padded;
 use edits::put_rows;
 use edits::take_rows;
-use edits::write_padded;
 use tree::Child;
 use tree::depth_at;
 use tree::find_child;
 use tree::subtree_end;
-use tree::write;
 use walks::Walked;
 use walks::parent_walk;
 
@@ -102,7 +101,7 @@ fn move_by(tree: &mut [u8], at: usize, to: &[u8], held: &mut [u8])
     ensures { λ _. ⌜ ((m : Movable (now (tree .entry)) at (now (to .entry))) → now (held .exit) ≡ held-after m (now (held .entry))) ⌝ }
 {
     let n = subtree_end(tree, at) - at;
-    write(held, 0, &tree[2 + ROW * at..], ROW * n);
+    write_many(held, 0, &tree[2 + ROW * at..], ROW * n);
     take_rows(tree, at, n);
     let gap = gap_for(tree, to);
     let name = last_name(to);

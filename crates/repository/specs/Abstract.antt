@@ -3,8 +3,8 @@
 use mathlib.Core.List.{[]}
 use mathlib.Core.Bool.{Bool, true, _&&_}
 use Prim.Native.Nat.{ℕ, suc}
+use Rattle.buffers.specs.Text.{Text}
 use Rattle.accounts.specs.Dominance.{same-role, Bounded-role, dominates}
-use Rattle.syntax.specs.Text.{Text}
 use Rattle.setup.specs.Setup.{Setup}
 use Rattle.tree.specs.declared.Kind.{Kind}
 use Rattle.tree.specs.declared.Kind.the-variants.{Directory}

@@ -8,8 +8,8 @@ use native.Mathlib.Omega.{arith}
 use borrow.Author.Tests.{leb-true}
 use lib.Dec.{leb}
 use lib.ListN.{length, getElem?, drop, length-append, length-drop}
-use Rattle.accounts.specs.Cases.{and-both, contra}
-use Rattle.syntax.specs.Text.{Text, every}
+use Rattle.buffers.specs.Cases.{and-both, contra}
+use Rattle.buffers.specs.Text.{Text, every}
 use Rattle.syntax.specs.FormLaws.{answered, no-answer}
 use Rattle.tree.specs.declared.Cause.the-variants.{Missing, Unsound, ShortAnswer}
 use Rattle.tree.specs.Result.{Result, refused, done, present, Outcome}

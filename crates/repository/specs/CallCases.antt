@@ -4,12 +4,13 @@ use mathlib.Core.Path.{_≡_, refl}
 use mathlib.Core.List.{List, [], _∷_, map, _++_}
 use Prim.Native.Nat.{ℕ}
 use lib.ListN.{replicate}
-use Rattle.syntax.specs.Text.{Text, bytes, newline, pieces}
+use Rattle.buffers.specs.Text.{Text}
+use Rattle.buffers.specs.Fields.{all-bytes, table-bytes}
+use Rattle.syntax.specs.Pieces.{bytes, newline, pieces}
 use Rattle.syntax.specs.Path.{root, _▹_, Entry-path, rep}
 use Rattle.setup.specs.Setup.{Setup-answer, accepted, wrong-line, setup, accounts, most-pairs, most-grants, no-setup}
 use Rattle.tree.specs.Forest.{update, alter}
 use Rattle.tree.specs.Node.{set-revision, set-tag}
-use Rattle.tree.specs.Fields.{all-bytes, table-bytes}
 use Rattle.repository.specs.Initial.{no-sessions}
 use Rattle.repository.specs.Store.{Store, store, initial-store}
 use Rattle.repository.specs.Calls.{runs}

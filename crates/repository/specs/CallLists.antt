@@ -7,7 +7,7 @@ use mathlib.Core.Bool.{Bool, true, not}
 use Prim.Native.Nat.{ℕ}
 use lib.Dec.{eqb}
 use lib.ListN.{length}
-use Rattle.syntax.specs.Text.{Text, every}
+use Rattle.buffers.specs.Text.{Text, every}
 use Rattle.setup.specs.Setup.{Setup, accepted, setup as setup-of}
 use Rattle.repository.specs.Store.{Store}
 use Rattle.repository.specs.Abstract.{Abstract, abstract, initial-abstract}

@@ -8,8 +8,8 @@ use native.Mathlib.Omega.{arith}
 use borrow.Author.Tests.{eq-eqb, ne-eqb}
 use lib.Dec.{eqb, leb}
 use lib.ListN.{length}
-use Rattle.accounts.specs.Cases.{case, contra}
-use Rattle.syntax.specs.Text.{Text, every}
+use Rattle.buffers.specs.Cases.{case, contra}
+use Rattle.buffers.specs.Text.{Text, every}
 use Rattle.setup.specs.Setup.{Setup, Setup-answer, accepted, wrong-line, setup, is-setup}
 use Rattle.setup.specs.SetupLaws.{accepted-is-setup}
 use Rattle.tree.specs.declared.Cause.the-variants.{Unsound, ShortAnswer}

@@ -10,8 +10,10 @@ use native.Mathlib.Nat.{div-eq-of-lt}
 use borrow.Author.Tests.{eqb-true, ne-eqb, leb-true, ltb-true, ltb-false, lt-ltb}
 use lib.Dec.{eqb, leb, ltb}
 use lib.ListN.{length, getD, List·getD-eq-default}
+use Rattle.buffers.specs.Cases.{case, and-both, contra}
+use Rattle.buffers.specs.Text.{every}
+use Rattle.buffers.specs.TextLaws.{every-getD}
 use Rattle.accounts.specs.declared.Caller.{Caller}
-use Rattle.accounts.specs.Cases.{case, and-both, contra}
 use Rattle.accounts.specs.declared.Uid.{Uid}
 use Rattle.accounts.specs.declared.Right.{Right}
 use Rattle.accounts.specs.declared.Right.the-variants.{W}
@@ -20,8 +22,6 @@ use Rattle.accounts.specs.Access.{is-root, same-uid, grants, may-other, grants-
 use Rattle.accounts.specs.Caller.{root-caller}
 use Rattle.accounts.specs.Service.{all-services}
 use Rattle.syntax.specs.Number.{octal}
-use Rattle.syntax.specs.Text.{every}
-use Rattle.syntax.specs.TextLaws.{every-getD}
 use Rattle.syntax.specs.Form.{is-some}
 use Rattle.setup.specs.Setup.{Person, Setup, accounts, person, is-person, is-slot, is-setup}
 use Rattle.tree.specs.declared.Cause.the-variants.{UnknownCaller}

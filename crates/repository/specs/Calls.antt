@@ -4,8 +4,8 @@ use mathlib.Core.Option.{Option, none, some}
 use mathlib.Core.Bool.{Bool, false}
 use Prim.Native.Nat.{ℕ}
 use lib.Dec.{leb}
+use Rattle.buffers.specs.Text.{Text}
 use Rattle.accounts.specs.Access.{is-root}
-use Rattle.syntax.specs.Text.{Text}
 use Rattle.commands.specs.Command.{Line, line}
 use Rattle.setup.specs.Setup.{Setup}
 use Rattle.tree.specs.declared.Cause.{Cause}

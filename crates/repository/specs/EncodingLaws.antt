@@ -10,9 +10,9 @@ use lib.Dec.{eqb}
 use lib.ListN.{length, drop, length-append}
 use lib.Seq.{drop-at}
 use borrow.Author.Tests.{eqb-true}
-use Rattle.accounts.specs.Cases.{and-both}
-use Rattle.syntax.specs.Text.{same-text}
-use Rattle.syntax.specs.TextLaws.{same-text-refl, same-text-sound}
+use Rattle.buffers.specs.Cases.{and-both}
+use Rattle.buffers.specs.Text.{same-text}
+use Rattle.buffers.specs.TextLaws.{same-text-refl, same-text-sound}
 use Rattle.syntax.specs.Form.{_>>=_, _>>_, check}
 use Rattle.syntax.specs.FormLaws.{both-read, checked, answered}
 use Rattle.setup.specs.Setup.{accounts, is-setup}

@@ -5,9 +5,9 @@ use mathlib.Core.Bool.{true, false}
 use Prim.Native.Nat.{_+_}
 use native.Mathlib.Omega.{arith}
 use borrow.Author.Tests.{ltb-true, lt-ltb}
+use Rattle.buffers.specs.Text.{Text}
 use Rattle.accounts.specs.Dominance.{Bounded-role}
 use Rattle.accounts.specs.Service.{service-uid, service-gid}
-use Rattle.syntax.specs.Text.{Text}
 use Rattle.syntax.specs.FormLaws.{no-answer}
 use Rattle.syntax.specs.Number.{set-gid, is-mode}
 use Rattle.syntax.specs.Field.{is-content}

@@ -7,14 +7,14 @@ use Prim.Native.Nat.{ℕ, suc}
 use native.Mathlib.Omega.{arith}
 use borrow.Author.Tests.{not-true, eqb-true, eq-eqb}
 use lib.Dec.{eqb}
+use Rattle.buffers.specs.Cases.{case, contra}
+use Rattle.buffers.specs.Text.{Text}
 use Rattle.accounts.specs.declared.Caller.{Caller}
 use Rattle.accounts.specs.declared.Uid.{Uid}
 use Rattle.accounts.specs.declared.Right.the-variants.{R, W}
 use Rattle.accounts.specs.Access.{is-root, same-uid}
-use Rattle.accounts.specs.Cases.{case, contra}
 use Rattle.accounts.specs.Dominance.{Bounded-role, same-role-is}
 use Rattle.accounts.specs.Service.{service-uid, same-service}
-use Rattle.syntax.specs.Text.{Text}
 use Rattle.syntax.specs.Path.{Path, Entry-path, same-path, in-rep, entry-location}
 use Rattle.syntax.specs.WithinLaws.{same-path-sound}
 use Rattle.syntax.specs.FormLaws.{answered}

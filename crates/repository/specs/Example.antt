@@ -4,7 +4,8 @@
 -- any other two texts. The answers are those of the abstract machine too.
 use mathlib.Core.Path.{_≡_, refl}
 use mathlib.Core.List.{List, [], map}
-use Rattle.syntax.specs.Text.{Text, bytes, pieces, newline, joined}
+use Rattle.buffers.specs.Text.{Text}
+use Rattle.syntax.specs.Pieces.{bytes, pieces, newline, joined}
 use Rattle.setup.specs.Setup.{Setup, Setup-answer, accepted, wrong-line, setup}
 use Rattle.repository.specs.Compute.{compute}
 use Rattle.repository.specs.Machine.{Machine}

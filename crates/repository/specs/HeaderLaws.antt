@@ -9,21 +9,20 @@ use lib.Dec.{eqb, leb, ltb}
 use lib.ListN.{length, getD, drop, replicate, length-append, length-replicate}
 use lib.Seq.{drop-at}
 use borrow.Author.Tests.{ne-eqb, leb-true}
+use Rattle.buffers.specs.Cases.{and-both, contra}
+use Rattle.buffers.specs.Text.{every, lacks}
+use Rattle.buffers.specs.Fields.{two-bytes, number-at, padded, text-at, all-bytes, all-from, table-bytes, table-from}
+use Rattle.buffers.specs.FieldsLaws.{length-two-bytes, number-at-bytes, length-padded, text-at-padded}
+use Rattle.buffers.specs.TableLaws.{length-all-bytes, length-table, all-from-bytes, table-from-bytes}
 use Rattle.accounts.specs.declared.Pair.{Pair}
 use Rattle.accounts.specs.Access.{is-root}
-use Rattle.accounts.specs.Cases.{and-both, contra}
 use Rattle.accounts.specs.Dominance.{Bounded-role}
-use Rattle.syntax.specs.Text.{every}
-use Rattle.syntax.specs.TextLaws.{lacks}
 use Rattle.syntax.specs.Path.{is-name}
 use Rattle.syntax.specs.PathLaws.{name-fits}
 use Rattle.syntax.specs.Field.{bounded, bounded-by}
 use Rattle.syntax.specs.Form.{is-some}
 use Rattle.setup.specs.Setup.{Person, Grant, Setup, accounts, most-pairs, most-grants, person, is-person, is-slot, is-pair, is-grant, is-setup}
 use Rattle.setup.specs.SetupLaws.{apart}
-use Rattle.tree.specs.Fields.{two-bytes, number-at, padded, text-at, all-bytes, all-from, table-bytes, table-from}
-use Rattle.tree.specs.FieldsLaws.{length-two-bytes, number-at-bytes, length-padded, text-at-padded}
-use Rattle.tree.specs.TableLaws.{length-all-bytes, length-table, all-from-bytes, table-from-bytes}
 use Rattle.repository.specs.Machine.{Sessions}
 use Rattle.repository.specs.Encoding.{header-width, slot-bytes, slot-of, session-byte, session-of, pair-bytes, pair-of, grant-bytes, grant-of, header-bytes, setup-of, sessions-of}
 

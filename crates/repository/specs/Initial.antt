@@ -5,7 +5,7 @@ use Prim.Native.Nat.{ℕ, zero, suc}
 use lib.ListN.{replicate}
 use Rattle.accounts.specs.declared.Uid.{Uid}
 use Rattle.accounts.specs.declared.Gid.{Gid}
-use Rattle.syntax.specs.Text.{bytes}
+use Rattle.syntax.specs.Pieces.{bytes}
 use Rattle.syntax.specs.Number.{octal, decimal-text}
 use Rattle.syntax.specs.Path.{Name, rep}
 use Rattle.setup.specs.Setup.{Person, Setup, accounts, person}

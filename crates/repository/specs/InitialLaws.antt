@@ -9,10 +9,11 @@ use native.Mathlib.Nat.{add-zero, add-suc}
 use lib.Dec.{ltb}
 use lib.ListN.{getD}
 use borrow.Author.Tests.{not-true, lt-ltb}
+use Rattle.buffers.specs.Cases.{and-both}
+use Rattle.buffers.specs.Text.{same-text, every}
 use Rattle.accounts.specs.declared.Uid.{Uid}
 use Rattle.accounts.specs.declared.Gid.{Gid}
-use Rattle.accounts.specs.Cases.{and-both}
-use Rattle.syntax.specs.Text.{bytes, same-text, every}
+use Rattle.syntax.specs.Pieces.{bytes}
 use Rattle.syntax.specs.Number.{octal, is-mode, digits-before, decimal-text}
 use Rattle.syntax.specs.Path.{Name, rep, name-byte, is-name}
 use Rattle.setup.specs.Setup.{Person, Setup, accounts, person, is-setup}

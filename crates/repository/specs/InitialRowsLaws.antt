@@ -11,10 +11,11 @@ use native.Mathlib.Numerals.{add-one}
 use lib.Dec.{eqb}
 use lib.ListN.{length, getD, length-append, List·getD-map}
 use borrow.Author.Tests.{eqb-true, eq-eqb, ne-eqb, ltb-true, lt-ltb, le-ltb}
+use Rattle.buffers.specs.Cases.{case, contra}
+use Rattle.buffers.specs.Text.{every}
+use Rattle.buffers.specs.TextLaws.{every-getD}
 use Rattle.accounts.specs.declared.Uid.{Uid}
-use Rattle.accounts.specs.Cases.{case, contra}
-use Rattle.syntax.specs.Text.{bytes, every}
-use Rattle.syntax.specs.TextLaws.{every-getD}
+use Rattle.syntax.specs.Pieces.{bytes}
 use Rattle.syntax.specs.Number.{octal, digits-before, decimal-text}
 use Rattle.syntax.specs.Path.{Name, root, depth, rep}
 use Rattle.syntax.specs.PathLaws.{name-fits}

@@ -2,7 +2,8 @@
 use mathlib.Core.Path.{_≡_, refl, ap}
 use mathlib.Core.Bool.{Bool, true, false, _&&_, _||_, not, cond, and-true, and-false, or-true, and-self}
 use Prim.Native.Nat.{ℕ, suc, _/_, _%_}
-use Rattle.accounts.specs.Cases.{case}
+use Rattle.buffers.specs.Cases.{case}
+use Rattle.buffers.specs.Text.{Text}
 use Rattle.accounts.specs.declared.Right.{Right}
 use Rattle.accounts.specs.declared.Right.the-variants.{R, W, X}
 use Rattle.accounts.specs.declared.Uid.{Uid}
@@ -14,7 +15,6 @@ use Rattle.accounts.specs.Access.{is-root, same-uid, grants, may-owner, may-gro
 use Rattle.accounts.specs.Dominance.{same-role, same-role-is, Bounded-role, dominates, dominates-self}
 use Rattle.accounts.specs.Service.{service-uid, service-gid, all-services, service, service-not-root, service-own, same-service, member-service, member-all}
 use Rattle.syntax.specs.Number.{octal}
-use Rattle.syntax.specs.Text.{Text}
 use Rattle.setup.specs.Setup.{Setup}
 use Rattle.tree.specs.declared.Kind.{Kind}
 use Rattle.tree.specs.declared.Kind.the-variants.{File, Directory}

@@ -9,15 +9,15 @@ use native.Mathlib.Omega.{arith}
 use lib.Dec.{eqb, leb, ltb}
 use lib.ListN.{length, set, length-set}
 use borrow.Author.Tests.{not-true, eqb-false, eq-eqb, leb-true, le-leb, ltb-true, lt-ltb}
+use Rattle.buffers.specs.Cases.{and-both}
+use Rattle.buffers.specs.Text.{Text}
 use Rattle.accounts.specs.declared.Caller.{Caller}
 use Rattle.accounts.specs.declared.Uid.{Uid}
 use Rattle.accounts.specs.declared.Right.{Right}
 use Rattle.accounts.specs.declared.Right.the-variants.{R, W}
-use Rattle.accounts.specs.Cases.{and-both}
 use Rattle.accounts.specs.Caller.{is-caller}
 use Rattle.accounts.specs.Dominance.{Bounded-role}
 use Rattle.accounts.specs.Service.{service}
-use Rattle.syntax.specs.Text.{Text}
 use Rattle.syntax.specs.Path.{Path, _▹_, Entry-path, parent, depth, in-rep, entry-location, is-path, is-entry-path, most-names}
 use Rattle.syntax.specs.PathLaws.{entry-parts}
 use Rattle.commands.specs.Command.{line, Repository-command, login, logout, add, co, commit, up, del, Command, shell, repository, is-repository-command, is-command, is-line}

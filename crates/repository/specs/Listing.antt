@@ -4,7 +4,8 @@
 use mathlib.Core.List.{List, [], _∷_, _++_}
 use mathlib.Core.Option.{Option, none, some}
 use Prim.Native.Nat.{ℕ}
-use Rattle.syntax.specs.Text.{Text, bytes, comma, joined}
+use Rattle.buffers.specs.Text.{Text}
+use Rattle.syntax.specs.Pieces.{bytes, comma, joined}
 use Rattle.syntax.specs.Number.{decimal-text, mode-text}
 use Rattle.syntax.specs.Path.{Path, root, _▹_, path-text, entry-text}
 use Rattle.tree.specs.declared.Kind.{Kind}

@@ -8,9 +8,11 @@ use native.Mathlib.Omega.{arith}
 use borrow.Author.Tests.{ltb-true, leb-true, le-leb}
 use lib.Dec.{leb}
 use lib.ListN.{length, getD, length-append}
+use Rattle.buffers.specs.Text.{Text, every}
+use Rattle.buffers.specs.TextLaws.{every-append}
+use Rattle.syntax.specs.Pieces.{bytes, comma, joined}
+use Rattle.syntax.specs.JoinedLaws.{joined-one, joined-more}
 use Rattle.syntax.specs.Compute.{compute as compute-syntax}
-use Rattle.syntax.specs.Text.{Text, bytes, every, comma, joined}
-use Rattle.syntax.specs.TextLaws.{every-append, joined-one, joined-more}
 use Rattle.syntax.specs.Number.{decimal-text, mode-text}
 use Rattle.syntax.specs.NumberLaws.{decimal-length, mode-length}
 use Rattle.syntax.specs.Path.{Path, root, _▹_, depth, most-names, has-names, is-path, path-text, entry-text}

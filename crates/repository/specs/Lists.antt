@@ -6,10 +6,11 @@ use mathlib.Core.Option.{Option, none, some}
 use mathlib.Core.Bool.{true, false, not}
 use Prim.Native.Nat.{ℕ, zero, suc}
 use borrow.Author.Tests.{not-true}
+use Rattle.buffers.specs.Cases.{and-both}
+use Rattle.buffers.specs.Text.{Text, same-text, every}
 use Rattle.accounts.specs.declared.Uid.{Uid}
-use Rattle.accounts.specs.Cases.{and-both}
 use Rattle.accounts.specs.Access.{is-root}
-use Rattle.syntax.specs.Text.{Text, bytes, same-text, every}
+use Rattle.syntax.specs.Pieces.{bytes}
 use Rattle.syntax.specs.Path.{root, rep, in-rep}
 use Rattle.commands.specs.Command.{Line, line}
 use Rattle.setup.specs.Setup.{Person, Setup, accounts, person, is-setup, accepted, setup}

@@ -9,6 +9,7 @@ use mathlib.Core.Bool.{Bool, false, _&&_, _||_, not, cond}
 use Prim.Native.Nat.{ℕ, suc, _+_}
 use lib.Dec.{eqb, leb}
 use lib.ListN.{getD, set}
+use Rattle.buffers.specs.Text.{Text, same-text}
 use Rattle.accounts.specs.declared.Caller.{Caller}
 use Rattle.accounts.specs.declared.Uid.{Uid}
 use Rattle.accounts.specs.declared.Right.{Right}
@@ -17,7 +18,6 @@ use Rattle.accounts.specs.Groups.{with-group}
 use Rattle.accounts.specs.Access.{is-root, same-uid}
 use Rattle.accounts.specs.Caller.{root-caller}
 use Rattle.accounts.specs.Dominance.{same-role, Bounded-role, dominates}
-use Rattle.syntax.specs.Text.{Text, same-text}
 use Rattle.syntax.specs.Path.{Path, Entry-path, parent, last, depth, most-names}
 use Rattle.commands.specs.Command.{Repository-command, login, logout, add, co, commit, up, del, Command, shell, repository}
 use Rattle.setup.specs.Setup.{Person, Grant, Setup, person}

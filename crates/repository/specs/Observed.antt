@@ -3,7 +3,7 @@ use mathlib.Core.Path.{_≡_}
 use mathlib.Core.List.{List}
 use mathlib.Core.Option.{Option, some}
 use mathlib.Core.Bool.{Bool, true, not}
-use Rattle.syntax.specs.Text.{Text, every}
+use Rattle.buffers.specs.Text.{Text, every}
 use Rattle.syntax.specs.Path.{root, _▹_, rep}
 use Rattle.setup.specs.Setup.{Setup, accepted, setup}
 use Rattle.tree.specs.Forest.{Place, get, update, leaf}

@@ -7,11 +7,11 @@ use Prim.Native.Nat.{_+_}
 use native.Mathlib.Omega.{arith}
 use borrow.Author.Tests.{ltb-true, ne-eqb}
 use lib.Dec.{ltb}
+use Rattle.buffers.specs.Cases.{contra}
 use Rattle.accounts.specs.declared.Caller.{Caller}
 use Rattle.accounts.specs.declared.Right.{Right}
 use Rattle.accounts.specs.declared.Right.the-variants.{R, W, X}
 use Rattle.accounts.specs.Access.{same-uid}
-use Rattle.accounts.specs.Cases.{contra}
 use Rattle.accounts.specs.Dominance.{Bounded-role}
 use Rattle.accounts.specs.Service.{service-uid, service, service-not-root, service-own}
 use Rattle.syntax.specs.Path.{Path, _▹_, Entry-path, parent, last, within, lies-below, in-rep, entry-location}

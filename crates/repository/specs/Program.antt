@@ -7,7 +7,8 @@ use mathlib.Core.Bool.{cond}
 use Prim.Native.Nat.{ℕ, zero, suc}
 use lib.Dec.{eqb}
 use lib.ListN.{take}
-use Rattle.syntax.specs.Text.{Text, bytes, comma, newline, pieces, joined}
+use Rattle.buffers.specs.Text.{Text}
+use Rattle.syntax.specs.Pieces.{bytes, comma, newline, pieces, joined}
 use Rattle.syntax.specs.Number.{decimal-text}
 use Rattle.tree.specs.declared.Cause.the-variants.{Missing}
 use Rattle.tree.specs.Causes.{number}

@@ -9,7 +9,8 @@ use borrow.Author.Tests.{eq-eqb}
 use lib.Dec.{eqb}
 use lib.ListN.{length, drop, getElem?, drop-of-length-le}
 use lib.Seq.{take-append-seam}
-use Rattle.syntax.specs.Text.{Text, bytes, comma, newline, pieces, joined}
+use Rattle.buffers.specs.Text.{Text}
+use Rattle.syntax.specs.Pieces.{bytes, comma, newline, pieces, joined}
 use Rattle.syntax.specs.FormLaws.{answered, no-answer}
 use Rattle.syntax.specs.Number.{digits-before, decimal-text}
 use Rattle.setup.specs.Setup.{Setup, Setup-answer, accepted, wrong-line, setup, is-setup}

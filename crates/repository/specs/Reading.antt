@@ -8,11 +8,12 @@ use Prim.Native.Nat.{_≤_}
 use native.Mathlib.Omega.{arith}
 use borrow.Author.Tests.{ltb-true}
 use lib.Dec.{ltb}
+use Rattle.buffers.specs.Cases.{and-both}
+use Rattle.buffers.specs.Text.{every}
 use Rattle.accounts.specs.declared.Role.{Role}
 use Rattle.accounts.specs.declared.Pair.{Pair}
-use Rattle.accounts.specs.Cases.{and-both}
 use Rattle.accounts.specs.Dominance.{Bounded-role, Listed, Dominates, self, down, Falling, falls, all-fall, all-fall-is, dominates-is, dominates-self, dominates-trans}
-use Rattle.syntax.specs.Text.{bytes, every}
+use Rattle.syntax.specs.Pieces.{bytes}
 use Rattle.syntax.specs.Path.{Path, Entry-path, root, _▹_, depth, rep, in-rep, name-byte, is-name}
 use Rattle.syntax.specs.Field.{content-limit, is-content}
 use Rattle.setup.specs.Setup.{Setup, is-pair, is-setup}

@@ -1,9 +1,9 @@
 -- The store: one tree, in which persons and accounts alike are judged by owners, groups and modes.
 use mathlib.Core.Option.{none}
 use Prim.Native.Nat.{ℕ, suc}
+use Rattle.buffers.specs.Text.{Text}
 use Rattle.accounts.specs.Dominance.{Bounded-role}
 use Rattle.accounts.specs.Service.{service-uid, service-gid, service}
-use Rattle.syntax.specs.Text.{Text}
 use Rattle.syntax.specs.Number.{octal}
 use Rattle.syntax.specs.Path.{in-rep, entry-location}
 use Rattle.setup.specs.Setup.{Setup}

@@ -9,11 +9,11 @@ use mathlib.Core.Logic.{_⊎_}
 use Prim.Native.Nat.{ℕ, _≤_, _<_}
 use lib.Dec.{eqb, ltb}
 use lib.ListN.{length, getElem?}
+use Rattle.buffers.specs.Text.{Text, every}
 use Rattle.accounts.specs.declared.Caller.{Caller}
 use Rattle.accounts.specs.declared.Uid.{Uid}
 use Rattle.accounts.specs.Access.{is-root}
 use Rattle.accounts.specs.Dominance.{Bounded-role}
-use Rattle.syntax.specs.Text.{Text, every}
 use Rattle.syntax.specs.Path.{Path, Entry-path, lies-below}
 use Rattle.commands.specs.Command.{Shell-command, Command, shell, some-path, some-walked-path, Line, line}
 use Rattle.setup.specs.Setup.{Setup, accepted, wrong-line, setup, is-setup}

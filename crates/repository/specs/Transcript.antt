@@ -2,7 +2,8 @@
 use mathlib.Core.List.{List, [], _∷_, _++_, map}
 use mathlib.Core.Option.{none, some}
 use mathlib.Core.Bool.{cond}
-use Rattle.syntax.specs.Text.{Text, bytes, newline, same-text, pieces, joined}
+use Rattle.buffers.specs.Text.{Text, same-text}
+use Rattle.syntax.specs.Pieces.{bytes, newline, pieces, joined}
 use Rattle.syntax.specs.Number.{decimal-text}
 use Rattle.setup.specs.Setup.{Setup, Setup-answer, accepted, wrong-line, setup}
 use Rattle.tree.specs.Causes.{number}

@@ -4,7 +4,7 @@ ghost use mathlib.Core.Bool.{true};
 ghost use mathlib.Core.List.{map};
 ghost use Prim.Native.Nat.{_<_};
 ghost use lib.ListN.{length};
-ghost use Rattle.syntax.specs.Text.{every};
+ghost use Rattle.buffers.specs.Text.{every};
 ghost use Rattle.setup.specs.Setup.{Setup};
 ghost use Rattle.setup.specs.Reader.{slot-value};
 ghost use Rattle.tree.specs.Forest.{Forest, Place, put, leaf};

@@ -6,12 +6,12 @@ use mathlib.Core.Bool.{true, cond}
 use Prim.Native.Nat.{ℕ, _≤_}
 use lib.Dec.{eqb}
 use lib.ListN.{length, getD, take}
+use Rattle.buffers.specs.Text.{Text, every}
 use Rattle.setup.specs.declared.Person.{Person as Slot}
 use Rattle.setup.specs.declared.Grant.{Grant as Held-grant}
 use Rattle.setup.specs.declared.Setup.{Setup as Held-setup}
 use Rattle.setup.specs.declared.Reading.{Reading as Held-reading}
 use Rattle.setup.specs.declared.SetupRead.{SetupRead}
-use Rattle.syntax.specs.Text.{Text, every}
 use Rattle.syntax.specs.Form.{_>>=_}
 use Rattle.setup.specs.Setup.{Person, Grant, Setup, Reading, accept, no-setup, setup-line-of, setup-line, Setup-answer, accepted, wrong-line, setup}
 use Rattle.syntax.specs.Parts.{span-text, span-inside}

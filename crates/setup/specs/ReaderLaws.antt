@@ -10,6 +10,9 @@ use native.Mathlib.Numerals.{add-one}
 use borrow.Author.Tests.{eq-eqb, ne-eqb, lt-ltb, le-ltb, le-leb, lt-leb}
 use lib.ListN.{length, length-map, take, drop, getD, set, length-set, length-append, length-drop, take-append-drop}
 use lib.Seq.{length-take-le, take-append-le, drop-append-le, take-suc-set, take-take, getD-take}
+use Rattle.buffers.specs.Cases.{and-both}
+use Rattle.buffers.specs.Text.{Text, every}
+use Rattle.buffers.specs.TextLaws.{every-append, every-implies, every-getD}
 use Rattle.accounts.specs.declared.Uid.{Uid}
 use Rattle.accounts.specs.declared.Gid.{Gid}
 use Rattle.accounts.specs.declared.Role.{Role}
@@ -18,14 +21,11 @@ use Rattle.accounts.specs.declared.Pair.{Pair}
 use Rattle.accounts.specs.Groups.{no-groups, with-group}
 use Rattle.accounts.specs.Access.{is-root}
 use Rattle.accounts.specs.Dominance.{falls}
-use Rattle.accounts.specs.Cases.{and-both}
 use Rattle.syntax.specs.declared.Span.{Span}
 use Rattle.setup.specs.declared.Person.{Person as Slot}
 use Rattle.setup.specs.declared.Grant.{Grant as Held-grant}
 use Rattle.setup.specs.declared.Setup.{Setup as Held-setup}
 use Rattle.setup.specs.declared.Reading.{Reading as Held-reading}
-use Rattle.syntax.specs.Text.{Text, every}
-use Rattle.syntax.specs.TextLaws.{every-append, every-implies, every-getD}
 use Rattle.syntax.specs.Form.{_>>=_, _>>_, check, is-some}
 use Rattle.syntax.specs.FormLaws.{both}
 use Rattle.setup.specs.Setup.{Person, most-pairs, most-grants, person, p-line, g-line, r-line, l-line, Reading, with-person, with-pair, with-grant, joining, accept}

@@ -7,6 +7,7 @@ use mathlib.Core.Bool.{Bool, true, false, _&&_, _||_, not, cond}
 use Prim.Native.Nat.{ℕ, suc, _%_}
 use lib.Dec.{eqb, leb, ltb}
 use lib.ListN.{length, getD, set, replicate}
+use Rattle.buffers.specs.Text.{Text, same-text, every}
 use Rattle.accounts.specs.declared.Uid.{Uid}
 use Rattle.accounts.specs.declared.Gid.{Gid}
 use Rattle.accounts.specs.declared.Role.{Role}
@@ -15,7 +16,7 @@ use Rattle.accounts.specs.declared.Pair.{Pair}
 use Rattle.accounts.specs.Groups.{no-groups, with-group}
 use Rattle.accounts.specs.Access.{is-root}
 use Rattle.accounts.specs.Dominance.{falls}
-use Rattle.syntax.specs.Text.{Text, bytes, comma, newline, same-text, every, pieces}
+use Rattle.syntax.specs.Pieces.{bytes, comma, newline, pieces}
 use Rattle.syntax.specs.Number.{between}
 use Rattle.syntax.specs.Form.{_>>=_, _>>_, check, is-some, Form, two-of, three-of, by-form}
 use Rattle.syntax.specs.Path.{is-name}

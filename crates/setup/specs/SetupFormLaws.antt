@@ -6,11 +6,12 @@ use mathlib.Core.Bool.{true, false}
 use Prim.Native.Nat.{ℕ, _%_, _≤_}
 use native.Mathlib.Omega.{arith}
 use lib.ListN.{length}
-use Rattle.accounts.specs.Cases.{case, contra}
+use Rattle.buffers.specs.Cases.{case, contra}
+use Rattle.buffers.specs.Text.{Text, same-text}
+use Rattle.buffers.specs.TextLaws.{same-text-sound}
 use Rattle.syntax.specs.declared.Number.{Number}
 use Rattle.syntax.specs.declared.Number.the-variants.{Value, Nothing}
-use Rattle.syntax.specs.Text.{Text, bytes, same-text}
-use Rattle.syntax.specs.TextLaws.{same-text-sound}
+use Rattle.syntax.specs.Pieces.{bytes}
 use Rattle.syntax.specs.Number.{between}
 use Rattle.syntax.specs.Form.{_>>=_, _>>_, check, none-of, one-of, two-of, three-of, by-form}
 use Rattle.syntax.specs.Field.{password}

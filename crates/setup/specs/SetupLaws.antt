@@ -12,18 +12,19 @@ use lib.ListN.{length, getD, set, length-set, length-append}
 use lib.Seq.{getD-set-same, getD-set-other}
 use lib.Bits.{bitOr, or-lt, or-step}
 use lib.Pow.{pow-lt}
+use Rattle.buffers.specs.Cases.{case, and-both, contra}
+use Rattle.buffers.specs.Text.{Text, same-text, every}
+use Rattle.buffers.specs.TextLaws.{every-implies, every-append, every-getD, every-set}
 use Rattle.accounts.specs.declared.Uid.{Uid}
 use Rattle.accounts.specs.declared.Gid.{Gid}
 use Rattle.accounts.specs.declared.Pair.{Pair}
 use Rattle.accounts.specs.Groups.{no-groups, with-group}
 use Rattle.accounts.specs.Access.{is-root}
 use Rattle.accounts.specs.Dominance.{falls}
-use Rattle.accounts.specs.Cases.{case, and-both, contra}
-use Rattle.syntax.specs.Text.{Text, bytes, comma, newline, same-text, every, pieces}
+use Rattle.syntax.specs.Pieces.{bytes, comma, newline, pieces}
 use Rattle.syntax.specs.Form.{_>>=_, _>>_, check, is-some}
 use Rattle.syntax.specs.Path.{is-name}
 use Rattle.setup.specs.Setup.{Person, Grant, Setup, accounts, most-pairs, most-grants, longest-line, person, Setup-line, p-line, g-line, r-line, l-line, person-uid, person-or-root, person-gid, plain-role, setup-form, setup-forms, setup-line-of, setup-line, Reading, with-person, with-pair, with-grant, joining, accept, no-setup, Setup-answer, accepted, wrong-line, stops, continue, read-lines, setup, is-person, is-slot, is-pair, is-grant, is-setup}
-use Rattle.syntax.specs.TextLaws.{every-implies, every-append, every-getD, every-set}
 use Rattle.syntax.specs.FormLaws.{no-answer, both-read, checked, answered, both, Gives, any-gives, two-gives, three-gives, Forms-give, no-form, _also_, by-form-gives}
 use Rattle.syntax.specs.FieldLaws.{number-gives, within-bound, password-gives}
 

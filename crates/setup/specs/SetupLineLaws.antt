@@ -10,14 +10,15 @@ use borrow.Author.Tests.{ne-eqb, le-leb, lt-leb}
 use lib.Dec.{eqb}
 use lib.ListN.{length, take, drop, length-drop, drop-of-length-le}
 use lib.Seq.{length-take-le, take-add, drop-at}
-use Rattle.accounts.specs.Cases.{case}
+use Rattle.buffers.specs.Cases.{case}
+use Rattle.buffers.specs.Text.{Text, same-text}
+use Rattle.syntax.specs.Pieces.{bytes, comma, newline, prefix-first, pieces, piece-length}
+use Rattle.syntax.specs.Parts.{part}
 use Rattle.setup.specs.declared.Setup.{Setup as Held-setup}
 use Rattle.setup.specs.declared.Reading.{Reading as Held-reading}
 use Rattle.setup.specs.declared.SetupRead.{SetupRead}
-use Rattle.syntax.specs.Text.{Text, bytes, comma, newline, same-text, prefix-first, pieces}
 use Rattle.syntax.specs.Form.{_>>=_, _>>_, check}
 use Rattle.setup.specs.Setup.{longest-line, setup-line, Reading, no-setup, accepted, wrong-line, stops, continue, read-lines, setup}
-use Rattle.syntax.specs.Parts.{part, piece-length}
 use Rattle.syntax.specs.PartsLaws.{pieces-some, pieces-first-from, pieces-only-from}
 use Rattle.setup.specs.Reader.{setup-value, reading-value, Held, Read-as, reading-told, setup-told, fields-accepted, line-accepted}
 use Rattle.setup.specs.ReaderLaws.{Told, held-whole, reading-whole}

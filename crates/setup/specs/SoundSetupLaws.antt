@@ -11,12 +11,12 @@ use lib.Dec.{eqb, leb, ltb}
 use lib.ListN.{getD, getElem?}
 use lib.Pow.{pow-mono, pow-add}
 use borrow.Author.Tests.{eqb-true, eqb-false, eq-eqb, ltb-true, lt-ltb, ltb-false, leb-true, leb-false, le-leb}
+use Rattle.buffers.specs.Cases.{case, and-both, contra}
+use Rattle.buffers.specs.Text.{every}
 use Rattle.accounts.specs.declared.Pair.{Pair}
 use Rattle.accounts.specs.Groups.{member}
 use Rattle.accounts.specs.Access.{is-root}
-use Rattle.accounts.specs.Cases.{case, and-both, contra}
 use Rattle.accounts.specs.Dominance.{falls}
-use Rattle.syntax.specs.Text.{every}
 use Rattle.syntax.specs.Path.{is-name}
 use Rattle.syntax.specs.Form.{is-some}
 use Rattle.syntax.specs.FormLaws.{no-answer, answered, both, the-some}

@@ -4,7 +4,7 @@ ghost use mathlib.Core.Bool.{true, false};
 ghost use mathlib.Core.List.{[], _∷_};
 ghost use Prim.Native.Nat.{_≤_, _<_};
 ghost use lib.ListN.{length, drop};
-ghost use Rattle.syntax.specs.Text.{Text};
+ghost use Rattle.buffers.specs.Text.{Text};
 ghost use Rattle.setup.specs.Setup.{p-line, g-line, r-line, l-line, accept, no-setup};
 ghost use Rattle.syntax.specs.Parts.{Inside, span-text};
 ghost use Rattle.setup.specs.Reader.{Held, Read-as, setup-value, reading-value, reading-told, fields-accepted, line-accepted};

@@ -4,7 +4,7 @@ use mathlib.Core.Option.{Option, some}
 use mathlib.Core.Bool.{Bool, true, false}
 use Prim.Native.Nat.{_≤_}
 use lib.ListN.{length}
-use Rattle.syntax.specs.Text.{Text}
+use Rattle.buffers.specs.Text.{Text}
 use Rattle.tree.specs.declared.Cause.{Cause}
 use Rattle.tree.specs.declared.Cause.the-variants.{NoForm, UnknownCaller, Missing, NotDirectory, Access, Exists, WrongKind, NotEmpty, Reserved, Full, IntoItself, NoSession, NoGrant, Stale, Untagged, RevisionsSpent, Unsound, TooDeep, ShortAnswer}
 use Rattle.shell.specs.Steps.{longest-text}

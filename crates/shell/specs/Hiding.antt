@@ -5,6 +5,8 @@ use mathlib.Core.Option.{none, some}
 use mathlib.Core.Bool.{Bool, true, false, _&&_, _||_, not}
 use Prim.Native.Nat.{ℕ, _+_}
 use borrow.Author.Tests.{not-true}
+use Rattle.buffers.specs.Cases.{contra, neither}
+use Rattle.buffers.specs.Text.{Text}
 use Rattle.accounts.specs.declared.Caller.{Caller}
 use Rattle.accounts.specs.declared.Uid.{Uid}
 use Rattle.accounts.specs.declared.Gid.{Gid}
@@ -12,8 +14,6 @@ use Rattle.accounts.specs.declared.Right.{Right}
 use Rattle.accounts.specs.declared.Right.the-variants.{R, W, X}
 use Rattle.accounts.specs.Groups.{member}
 use Rattle.accounts.specs.Access.{is-root, same-uid}
-use Rattle.accounts.specs.Cases.{contra, neither}
-use Rattle.syntax.specs.Text.{Text}
 use Rattle.syntax.specs.Number.{set-gid}
 use Rattle.syntax.specs.Path.{Path, parent, last, rep, reserved}
 use Rattle.commands.specs.Command.{Shell-command, create, mkdir, read, write, rm, rmdir, mv, chmod, chgrp, chown}

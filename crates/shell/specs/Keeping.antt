@@ -6,12 +6,12 @@ use Prim.Native.Nat.{ℕ, suc, _+_, _/_, _≤_}
 use native.Mathlib.Omega.{arith}
 use lib.Dec.{ltb}
 use borrow.Author.Tests.{not-true, leb-true, ltb-true, ne-eqb}
+use Rattle.buffers.specs.Cases.{and-both, contra, neither}
+use Rattle.buffers.specs.Text.{Text}
 use Rattle.accounts.specs.declared.Caller.{Caller}
 use Rattle.accounts.specs.declared.Uid.{Uid}
 use Rattle.accounts.specs.declared.Gid.{Gid}
-use Rattle.accounts.specs.Cases.{and-both, contra, neither}
 use Rattle.accounts.specs.Caller.{is-caller}
-use Rattle.syntax.specs.Text.{Text}
 use Rattle.syntax.specs.Number.{set-gid, is-mode}
 use Rattle.syntax.specs.Path.{Path, root, _▹_, parent, last, depth, is-top, reserved, is-path, most-names}
 use Rattle.syntax.specs.PathLaws.{path-depth, last-is-name, parent-depth, not-reserved}

@@ -6,6 +6,8 @@ use mathlib.Core.Bool.{Bool, true, false, _&&_, _||_, not, or-true}
 use mathlib.Core.Logic.{_⊎_, inl, inr, ⊎-elim}
 use Prim.Native.Nat.{ℕ}
 use borrow.Author.Tests.{not-true}
+use Rattle.buffers.specs.Cases.{case, contra}
+use Rattle.buffers.specs.Text.{Text}
 use Rattle.accounts.specs.declared.Caller.{Caller}
 use Rattle.accounts.specs.declared.Uid.{Uid}
 use Rattle.accounts.specs.declared.Gid.{Gid}
@@ -14,8 +16,6 @@ use Rattle.accounts.specs.declared.Right.the-variants.{W, X}
 use Rattle.accounts.specs.Groups.{member}
 use Rattle.accounts.specs.declared.Account.{Account}
 use Rattle.accounts.specs.Access.{is-root, same-uid, may-group, may-other, grants-none}
-use Rattle.accounts.specs.Cases.{case, contra}
-use Rattle.syntax.specs.Text.{Text}
 use Rattle.syntax.specs.Number.{octal}
 use Rattle.syntax.specs.Path.{Name, Path, root, _▹_, parent, last, is-top, same-path, within, lies-below, reserved}
 use Rattle.syntax.specs.WithinLaws.{same-path-sound, top-not-below}

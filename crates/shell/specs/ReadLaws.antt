@@ -8,9 +8,11 @@ use native.Mathlib.Omega.{arith}
 use borrow.Author.Tests.{le-leb}
 use lib.Dec.{leb}
 use lib.ListN.{length}
-use Rattle.accounts.specs.Cases.{case}
-use Rattle.syntax.specs.Text.{Text, every, comma, joined}
-use Rattle.syntax.specs.TextLaws.{every-implies, joined-length}
+use Rattle.buffers.specs.Cases.{case}
+use Rattle.buffers.specs.Text.{Text, every}
+use Rattle.buffers.specs.TextLaws.{every-implies}
+use Rattle.syntax.specs.Pieces.{comma, joined}
+use Rattle.syntax.specs.JoinedLaws.{joined-length}
 use Rattle.syntax.specs.Path.{Path, is-name}
 use Rattle.syntax.specs.PathLaws.{name-length}
 use Rattle.syntax.specs.FieldLaws.{content-length}

@@ -3,9 +3,9 @@ use mathlib.Core.Path.{_≡_, _∙_}
 use mathlib.Core.Option.{some}
 use mathlib.Core.Bool.{true, false, _||_}
 use Prim.Native.Nat.{ℕ}
+use Rattle.buffers.specs.Cases.{case, contra}
 use Rattle.accounts.specs.declared.Caller.{Caller}
 use Rattle.accounts.specs.declared.Right.the-variants.{X}
-use Rattle.accounts.specs.Cases.{case, contra}
 use Rattle.syntax.specs.Path.{Path, root, _▹_, parent, within, lies-below}
 use Rattle.syntax.specs.WithinLaws.{top-not-below, below-parent}
 use Rattle.commands.specs.Command.{Shell-command, create, mkdir, read, write, rm, rmdir, mv, chmod, chgrp, chown, some-path}

@@ -8,18 +8,19 @@ use lib.Dec.{eqb, leb, ltb}
 use lib.ListN.{length, getD, take, drop, length-drop, List·getD-eq-default}
 use lib.Seq.{length-take-le, drop-drop}
 use borrow.Author.Tests.{lt-ltb, le-ltb, ltb-true, ltb-false}
-use Rattle.accounts.specs.Cases.{case}
+use Rattle.buffers.specs.Cases.{case}
+use Rattle.buffers.specs.Fields.{text-at, all-zero, zeros-at, is-filled}
+use Rattle.buffers.specs.FieldsLaws.{part-of-take}
 use Rattle.syntax.specs.Number.{is-mode}
 use Rattle.syntax.specs.Path.{entry-path}
 use Rattle.syntax.specs.Field.{is-content}
 use Rattle.syntax.specs.Form.{is-some}
 use Rattle.tree.specs.WellFormed.{last-revision, fits-kind}
-use Rattle.tree.specs.Fields.{text-at}
 use Rattle.tree.specs.Encoding.{row-width, row-of}
 use Rattle.tree.specs.RowAt.{row-bytes-at, row-at, tag-text-at, tag-number-at}
-use Rattle.tree.specs.RowAtLaws.{part-of-take, byte-in-row}
-use Rattle.soundness.specs.Sound.{is-row, all-zero}
-use Rattle.soundness.specs.Tests.{zeros-at, is-filled, has-numbers, has-tag, has-content, row-test}
+use Rattle.tree.specs.RowAtLaws.{byte-in-row}
+use Rattle.soundness.specs.Sound.{is-row}
+use Rattle.soundness.specs.Tests.{has-numbers, has-tag, has-content, row-test}
 use Rattle.soundness.specs.RowTestLaws.{length-text-at, row-test-is}
 
 module _ (b : List ℕ) (i : ℕ) where

@@ -10,8 +10,8 @@ use lib.Dec.{eqb, leb}
 use lib.ListN.{length, drop, length-drop}
 use lib.Seq.{drop-drop}
 use borrow.Author.Tests.{leb-true, leb-false, le-leb, eqb-true, eqb-false, eq-eqb}
-use Rattle.accounts.specs.Cases.{case, and-both, contra}
-use Rattle.syntax.specs.Text.{precedes, every}
+use Rattle.buffers.specs.Cases.{case, and-both, contra}
+use Rattle.buffers.specs.Text.{precedes, every}
 use Rattle.syntax.specs.Path.{Name, is-name, most-names}
 use Rattle.tree.specs.declared.Kind.{Kind}
 use Rattle.tree.specs.Forest.{Forest, nil, node, Place, is-empty, height}

@@ -8,14 +8,14 @@ use lib.Dec.{eqb, leb}
 use lib.ListN.{length, getD, set, take, drop, drop-of-length-le}
 use lib.Seq.{getD-set-same, getD-set-other, drop-cons, drop-drop}
 use borrow.Author.Tests.{leb-true, leb-false, le-leb, lt-leb, eqb-true, eqb-false, eq-eqb, ne-eqb}
-use Rattle.accounts.specs.Cases.{case, contra}
-use Rattle.syntax.specs.Text.{precedes, every}
+use Rattle.buffers.specs.Cases.{case, contra}
+use Rattle.buffers.specs.Text.{precedes, every}
+use Rattle.buffers.specs.TableLaws.{length-all-from, all-from-at}
 use Rattle.syntax.specs.Path.{Name, is-name, most-names}
 use Rattle.tree.specs.declared.Kind.{Kind}
 use Rattle.tree.specs.Node.{is-directory, Node}
 use Rattle.tree.specs.Rows.{Row}
 use Rattle.tree.specs.Encoding.{row-width}
-use Rattle.tree.specs.TableLaws.{length-all-from, all-from-at}
 use Rattle.tree.specs.RowAt.{row-count, row-bytes-at, row-at, all-rows}
 use Rattle.tree.specs.RowAtLaws.{length-all-rows, row-in-rows}
 use Rattle.soundness.specs.Sound.{is-row, row-stretches, outermost, innermost, may-follow, follows, in-order}

@@ -11,9 +11,12 @@ use lib.Dec.{eqb, leb, ltb}
 use lib.ListN.{length, getD, take, drop, replicate, take-append-drop, length-drop, length-append}
 use lib.Seq.{take-add, drop-drop, drop-cons, length-take-le, take-nil, take-all}
 use borrow.Author.Tests.{eqb-true, eq-eqb, eqb-false, ne-eqb}
-use Rattle.accounts.specs.Cases.{case}
-use Rattle.syntax.specs.Text.{Text, bytes, same-text, every}
-use Rattle.syntax.specs.TextLaws.{same-text-refl, every-append}
+use Rattle.buffers.specs.Cases.{case}
+use Rattle.buffers.specs.Text.{Text, same-text, every}
+use Rattle.buffers.specs.TextLaws.{same-text-refl, every-append}
+use Rattle.buffers.specs.Fields.{two-bytes, number-at, padded, unpadded, text-at, all-zero, zeros-at, is-filled}
+use Rattle.buffers.specs.FieldsLaws.{length-padded, length-two-bytes}
+use Rattle.syntax.specs.Pieces.{bytes}
 use Rattle.syntax.specs.Form.{_>>=_}
 use Rattle.syntax.specs.Number.{is-mode}
 use Rattle.syntax.specs.Field.{is-content}
@@ -21,12 +24,10 @@ use Rattle.syntax.specs.Form.{is-some}
 use Rattle.syntax.specs.Path.{Entry-path, entry-path}
 use Rattle.syntax.specs.PathLaws.{entry-is-entry}
 use Rattle.tree.specs.WellFormed.{last-revision, is-tag, fits-kind, is-node}
-use Rattle.tree.specs.Fields.{two-bytes, number-at, padded, unpadded, text-at}
-use Rattle.tree.specs.FieldsLaws.{length-padded, length-two-bytes}
 use Rattle.tree.specs.Encoding.{kind-byte, kind-of, tag-bytes, tag-of, row-bytes, row-of}
-use Rattle.soundness.specs.Sound.{is-row, all-zero}
 use Rattle.syntax.specs.ParentLaws.{text-of-entry}
-use Rattle.soundness.specs.Tests.{zeros-at, is-filled, has-numbers, has-tag, has-content, row-test}
+use Rattle.soundness.specs.Sound.{is-row}
+use Rattle.soundness.specs.Tests.{has-numbers, has-tag, has-content, row-test}
 
 -- ---- bytes written and read
 

@@ -5,13 +5,13 @@ use mathlib.Core.Bool.{Bool, true, false, _&&_, cond}
 use Prim.Native.Nat.{ℕ, suc, _+_, _-_, _*_}
 use lib.Dec.{eqb, leb}
 use lib.ListN.{length, take, drop}
-use Rattle.syntax.specs.Text.{same-text, precedes, every}
+use Rattle.buffers.specs.Text.{same-text, precedes, every}
+use Rattle.buffers.specs.Fields.{two-bytes, all-from, all-zero}
 use Rattle.syntax.specs.Path.{Name, is-name, most-names}
 use Rattle.tree.specs.declared.Kind.{Kind}
 use Rattle.tree.specs.Node.{is-directory, Node}
 use Rattle.tree.specs.Rows.{Row}
 use Rattle.tree.specs.WellFormed.{most-nodes, is-node}
-use Rattle.tree.specs.Fields.{two-bytes, all-from}
 use Rattle.tree.specs.Encoding.{row-width, tree-width, row-bytes, row-of}
 use Rattle.tree.specs.RowAt.{row-count, all-rows}
 
@@ -58,9 +58,6 @@ is-top r = (eqb (r .depth) 0 && eqb (length (r .name)) 0) && is-directory (r .he
 unfoldable pub form-tree : List (Row Node) → Bool
 form-tree [] = false
 form-tree (r ∷ rs) = is-top r && in-order [] (r .here .kind) rs
-
-unfoldable pub all-zero : List ℕ → Bool
-all-zero l = every (λ b. eqb b 0) l
 
 -- whether the number of rows stands in its two bytes as it is written, and is not too large
 unfoldable pub is-count : List ℕ → Bool

@@ -10,10 +10,12 @@ use lib.Dec.{eqb, leb}
 use lib.ListN.{length, take, drop, replicate, take-append-drop, length-drop}
 use lib.Seq.{take-add, take-at, drop-at, drop-drop}
 use borrow.Author.Tests.{leb-true, le-leb, eqb-true, eq-eqb}
-use Rattle.accounts.specs.Cases.{case, and-both, contra}
+use Rattle.buffers.specs.Cases.{case, and-both, contra}
+use Rattle.buffers.specs.Text.{same-text, every}
+use Rattle.buffers.specs.TextLaws.{same-text-refl, same-text-sound}
+use Rattle.buffers.specs.Fields.{two-bytes, all-bytes, all-from, all-zero}
+use Rattle.buffers.specs.TableLaws.{length-all-bytes}
 use Rattle.syntax.specs.Form.{is-some}
-use Rattle.syntax.specs.Text.{same-text, every}
-use Rattle.syntax.specs.TextLaws.{same-text-refl, same-text-sound}
 use Rattle.syntax.specs.FormLaws.{no-answer}
 use Rattle.tree.specs.Forest.{Place}
 use Rattle.tree.specs.Node.{is-directory, Node}
@@ -21,13 +23,11 @@ use Rattle.tree.specs.Rows.{Row, rows}
 use Rattle.tree.specs.RowLaws.{length-rows}
 use Rattle.tree.specs.WellFormed.{most-nodes, is-node, is-tree}
 use Rattle.tree.specs.WellFormedLaws.{place-parts, place-of-parts, tree-parts, tree-of-parts, most-nodes-is}
-use Rattle.tree.specs.Fields.{two-bytes, all-bytes, all-from}
-use Rattle.tree.specs.TableLaws.{length-all-bytes}
 use Rattle.tree.specs.Encoding.{row-width, tree-width, row-bytes, row-of, encode-rows, encode-tree, decode-tree}
 use Rattle.tree.specs.EncodingLaws.{fits, fits-parts, tree-fits, length-fitting, fitting-back, tree-width-is, length-encode-tree, decode-encode, encode-decode}
 use Rattle.tree.specs.RowAt.{row-count, all-rows}
 use Rattle.tree.specs.RowAtLaws.{length-all-rows, all-rows-of-tree, row-count-of-tree}
-use Rattle.soundness.specs.Sound.{is-row, row-stretches, in-order, is-top, form-tree, all-zero, is-count, is-sound}
+use Rattle.soundness.specs.Sound.{is-row, row-stretches, in-order, is-top, form-tree, is-count, is-sound}
 use Rattle.soundness.specs.OrderLaws.{forest-of-rows, forest-in-order}
 
 -- ---- zeros

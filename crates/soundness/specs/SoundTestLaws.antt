@@ -8,17 +8,17 @@ use lib.Dec.{eqb}
 use lib.ListN.{length, getD, take, drop, length-drop}
 use lib.Seq.{take-all}
 use borrow.Author.Tests.{le-leb, lt-leb, eqb-true, eqb-false, eq-eqb, ne-eqb}
-use Rattle.accounts.specs.Cases.{case, contra}
-use Rattle.syntax.specs.Text.{same-text, every}
-use Rattle.syntax.specs.TextLaws.{same-text-refl}
+use Rattle.buffers.specs.Cases.{case, contra}
+use Rattle.buffers.specs.Text.{same-text, every}
+use Rattle.buffers.specs.TextLaws.{same-text-refl}
+use Rattle.buffers.specs.Fields.{two-bytes, number-at, all-from, all-zero, zeros-at}
 use Rattle.tree.specs.Node.{is-directory, Node}
 use Rattle.tree.specs.Rows.{Row}
 use Rattle.tree.specs.WellFormed.{most-nodes}
-use Rattle.tree.specs.Fields.{two-bytes, number-at, all-from}
 use Rattle.tree.specs.Encoding.{row-width, tree-width}
 use Rattle.tree.specs.RowAt.{row-count, row-bytes-at, row-at, all-rows}
-use Rattle.soundness.specs.Sound.{is-row, row-stretches, in-order, is-top, form-tree, all-zero, is-count, is-sound}
-use Rattle.soundness.specs.Tests.{rest-in-order, zeros-at}
+use Rattle.soundness.specs.Sound.{is-row, row-stretches, in-order, is-top, form-tree, is-count, is-sound}
+use Rattle.soundness.specs.Tests.{rest-in-order}
 use Rattle.soundness.specs.RowTestLaws.{same-number}
 use Rattle.soundness.specs.OrderTestLaws.{stretches-from, rows-from}
 

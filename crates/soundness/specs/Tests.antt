@@ -3,26 +3,18 @@ use mathlib.Core.List.{List}
 use mathlib.Core.Bool.{Bool, _&&_, _||_, cond}
 use Prim.Native.Nat.{ℕ, _+_, _-_}
 use lib.Dec.{eqb, leb, ltb}
-use lib.ListN.{length, getD, take, drop}
+use lib.ListN.{length, getD, drop}
+use Rattle.buffers.specs.Text.{every}
+use Rattle.buffers.specs.Fields.{number-at, text-at, is-filled, zeros-at}
 use Rattle.syntax.specs.Number.{is-mode}
-use Rattle.syntax.specs.Text.{every}
 use Rattle.syntax.specs.Path.{Name, entry-path}
 use Rattle.syntax.specs.Field.{is-content}
 use Rattle.syntax.specs.Form.{is-some}
 use Rattle.tree.specs.WellFormed.{last-revision, fits-kind}
-use Rattle.tree.specs.Fields.{number-at, text-at}
 use Rattle.tree.specs.Encoding.{kind-of}
 use Rattle.tree.specs.declared.Kind.{Kind}
 use Rattle.tree.specs.RowAt.{all-rows}
-use Rattle.soundness.specs.Sound.{is-row, row-stretches, in-order, all-zero}
-
--- so many bytes from a place are zero
-unfoldable pub zeros-at : ℕ → ℕ → List ℕ → Bool
-zeros-at i n x = all-zero (take n (drop i x))
-
--- a field's bytes behind its text are zero
-unfoldable pub is-filled : ℕ → ℕ → List ℕ → Bool
-is-filled i width x = let n = length (text-at i width x) in zeros-at (i + n) (width - n) x
+use Rattle.soundness.specs.Sound.{is-row, row-stretches, in-order}
 
 -- kind, owner, group, mode and revision are in range
 unfoldable pub has-numbers : List ℕ → Bool

@@ -9,11 +9,11 @@ ghost use Rattle.soundness.specs.Sound.{is-top};
 mod order;
 mod row;
 
+use buffers::is_zero;
 use order::in_order;
 use row::ROW;
 use row::is_directory;
 use row::is_row;
-use row::is_zero;
 
 // The bytes of a tree.
 const TREE: usize = 59394;

@@ -8,7 +8,7 @@ ghost use Rattle.soundness.specs.Sound.{may-follow};
 ghost use Rattle.soundness.specs.Tests.{rest-in-order};
 use crate::row::is_directory;
 use crate::row::is_row;
-use tree::Order;
+use buffers::Order;
 
 // Whether a row may follow the one before it, where the row at its depth last seen is given.
 fn follows(tree: &[u8], i: usize, beside: usize) -> bool
@@ -30,7 +30,7 @@ fn follows(tree: &[u8], i: usize, beside: usize) -> bool
         }
         return is_directory(tree::kind_at(tree, i - 1));
     }
-    match tree::compare(tree::name_at(tree, beside), name) {
+    match buffers::compare(tree::name_at(tree, beside), name) {
         Order::Before => true,
         Order::Same => false,
         Order::After => false,

@@ -1,33 +1,21 @@
 // The bytes of one row, field by field.
 ghost use mathlib.Core.Path.{_≡_};
 ghost use mathlib.Core.Bool.{_||_};
-ghost use Prim.Native.Nat.{_-_, _≤_, _<_};
+ghost use Prim.Native.Nat.{_-_, _<_};
 ghost use lib.Dec.{eqb};
 ghost use lib.ListN.{length};
+ghost use Rattle.buffers.specs.Fields.{is-filled};
 ghost use Rattle.syntax.specs.Number.{is-mode};
 ghost use Rattle.tree.specs.Node.{is-directory};
 ghost use Rattle.tree.specs.WellFormed.{fits-kind};
 ghost use Rattle.tree.specs.RowAt.{row-bytes-at};
 ghost use Rattle.soundness.specs.Sound.{is-row};
-ghost use Rattle.soundness.specs.Tests.{zeros-at, is-filled, has-numbers, has-tag, has-content};
+ghost use Rattle.soundness.specs.Tests.{has-numbers, has-tag, has-content};
+use buffers::is_zero;
 use tree::Kind;
 
 // The bytes of a row.
 pub const ROW: usize = 232;
-
-// Whether the bytes from one place up to another are all 0.
-pub fn is_zero(s: &[u8], from: usize, to: usize) -> bool
-    requires { ⌜ (from ≤ to) × (to ≤ length (now s)) ⌝ }
-    ensures { λ r. ⌜ r ≡ zeros-at from (to - from) (now (s .entry)) ⌝ }
-{
-    let mut all: u8 = 0;
-    let mut i = from;
-    while i < to {
-        all = all | s[i];
-        i += 1;
-    }
-    all == 0
-}
 
 // Whether a byte says what a node is.
 fn is_kind(b: u8) -> bool

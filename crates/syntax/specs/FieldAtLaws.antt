@@ -9,10 +9,11 @@ use native.Mathlib.Numerals.{add-one}
 use borrow.Author.Tests.{eqb-true, eqb-false}
 use lib.Dec.{eqb}
 use lib.ListN.{length, drop}
+use Rattle.buffers.specs.Text.{Text}
 use Rattle.syntax.specs.declared.Span.{Span}
 use Rattle.syntax.specs.declared.Field.{Field}
-use Rattle.syntax.specs.Text.{Text, comma, pieces}
-use Rattle.syntax.specs.Parts.{part, span-text, Inside, piece-length, field-at}
+use Rattle.syntax.specs.Pieces.{comma, pieces, piece-length}
+use Rattle.syntax.specs.Parts.{part, span-text, Inside, field-at}
 use Rattle.syntax.specs.PartsLaws.{piece-end-le, pieces-first-from, pieces-only-from}
 
 -- the field that starts at a place

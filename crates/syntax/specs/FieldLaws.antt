@@ -8,14 +8,14 @@ use native.Mathlib.Omega.{arith}
 use borrow.Author.Tests.{eqb-true, eq-eqb, ne-eqb, lt-ltb, leb-true, not-true}
 use lib.Dec.{eqb, leb, ltb}
 use lib.ListN.{length}
-use Rattle.accounts.specs.Cases.{case, and-both, contra}
-use Rattle.syntax.specs.Text.{Text, every}
+use Rattle.buffers.specs.Cases.{case, and-both, contra}
+use Rattle.buffers.specs.Text.{Text, every, lacks}
+use Rattle.buffers.specs.TextLaws.{every-implies}
 use Rattle.syntax.specs.Number.{digit, value-after, decimal, between, mode-digits, mode, set-gid, is-mode}
 use Rattle.syntax.specs.NumberLaws.{digit-bounds}
 use Rattle.syntax.specs.Form.{_>>=_, _>>_, check}
 use Rattle.syntax.specs.Path.{is-name}
 use Rattle.syntax.specs.Field.{uid, gid, plain-mode, password, content-limit, content-byte, is-content, content}
-use Rattle.syntax.specs.TextLaws.{lacks, every-implies}
 use Rattle.syntax.specs.FormLaws.{both-read, checked, answered, Gives, checked-gives}
 
 -- a number read between two bounds is between them

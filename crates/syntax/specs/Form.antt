@@ -4,7 +4,7 @@
 use mathlib.Core.List.{List, [], _∷_}
 use mathlib.Core.Option.{Option, none, some}
 use mathlib.Core.Bool.{Bool, true, false, cond}
-use Rattle.syntax.specs.Text.{Text, same-text}
+use Rattle.buffers.specs.Text.{Text, same-text}
 
 infixl 10 _>>=_
 infixl 10 _>>_

@@ -6,8 +6,8 @@ use mathlib.Core.Option.{Option, none, some}
 use mathlib.Core.Bool.{Bool, true, false, _&&_}
 use Prim.Native.Nat.{suc}
 use lib.ListN.{length}
-use Rattle.accounts.specs.Cases.{case, contra}
-use Rattle.syntax.specs.Text.{Text, same-text}
+use Rattle.buffers.specs.Cases.{case, contra}
+use Rattle.buffers.specs.Text.{Text, same-text}
 use Rattle.syntax.specs.Form.{_>>=_, _>>_, check, is-some, Form, none-of, one-of, two-of, three-of, by-form}
 
 -- no answer is not an answer

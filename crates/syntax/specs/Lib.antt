@@ -1,5 +1,5 @@
-pub mod Text
-pub mod TextLaws
+pub mod Pieces
+pub mod JoinedLaws
 pub mod Number
 pub mod Form
 pub mod FormLaws

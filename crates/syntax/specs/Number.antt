@@ -5,7 +5,7 @@ use mathlib.Core.Bool.{Bool, true, false, _&&_, _||_, not, cond}
 use Prim.Native.Nat.{ℕ, zero, suc, _+_, _-_, _*_, _/_, _%_}
 use lib.Dec.{eqb, leb, ltb}
 use lib.ListN.{length}
-use Rattle.syntax.specs.Text.{Text, every}
+use Rattle.buffers.specs.Text.{Text, every}
 use Rattle.syntax.specs.Form.{_>>=_, _>>_, check}
 
 -- whether a byte is a digit below the base

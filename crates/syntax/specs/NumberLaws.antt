@@ -9,8 +9,8 @@ use native.Mathlib.Omega.{arith}
 use borrow.Author.Tests.{eqb-true, eqb-false, ne-eqb, ltb-true, ltb-false, lt-ltb, le-ltb, leb-true, le-leb, not-true}
 use lib.Dec.{eqb, leb, ltb}
 use lib.ListN.{length}
-use Rattle.accounts.specs.Cases.{case, and-both, contra}
-use Rattle.syntax.specs.Text.{Text, every}
+use Rattle.buffers.specs.Cases.{case, and-both, contra}
+use Rattle.buffers.specs.Text.{Text, every}
 use Rattle.syntax.specs.Number.{digit, value-after, no-leading-zero, decimal, mode-digits, mode, set-gid, is-mode, octal, digits-before, decimal-text, mode-text}
 use Rattle.syntax.specs.Form.{_>>_, check}
 use Rattle.syntax.specs.FormLaws.{checked, answered}

@@ -9,16 +9,17 @@ use borrow.Author.Tests.{eq-eqb, ne-eqb, ltb-true, ltb-false, leb-true, leb-fals
 use lib.Dec.{eqb, leb, ltb}
 use lib.ListN.{length, take, drop, getD, length-append}
 use lib.Seq.{take-append-seam, drop-append-add, getD-append-seam, getD-append-add}
-use Rattle.accounts.specs.Cases.{case, and-both, contra}
-use Rattle.syntax.specs.Text.{Text, bytes, same-text, every, pieces, joined}
-use Rattle.syntax.specs.TextLaws.{same-text-sound, every-getD, lacks}
+use Rattle.buffers.specs.Cases.{case, and-both, contra}
+use Rattle.buffers.specs.Text.{Text, same-text, every, lacks}
+use Rattle.buffers.specs.TextLaws.{same-text-sound, every-getD}
+use Rattle.syntax.specs.Pieces.{bytes, pieces, joined, piece-length}
 use Rattle.syntax.specs.Form.{_>>_, check}
 use Rattle.syntax.specs.FormLaws.{no-answer, both-read, checked, answered}
 use Rattle.syntax.specs.Path.{Name, Path, root, _▹_, Entry-path, parent, last, depth, is-name, most-names, has-names, is-path, extended, names-from-top, path, entry-at, entry-path, names-text, path-text, entry-text}
 use Rattle.syntax.specs.PathLaws.{name-lacks, path-of-text, path-is-path, entry-at-sound}
 use Rattle.syntax.specs.declared.Names.{Names}
 use Rattle.syntax.specs.declared.NextName.the-variants
-use Rattle.syntax.specs.Parts.{part, piece-length, next-name, slash-before, last-slash}
+use Rattle.syntax.specs.Parts.{part, next-name, slash-before, last-slash}
 use Rattle.syntax.specs.PartsLaws.{piece-end-le, joined-pieces}
 use Rattle.syntax.specs.PathPartsLaws.{names-read, path-names, names-read-past, names-read-next, names-read-path}
 

@@ -1,10 +1,10 @@
 -- What the code's readers answer: parts of a text by their places, fields, numbers and names.
-use mathlib.Core.List.{[], _∷_}
 use mathlib.Core.Option.{Option, none, some}
 use mathlib.Core.Bool.{Bool, _&&_, cond}
 use Prim.Native.Nat.{ℕ, zero, suc, _+_, _-_, _≤_}
 use lib.Dec.{eqb, leb}
 use lib.ListN.{length, take, drop, getD}
+use Rattle.buffers.specs.Text.{Text}
 use Rattle.syntax.specs.declared.Span.{Span}
 use Rattle.syntax.specs.declared.Field.{Field}
 use Rattle.syntax.specs.declared.Class.{Class}
@@ -13,7 +13,7 @@ use Rattle.syntax.specs.declared.Number.{Number}
 use Rattle.syntax.specs.declared.Number.the-variants.{Value, Nothing}
 use Rattle.syntax.specs.declared.NextName.{NextName}
 use Rattle.syntax.specs.declared.NextName.the-variants
-use Rattle.syntax.specs.Text.{Text, comma}
+use Rattle.syntax.specs.Pieces.{comma, piece-length}
 use Rattle.syntax.specs.Form.{_>>_, check}
 use Rattle.syntax.specs.Number.{digit}
 use Rattle.syntax.specs.Path.{name-byte}
@@ -47,11 +47,6 @@ of-class Name = name-byte
 of-class Content = content-byte
 of-class Decimal = digit 10
 of-class Octal = digit 8
-
--- how many bytes come before the first separator, or all
-unfoldable pub piece-length : ℕ → Text → ℕ
-piece-length separator [] = 0
-piece-length separator (b ∷ t) = cond (eqb b separator) 0 (suc (piece-length separator t))
 
 -- the field that starts at a place
 unfoldable pub field-at : Text → ℕ → Field

@@ -3,27 +3,21 @@
 use mathlib.Core.Path.{_≡_, refl, sym, ap, ap₂, _∙_}
 use mathlib.Core.List.{List, [], _∷_}
 use mathlib.Core.Option.{Option, none, some}
-use mathlib.Core.Bool.{Bool, true, false, _&&_, not}
+use mathlib.Core.Bool.{true}
 use Prim.Native.Nat.{ℕ, suc, _+_, _-_, _≤_, _<_}
 use native.Mathlib.Omega.{arith}
-use native.Mathlib.Numerals.{add-one}
-use borrow.Author.Tests.{eqb-true, eq-eqb, ne-eqb, le-leb, leb-true, not-true, not-false}
+use borrow.Author.Tests.{eqb-true, le-leb, leb-true}
 use lib.Dec.{eqb, leb}
-use lib.ListN.{length, take, drop, getD, length-drop, drop-of-length-le}
-use lib.Seq.{drop-cons, drop-drop, take-length}
-use Rattle.accounts.specs.Cases.{case, and-both}
+use lib.ListN.{length, take, drop, length-drop}
+use lib.Seq.{drop-drop, take-length}
+use Rattle.bytes.specs.Bytes.{slice, indexAfter, indexOf}
+use Rattle.buffers.specs.Cases.{case, and-both}
+use Rattle.buffers.specs.Text.{Text}
 use Rattle.syntax.specs.declared.Span.{Span}
-use Rattle.syntax.specs.Text.{Text, same-text, every, prefix-first, pieces, joined}
+use Rattle.syntax.specs.Pieces.{prefix-first, pieces, joined, piece-length}
 use Rattle.syntax.specs.Form.{_>>=_, _>>_, check, is-some}
 use Rattle.syntax.specs.FormLaws.{answered, both, checked}
-use Rattle.syntax.specs.Parts.{part, span-text, Inside, span-inside, text-in, piece-length}
-
--- what a call answered, from a test of its answer turned round
-pub answers-false : {r t : Bool} → r ≡ t → not r ≡ true → t ≡ false
-answers-false {r} e h = sym e ∙ not-true r h
-
-pub answers-true : {r t : Bool} → r ≡ t → not r ≡ false → t ≡ true
-answers-true {r} e h = sym e ∙ not-false r h
+use Rattle.syntax.specs.Parts.{part, span-text, Inside, span-inside, text-in}
 
 -- the test whether a part lies inside tells whether it does
 pub inside-true : {s : Span} {t : Text} → Inside s t → span-inside t s ≡ true
@@ -94,51 +88,16 @@ pieces-only-from b t at end h e l =
     let wide : end - at ≡ length (drop at t) = omega (arith, length-drop at t) in
     rw (pieces-only b (drop at t) whole, wide, take-length (drop at t))
 
--- a byte that is no separator goes into the piece
-pub piece-goes-on : (b : ℕ) (t : Text) (at : ℕ) → at < length t → (getD t at 0 ≡ b → ⊥) →
-    at + 1 + piece-length b (drop (at + 1) t) ≡ at + piece-length b (drop at t)
-unfolding piece-length
-piece-goes-on b t at h f = rw (drop-cons t at 0 h, ne-eqb _ _ f, add-one) (omega arith)
+-- a piece ends at the first byte that is the separator
+index-is-length : (b : ℕ) (t : Text) → indexOf b t ≡ piece-length b t
+unfolding indexOf indexAfter piece-length
+index-is-length b [] = refl
+index-is-length b (c ∷ t) = case (eqb c b) (λ e. rw e) (λ e. rw e (ap suc (index-is-length b t)))
 
--- the piece ends at the separator
-pub piece-stops : (b : ℕ) (t : Text) (at : ℕ) → at < length t → getD t at 0 ≡ b → piece-length b (drop at t) ≡ 0
-unfolding piece-length
-piece-stops b t at h e = rw (drop-cons t at 0 h, eq-eqb _ _ e)
-
--- and where the text does
-pub piece-ends : (b : ℕ) (t : Text) (at : ℕ) → length t ≤ at → piece-length b (drop at t) ≡ 0
-unfolding piece-length
-piece-ends b t at h = rw (drop-of-length-le t h)
-
--- a test of a text from a place on tests the byte there and the others
-pub every-from : (f : ℕ → Bool) (t : Text) (at : ℕ) → at < length t →
-    every f (drop at t) ≡ (f (getD t at 0) && every f (drop (suc at) t))
-unfolding every
-every-from f t at h = rw (drop-cons t at 0 h)
-
--- and at the end nothing
-pub every-end : (f : ℕ → Bool) (t : Text) (at : ℕ) → length t ≤ at → every f (drop at t) ≡ true
-unfolding every
-every-end f t at h = rw (drop-of-length-le t h)
-
--- two texts from a place on are the same where their bytes there and the others are
-pub same-from : (s t : Text) (at : ℕ) → at < length s → at < length t →
-    same-text (drop at s) (drop at t) ≡ (eqb (getD s at 0) (getD t at 0) && same-text (drop (suc at) s) (drop (suc at) t))
-unfolding same-text
-same-from s t at h k = rw (drop-cons s at 0 h, drop-cons t at 0 k)
-
--- and at the end of both
-pub same-end : (s t : Text) (at : ℕ) → length s ≤ at → length t ≤ at → same-text (drop at s) (drop at t) ≡ true
-unfolding same-text
-same-end s t at h k = rw (drop-of-length-le s h, drop-of-length-le t k)
-
--- texts of different lengths are not the same
-pub same-length : (s t : Text) → (length s ≡ length t → ⊥) → same-text s t ≡ false
-unfolding same-text
-same-length [] [] h = absurd (h refl)
-same-length [] (b ∷ t) h = refl
-same-length (a ∷ s) [] h = refl
-same-length (a ∷ s) (b ∷ t) h = case (eqb a b) (λ e. rw e (same-length s t (λ l. h (ap suc l)))) (λ e. rw e)
+-- and so it does from a place on
+pub index-from : (b : ℕ) (t : Text) (at : ℕ) → indexOf b (slice at (length t) t) ≡ piece-length b (drop at t)
+unfolding slice
+index-from b t at = ap (λ (l : Text). indexOf b (drop at l)) (take-length t) ∙ index-is-length b (drop at t)
 
 -- a text has a piece
 pub pieces-some : (b : ℕ) (t : Text) → 1 ≤ length (pieces b t)

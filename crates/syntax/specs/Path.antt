@@ -8,7 +8,8 @@ use mathlib.Core.Bool.{Bool, true, false, _&&_, _||_, not, cond}
 use Prim.Native.Nat.{ℕ, suc}
 use lib.Dec.{eqb, leb}
 use lib.ListN.{length}
-use Rattle.syntax.specs.Text.{Text, bytes, same-text, every, pieces}
+use Rattle.buffers.specs.Text.{Text, same-text, every}
+use Rattle.syntax.specs.Pieces.{bytes, pieces}
 use Rattle.syntax.specs.Form.{_>>=_, _>>_, check}
 
 abbrev pub Name : Type 0

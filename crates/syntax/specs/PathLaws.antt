@@ -8,12 +8,14 @@ use native.Mathlib.Omega.{arith}
 use borrow.Author.Tests.{eqb-true, ne-eqb, leb-true, le-leb}
 use lib.Dec.{eqb, leb}
 use lib.ListN.{length, length-append}
-use Rattle.accounts.specs.Cases.{case, and-both, contra}
-use Rattle.syntax.specs.Text.{Text, bytes, same-text, every, joined, pieces}
+use Rattle.buffers.specs.Cases.{case, and-both, contra}
+use Rattle.buffers.specs.Text.{Text, same-text, every, lacks}
+use Rattle.buffers.specs.TextLaws.{same-text-refl, same-text-sound, every-implies, every-append}
+use Rattle.syntax.specs.Pieces.{bytes, joined, pieces}
+use Rattle.syntax.specs.JoinedLaws.{pieces-joined}
 use Rattle.syntax.specs.Form.{_>>=_, _>>_, check}
 use Rattle.syntax.specs.FormLaws.{no-answer, both-read, checked, answered}
 use Rattle.syntax.specs.Path.{Name, Path, root, _▹_, Entry-path, parent, last, depth, is-top, rep, in-rep, entry-location, reserved, name-byte, is-name, most-names, has-names, is-path, is-entry-path, extended, names-from-top, path, without-rep, entry-at, entry-path, names-text, path-text, entry-text}
-use Rattle.syntax.specs.TextLaws.{same-text-refl, same-text-sound, every-implies, every-append, lacks, pieces-joined}
 
 -- the bytes of names are from 48 on
 name-byte-from : (b : ℕ) → name-byte b ≡ true → 48 ≤ b

@@ -10,16 +10,17 @@ use native.Mathlib.Numerals.{add-one}
 use borrow.Author.Tests.{eqb-true, eqb-false, eq-eqb, ne-eqb, ltb-true, ltb-false, leb-true, le-leb, lt-leb}
 use lib.Dec.{eqb, leb, ltb}
 use lib.ListN.{length, take, drop, getD, length-append, length-drop, take-append-drop, drop-of-length-le}
-use Rattle.accounts.specs.Cases.{case, and-both, contra}
-use Rattle.syntax.specs.Text.{Text, bytes, same-text, every, prefix-first, pieces, joined}
+use Rattle.buffers.specs.Cases.{case, and-both, contra}
+use Rattle.buffers.specs.Text.{Text, same-text, every}
+use Rattle.buffers.specs.TextLaws.{same-text-refl, same-text-sound}
+use Rattle.syntax.specs.Pieces.{bytes, prefix-first, pieces, joined, piece-length}
 use Rattle.syntax.specs.Form.{_>>=_, _>>_, check, is-some}
 use Rattle.syntax.specs.Path.{Name, Path, root, _▹_, rep, is-name, most-names, extended, names-from-top, path, without-rep, entry-at, entry-path}
-use Rattle.syntax.specs.TextLaws.{same-text-refl, same-text-sound}
 use Rattle.syntax.specs.PathLaws.{name-length}
 use Rattle.syntax.specs.FormLaws.{checked, answered}
 use Rattle.syntax.specs.declared.NextName.{NextName}
 use Rattle.syntax.specs.declared.NextName.the-variants
-use Rattle.syntax.specs.Parts.{part, piece-length, next-name}
+use Rattle.syntax.specs.Parts.{part, next-name}
 use Rattle.syntax.specs.PartsLaws.{piece-end-le, pieces-first-from, pieces-only-from, pieces-some, joined-pieces, some-of-one}
 
 -- whether names still to be read, after some, are names of a path

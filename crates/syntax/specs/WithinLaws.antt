@@ -2,9 +2,9 @@
 use mathlib.Core.Path.{_≡_, refl, ap₂}
 use mathlib.Core.Bool.{true, false, not, or-true}
 use borrow.Author.Tests.{not-true}
-use Rattle.accounts.specs.Cases.{case, and-both, contra}
-use Rattle.syntax.specs.Text.{same-text}
-use Rattle.syntax.specs.TextLaws.{same-text-refl, same-text-sound}
+use Rattle.buffers.specs.Cases.{case, and-both, contra}
+use Rattle.buffers.specs.Text.{same-text}
+use Rattle.buffers.specs.TextLaws.{same-text-refl, same-text-sound}
 use Rattle.syntax.specs.Path.{Name, Path, root, _▹_, same-path, within, lies-below}
 
 -- the paths that are p or lie below it

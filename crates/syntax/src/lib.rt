@@ -17,7 +17,6 @@ pub use text::field_at;
 pub use text::is_content;
 pub use text::is_name;
 pub use text::piece_end;
-pub use text::same;
 
 // A part of a text: the bytes from start up to end.
 pub struct Span {

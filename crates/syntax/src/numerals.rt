@@ -3,7 +3,7 @@ ghost use mathlib.Core.Path.{_≡_};
 ghost use mathlib.Core.Bool.{true};
 ghost use Prim.Native.Nat.{_≤_, _<_};
 ghost use lib.ListN.{length};
-ghost use Rattle.syntax.specs.Text.{every};
+ghost use Rattle.buffers.specs.Text.{every};
 ghost use Rattle.syntax.specs.Number.{digit, value-after, no-leading-zero, between as between-of, mode as mode-of};
 ghost use Rattle.syntax.specs.Parts.{number-of};
 use crate::Class;

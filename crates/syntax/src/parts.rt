@@ -1,7 +1,7 @@
 // Parts of a text: read by their places, so that who reads several slices none.
 ghost use mathlib.Core.Path.{_≡_};
 ghost use Prim.Native.Nat.{_<_};
-ghost use Rattle.syntax.specs.Text.{same-text};
+ghost use Rattle.buffers.specs.Text.{same-text};
 ghost use Rattle.syntax.specs.Number.{between as between-of};
 ghost use Rattle.syntax.specs.Path.{is-name};
 ghost use Rattle.syntax.specs.Parts.{Inside, span-text, number-of};
@@ -9,7 +9,7 @@ use crate::Number;
 use crate::Span;
 use crate::numerals::between;
 use crate::text::is_name;
-use crate::text::same;
+use buffers::same;
 
 // Whether a part is that word.
 pub fn word_is(text: &[u8], s: Span, word: &[u8]) -> bool

@@ -9,7 +9,7 @@ use crate::Names;
 use crate::NextName;
 use crate::text::is_name;
 use crate::text::piece_end;
-use crate::text::same;
+use buffers::same;
 
 // Whether a text is a path: `/`, or 1 to 6 names each after a `/`.
 pub fn is_path(s: &[u8]) -> bool

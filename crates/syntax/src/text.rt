@@ -4,10 +4,11 @@ ghost use mathlib.Core.Bool.{_&&_};
 ghost use Prim.Native.Nat.{_+_, _≤_};
 ghost use lib.Dec.{leb};
 ghost use lib.ListN.{length, drop};
-ghost use Rattle.syntax.specs.Text.{same-text, every};
+ghost use Rattle.buffers.specs.Text.{every};
+ghost use Rattle.syntax.specs.Pieces.{piece-length};
 ghost use Rattle.syntax.specs.Path.{name-byte, is-name};
 ghost use Rattle.syntax.specs.Field.{content-byte, is-content};
-ghost use Rattle.syntax.specs.Parts.{of-class, piece-length, field-at};
+ghost use Rattle.syntax.specs.Parts.{of-class, field-at};
 use crate::Class;
 use crate::Field;
 use crate::Span;
@@ -71,36 +72,12 @@ pub fn all_of(s: &[u8], class: Class) -> bool
     true
 }
 
-// Whether two texts are the same.
-pub fn same(s: &[u8], t: &[u8]) -> bool
-    ensures { λ r. ⌜ r ≡ same-text (now (s .entry)) (now (t .entry)) ⌝ }
-{
-    if s.len() != t.len() {
-        return false;
-    }
-    let mut i: usize = 0;
-    while i < s.len() {
-        if s[i] != t[i] {
-            return false;
-        }
-        i += 1;
-    }
-    true
-}
-
 // Where the piece that starts at a place ends: at the separator, or where the text ends.
 pub fn piece_end(s: &[u8], at: usize, separator: u8) -> usize
     requires { ⌜ at ≤ length (now s) ⌝ }
     ensures { λ r. ⌜ (r ≡ at + piece-length separator (drop at (now (s .entry)))) × (r ≤ length (now (s .entry))) ⌝ }
 {
-    let mut i = at;
-    while i < s.len() {
-        if s[i] == separator {
-            return i;
-        }
-        i += 1;
-    }
-    i
+    bytes::scan::find(s, at, s.len(), separator)
 }
 
 // The field of a line that starts at a place.

@@ -1,20 +1,17 @@
 -- The payload at a path after a change there, at another or at one further down; where no place is after a change; and the
 -- places of a mapped and of a grafted tree.
-use mathlib.Core.Path.{_≡_, refl, sym, _∙_, ap}
+use mathlib.Core.Path.{_≡_, refl, _∙_, ap}
 use mathlib.Core.Option.{Option, none, some, Option·map}
 use mathlib.Core.Bool.{true, false}
-use Rattle.accounts.specs.Cases.{case, contra}
-use Rattle.syntax.specs.Text.{same-text}
-use Rattle.syntax.specs.TextLaws.{same-text-sound}
+use Rattle.buffers.specs.Cases.{case, contra}
 use Rattle.syntax.specs.Path.{Name, Path, root, _▹_, same-path, within, rep, in-rep}
 use Rattle.syntax.specs.WithinLaws.{Lies, itself, deeper, same-path-refl, lies}
 use Rattle.syntax.specs.Form.{_>>=_}
-use Rattle.syntax.specs.FormLaws.{no-answer}
-use Rattle.tree.specs.Forest.{Forest, nil, node, Place, get, is-empty, remove, at, under, update, place-at, alter, put, drop, leaf, map-place}
+use Rattle.tree.specs.Forest.{Place, get, is-empty, at, under, update, place-at, alter, put, drop, leaf, map-place}
 use Rattle.tree.specs.ForestLaws.{get-map}
 use Rattle.tree.specs.Node.{Node}
 use Rattle.tree.specs.WellFormed.{is-tree}
-use Rattle.tree.specs.UpdateLaws.{by-option, at-child}
+use Rattle.tree.specs.UpdateLaws.{by-option}
 use Rattle.tree.specs.PathLaws.{alone-at, changed-at, alter-keeps, put-keeps, put-stands, drop-empty-keeps, none-below, put-none, drop-none, drop-gone}
 use Rattle.tree.specs.Graft.{graft, Outside, first, further, get-graft, get-graft-other}
 

@@ -4,9 +4,9 @@ use mathlib.Core.Option.{none, some}
 use mathlib.Core.Bool.{true, false}
 use Prim.Native.Nat.{suc, _+_, _-_, _≤_}
 use native.Mathlib.Omega.{arith}
-use Rattle.accounts.specs.Cases.{case, contra}
-use Rattle.syntax.specs.Text.{same-text, precedes}
-use Rattle.syntax.specs.TextLaws.{same-text-sound, precedes-total}
+use Rattle.buffers.specs.Cases.{case, contra}
+use Rattle.buffers.specs.Text.{same-text, precedes}
+use Rattle.buffers.specs.TextLaws.{same-text-sound, precedes-total}
 use Rattle.syntax.specs.Path.{Name, Path, root, _▹_, is-name, depth}
 use Rattle.syntax.specs.FormLaws.{no-answer, answered}
 use Rattle.tree.specs.Result.{done}

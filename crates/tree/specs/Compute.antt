@@ -1,4 +1,5 @@
 -- For computed examples only: whoever unfolds `compute` unfolds every definition of this crate that a run goes through.
+use Rattle.buffers.specs.Compute.{compute-bytes as compute-fields}
 use Rattle.tree.specs.Causes.{number, wrong-setup}
 use Rattle.tree.specs.Result.{_>>=_, _>>_, require, present, absent}
 use Rattle.tree.specs.Forest.{get, is-empty, insert, remove, at, under, update, update-forest, alter, put, drop, leaf, size, larger, height, names, map-forest, map-place, rooted}
@@ -6,7 +7,6 @@ use Rattle.tree.specs.Node.{is-directory, same-kind, allows, owns, new-n
 use Rattle.tree.specs.Walk.{by-modes, look, unused, enter, walk, parent-walk}
 use Rattle.tree.specs.Graft.{graft}
 use Rattle.tree.specs.WellFormed.{most-nodes, last-revision, nodes}
-use Rattle.tree.specs.Fields.{two-bytes, number-at, padded, unpadded, text-at, all-bytes, all-from, table-bytes, table-from}
 use Rattle.tree.specs.Rows.{siblings, others, subtrees, only, tree-of}
 use Rattle.tree.specs.Encoding.{row-width, kind-of, tag-of, row-of, decode-tree}
 
@@ -16,5 +16,5 @@ compute = tt
 
 -- and those that read a tree off its bytes
 unfoldable pub compute-bytes : Unit {0}
-unfolding two-bytes number-at padded unpadded text-at all-bytes all-from table-bytes table-from siblings others subtrees only tree-of row-width kind-of tag-of row-of decode-tree
+unfolding compute-fields siblings others subtrees only tree-of row-width kind-of tag-of row-of decode-tree
 compute-bytes = tt

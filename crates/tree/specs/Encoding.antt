@@ -10,12 +10,12 @@ use mathlib.Core.Bool.{_&&_, cond}
 use Prim.Native.Nat.{ℕ, _-_, _*_}
 use lib.Dec.{eqb}
 use lib.ListN.{length, getD, drop, replicate}
-use Rattle.syntax.specs.Text.{Text, same-text}
+use Rattle.buffers.specs.Text.{Text, same-text}
+use Rattle.buffers.specs.Fields.{two-bytes, number-at, padded, text-at, all-bytes, all-from}
 use Rattle.syntax.specs.Path.{entry-path, entry-text}
 use Rattle.syntax.specs.Form.{_>>=_, _>>_, check}
 use Rattle.tree.specs.declared.Kind.{Kind}
 use Rattle.tree.specs.declared.Kind.the-variants.{File, Directory}
-use Rattle.tree.specs.Fields.{two-bytes, number-at, padded, text-at, all-bytes, all-from}
 use Rattle.tree.specs.Forest.{Place}
 use Rattle.tree.specs.Node.{Tag, Node}
 use Rattle.tree.specs.Rows.{Row, rows, tree-of}

@@ -9,9 +9,12 @@ use native.Mathlib.Omega.{arith}
 use lib.Dec.{leb}
 use lib.ListN.{length, drop, replicate}
 use borrow.Author.Tests.{leb-true, le-leb}
-use Rattle.accounts.specs.Cases.{and-both}
-use Rattle.syntax.specs.Text.{every, same-text}
-use Rattle.syntax.specs.TextLaws.{same-text-refl, same-text-sound, every-append, lacks}
+use Rattle.buffers.specs.Cases.{and-both}
+use Rattle.buffers.specs.Text.{every, same-text, lacks}
+use Rattle.buffers.specs.TextLaws.{same-text-refl, same-text-sound, every-append}
+use Rattle.buffers.specs.Fields.{two-bytes, number-at, all-bytes, all-from}
+use Rattle.buffers.specs.FieldsLaws.{number-at-bytes}
+use Rattle.buffers.specs.TableLaws.{length-filled, all-from-bytes}
 use Rattle.syntax.specs.Form.{_>>=_, _>>_, check}
 use Rattle.syntax.specs.FormLaws.{both-read, checked, answered}
 use Rattle.syntax.specs.Path.{Name, is-name, most-names}
@@ -21,10 +24,7 @@ use Rattle.tree.specs.Node.{is-directory, Node}
 use Rattle.tree.specs.Rows.{Row, flatten, rows, tree-of}
 use Rattle.tree.specs.RowLaws.{tree-of-rows, length-rows}
 use Rattle.tree.specs.WellFormed.{most-nodes, nodes, is-node, leads, is-forest, is-tree}
-use Rattle.tree.specs.Fields.{two-bytes, number-at, all-bytes, all-from}
 use Rattle.tree.specs.Encoding.{row-width, tree-width, row-bytes, row-of, encode-rows, encode-tree, decode-tree}
-use Rattle.tree.specs.FieldsLaws.{number-at-bytes}
-use Rattle.tree.specs.TableLaws.{length-filled, all-from-bytes}
 use Rattle.tree.specs.RowBytesLaws.{length-row-bytes, row-of-bytes}
 
 -- whether a row's node is in range and its name fits its bytes

@@ -7,7 +7,7 @@ use mathlib.Core.Option.{Option, none, some}
 use mathlib.Core.Bool.{Bool, true, false, cond}
 use Prim.Native.Nat.{ℕ, suc, _+_}
 use lib.Dec.{leb}
-use Rattle.syntax.specs.Text.{same-text, precedes}
+use Rattle.buffers.specs.Text.{same-text, precedes}
 use Rattle.syntax.specs.Form.{_>>=_}
 use Rattle.syntax.specs.Path.{Name, Path, root, _▹_}
 

@@ -15,9 +15,9 @@ use Prim.Native.Nat.{ℕ, suc, _+_, _≤_}
 use native.Mathlib.Omega.{arith}
 use lib.Dec.{leb}
 use borrow.Author.Tests.{leb-true, leb-false}
-use Rattle.accounts.specs.Cases.{case, contra}
-use Rattle.syntax.specs.Text.{same-text, precedes}
-use Rattle.syntax.specs.TextLaws.{same-text-refl, same-text-sound}
+use Rattle.buffers.specs.Cases.{case, contra}
+use Rattle.buffers.specs.Text.{same-text, precedes}
+use Rattle.buffers.specs.TextLaws.{same-text-refl, same-text-sound}
 use Rattle.syntax.specs.Path.{Name, Path, root, _▹_}
 use Rattle.tree.specs.Forest.{Forest, nil, node, Place, get, is-empty, insert, remove, at, under, update, alter, put, drop, leaf, size, larger, height, names, map-forest, map-place}
 

@@ -5,9 +5,9 @@ use mathlib.Core.Option.{some}
 use mathlib.Core.Bool.{Bool, true, false}
 use Prim.Native.Nat.{_+_}
 use native.Mathlib.Omega.{arith}
-use Rattle.accounts.specs.Cases.{case, contra}
-use Rattle.syntax.specs.Text.{same-text}
-use Rattle.syntax.specs.TextLaws.{same-text-refl, same-text-sound}
+use Rattle.buffers.specs.Cases.{case, contra}
+use Rattle.buffers.specs.Text.{same-text}
+use Rattle.buffers.specs.TextLaws.{same-text-refl, same-text-sound}
 use Rattle.syntax.specs.Path.{Name, Path, root, _▹_, parent, rep, in-rep, reserved}
 use Rattle.tree.specs.Result.{done, _>>=_, _>>_, present, absent}
 use Rattle.tree.specs.Forest.{Place, get, at, under, update, size, names}

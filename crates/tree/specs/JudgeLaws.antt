@@ -3,12 +3,12 @@ use mathlib.Core.Path.{_≡_, refl, sym}
 use mathlib.Core.Option.{some}
 use mathlib.Core.Bool.{true, false, _&&_, _||_, not}
 use Prim.Native.Nat.{ℕ}
+use Rattle.buffers.specs.Cases.{contra}
+use Rattle.buffers.specs.Text.{Text}
 use Rattle.accounts.specs.declared.Right.{Right}
 use Rattle.accounts.specs.declared.Right.the-variants.{R, W, X}
 use Rattle.accounts.specs.declared.Account.{Account}
 use Rattle.accounts.specs.Access.{may}
-use Rattle.accounts.specs.Cases.{contra}
-use Rattle.syntax.specs.Text.{Text}
 use Rattle.tree.specs.declared.Kind.{Kind}
 use Rattle.tree.specs.declared.Kind.the-variants.{File, Directory}
 use Rattle.tree.specs.Node.{is-directory, same-kind, Tag, Node, allows, set-revision, set-tag, set-content}

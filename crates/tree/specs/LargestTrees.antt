@@ -5,8 +5,8 @@ use mathlib.Core.Option.{none, some}
 use mathlib.Core.Bool.{true}
 use Prim.Native.Nat.{ℕ, zero, suc, _+_, _/_, _%_}
 use lib.ListN.{length, replicate}
+use Rattle.syntax.specs.Pieces.{comma, joined}
 use Rattle.syntax.specs.Compute.{compute as compute-syntax}
-use Rattle.syntax.specs.Text.{comma, joined}
 use Rattle.syntax.specs.Number.{octal, is-mode}
 use Rattle.syntax.specs.Path.{Name, root, _▹_, has-names, is-path, is-entry-path}
 use Rattle.tree.specs.Compute.{compute}

@@ -31,9 +31,6 @@ pub mod RowLaws
 pub mod RowContext
 pub mod RowEdits
 pub mod RowScan
-pub mod Fields
-pub mod FieldsLaws
-pub mod TableLaws
 pub mod Encoding
 pub mod RowBytesLaws
 pub mod EncodingLaws

@@ -8,12 +8,12 @@ use native.Mathlib.Omega.{arith}
 use lib.Dec.{leb, ltb}
 use lib.ListN.{length}
 use borrow.Author.Tests.{ne-eqb}
+use Rattle.buffers.specs.Cases.{case, and-both, contra}
+use Rattle.buffers.specs.Text.{Text, every}
 use Rattle.accounts.specs.declared.Uid.{Uid}
 use Rattle.accounts.specs.declared.Gid.{Gid}
 use Rattle.accounts.specs.declared.Caller.{Caller}
-use Rattle.accounts.specs.Cases.{case, and-both, contra}
 use Rattle.accounts.specs.Caller.{is-caller}
-use Rattle.syntax.specs.Text.{Text, every}
 use Rattle.syntax.specs.Number.{set-gid, is-mode}
 use Rattle.syntax.specs.Path.{is-entry-path}
 use Rattle.syntax.specs.Field.{content-limit, is-content}

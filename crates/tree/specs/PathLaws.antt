@@ -4,12 +4,12 @@ use mathlib.Core.Path.{_≡_, refl, sym, _∙_, ap}
 use mathlib.Core.Option.{none, some}
 use mathlib.Core.Bool.{Bool, true, false}
 use mathlib.Core.Logic.{_⊎_, inl, inr, ⊎-elim}
+use Rattle.buffers.specs.Cases.{case, contra}
+use Rattle.buffers.specs.Text.{same-text}
+use Rattle.buffers.specs.TextLaws.{same-text-sound}
 use Rattle.accounts.specs.declared.Right.the-variants.{X}
 use Rattle.accounts.specs.declared.Account.{Account}
 use Rattle.accounts.specs.Access.{is-root, may-root}
-use Rattle.accounts.specs.Cases.{case, contra}
-use Rattle.syntax.specs.Text.{same-text}
-use Rattle.syntax.specs.TextLaws.{same-text-sound}
 use Rattle.syntax.specs.Path.{Name, Path, root, _▹_, parent, same-path, within, lies-below, carried}
 use Rattle.syntax.specs.WithinLaws.{Lies, itself, deeper, same-path-sound, same-path-refl, lies, lies-outside, lies-top, top-not-below, below-parent}
 use Rattle.syntax.specs.Form

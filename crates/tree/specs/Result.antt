@@ -3,7 +3,7 @@
 -- `Causes` gives each cause document 01's number.
 use mathlib.Core.Option.{Option, none, some}
 use mathlib.Core.Bool.{Bool, true, false}
-use Rattle.syntax.specs.Text.{Text}
+use Rattle.buffers.specs.Text.{Text}
 use Rattle.tree.specs.declared.Cause.{Cause}
 
 pub data Result (A : Type 0) : Type 0 where

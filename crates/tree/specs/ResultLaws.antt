@@ -2,7 +2,7 @@
 use mathlib.Core.Path.{_≡_, refl}
 use mathlib.Core.Option.{Option, none, some}
 use mathlib.Core.Bool.{Bool, true, false}
-use Rattle.accounts.specs.Cases.{contra}
+use Rattle.buffers.specs.Cases.{contra}
 use Rattle.tree.specs.declared.Cause.{Cause}
 use Rattle.tree.specs.Result.{Result, refused, done, _>>=_, _>>_, require, present, absent}
 

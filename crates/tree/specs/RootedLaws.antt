@@ -1,5 +1,5 @@
 -- Laws of a forest below a payload of its own: what stands there, and that a change of the forest is the change of the place.
-use mathlib.Core.Path.{_≡_, refl, _∙_, ap}
+use mathlib.Core.Path.{_≡_, refl}
 use Rattle.syntax.specs.Path.{Name, Path, root, _▹_}
 use Rattle.tree.specs.Forest.{Forest, nil, node, Place, insert, remove, at, under, update, update-forest, alter, put, drop, size, map-forest, map-place, rooted}
 use Rattle.tree.specs.ForestLaws.{size-map, insert-map, remove-map, under-map, at-map, alter-map}

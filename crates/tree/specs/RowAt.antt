@@ -3,14 +3,12 @@ use mathlib.Core.List.{List, [], _∷_}
 use mathlib.Core.Bool.{cond}
 use Prim.Native.Nat.{ℕ, suc, _+_, _*_}
 use lib.ListN.{take, drop}
-use Rattle.syntax.specs.Text.{Text, same-text, precedes}
-use Rattle.tree.specs.declared.Order.{Order}
-use Rattle.tree.specs.declared.Order.the-variants.{Before, Same, After}
+use Rattle.buffers.specs.Text.{Text}
+use Rattle.buffers.specs.Fields.{number-at, text-at, all-from}
 use Rattle.tree.specs.declared.Child.{Child}
 use Rattle.tree.specs.declared.Child.the-variants.{Found, Missing}
 use Rattle.tree.specs.Node.{Node}
 use Rattle.tree.specs.Rows.{Row}
-use Rattle.tree.specs.Fields.{number-at, text-at, all-from}
 use Rattle.tree.specs.Encoding.{row-width, row-of}
 use Rattle.tree.specs.RowScan.{span, first-passes, deeper, passes, is-child}
 
@@ -33,9 +31,6 @@ tag-text-at b i = text-at 16 54 (row-bytes-at b i)
 
 unfoldable pub tag-number-at : List ℕ → ℕ → ℕ
 tag-number-at b i = number-at 70 (row-bytes-at b i)
-
-unfoldable pub order-of : Text → Text → Order
-order-of s t = cond (same-text s t) Same (cond (precedes s t) Before After)
 
 unfoldable pub first-depth : List (Row Node) → ℕ
 first-depth [] = 0

@@ -8,45 +8,36 @@
 --   the order of two texts, byte by byte: order-before to order-tells;
 --   the tests of a scan: passes-below to child-beside;
 --   where a subtree ends, and where a child stands: end-at to child-at-end.
-use mathlib.Core.Path.{_≡_, refl, sym, _∙_, ap}
-use mathlib.Core.List.{List, [], _∷_}
+use mathlib.Core.Path.{_≡_, sym, _∙_, ap}
+use mathlib.Core.List.{List}
 use mathlib.Core.Bool.{Bool, true, false, cond}
-use Prim.Native.Nat.{ℕ, zero, suc, _+_, _*_, _≤_, _<_}
+use Prim.Native.Nat.{ℕ, suc, _+_, _*_, _≤_, _<_}
 use native.Mathlib.Omega.{arith}
 use native.Mathlib.Numerals.{add-one}
-use lib.Dec.{eqb}
-use lib.ListN.{length, getD, take, drop, drop-of-length-le}
-use lib.Seq.{drop-cons, getD-take, getD-drop, take-take, drop-drop}
+use lib.ListN.{length, getD, take, drop}
+use lib.Seq.{drop-cons, getD-take, getD-drop, drop-drop}
 use borrow.Author.Tests.{lt-ltb, le-ltb, eq-eqb, ne-eqb}
-use Rattle.accounts.specs.Cases.{case}
-use Rattle.syntax.specs.Text.{Text, same-text, precedes}
+use Rattle.buffers.specs.declared.Order.{Order}
+use Rattle.buffers.specs.Text.{Text, same-text, order-of}
+use Rattle.buffers.specs.TextLaws.{is-before, order-tells}
+use Rattle.buffers.specs.Fields.{number-at, unpadded, text-at}
+use Rattle.buffers.specs.FieldsLaws.{part-of-take}
+use Rattle.buffers.specs.TableLaws.{length-all-from, all-from-at}
 use Rattle.syntax.specs.Path.{Path, depth}
-use Rattle.syntax.specs.TextLaws.{same-text-sound, precedes-irrefl}
 use Rattle.tree.specs.declared.Kind.the-variants.{File, Directory}
-use Rattle.tree.specs.declared.Order.{Order}
-use Rattle.tree.specs.declared.Order.the-variants.{Before, Same, After}
 use Rattle.tree.specs.declared.Child.{Child}
 use Rattle.tree.specs.declared.Child.the-variants.{Found, Missing}
 use Rattle.tree.specs.Forest.{Place}
 use Rattle.tree.specs.Node.{Node}
 use Rattle.tree.specs.Rows.{Row, rows}
 use Rattle.tree.specs.WellFormed.{is-tree}
-use Rattle.tree.specs.Fields.{number-at, unpadded, text-at}
-use Rattle.tree.specs.TableLaws.{length-all-from, all-from-at}
 use Rattle.tree.specs.Encoding.{row-width, kind-of, row-of, encode-tree}
 use Rattle.tree.specs.EncodingLaws.{rows-of-encoded}
 use Rattle.tree.specs.RowContext.{place-rows, index-of, Around}
 use Rattle.tree.specs.RowScan.{span, first-passes, deeper, passes, is-child, first-at, span-go, span-stop, span-end, rows-from-place}
-use Rattle.tree.specs.RowAt.{row-count, row-bytes-at, row-at, all-rows, order-of, first-depth, depth-of, end-of-subtree, child-at}
+use Rattle.tree.specs.RowAt.{row-count, row-bytes-at, row-at, all-rows, first-depth, depth-of, end-of-subtree, child-at}
 
 -- ---- a field of a row
-
--- a part of a beginning is that part of the whole
-pub part-of-take : (k w n : ℕ) (l : List ℕ) → k + w ≤ n → take w (drop k (take n l)) ≡ take w (drop k l)
-part-of-take zero w n l h = take-take w n l (omega arith)
-part-of-take (suc k) w zero l h = let z : ⊥ = omega arith in absurd z
-part-of-take (suc k) w (suc n) [] h = refl
-part-of-take (suc k) w (suc n) (x ∷ l) h = part-of-take k w n l (omega arith)
 
 module _ (b : List ℕ) (i : ℕ) where
   -- a byte of a row
@@ -84,35 +75,6 @@ module _ (b : List ℕ) (i : ℕ) where
   pub file-in-row : (getD b (2 + 232 * i + 1) 0 ≡ 100 → ⊥) → row-at b i .here .kind ≡ File
   unfolding row-at row-of kind-of
   file-in-row e = rw (ne-eqb (getD (row-bytes-at b i) 1 0) 100 (λ q. e (sym (byte-in-row 1 (omega arith)) ∙ q)))
-
--- ---- the bytes of a text before the zeros
-
-module _ (s : List ℕ) (at w : ℕ) where
-  -- a byte that is not zero is counted
-  pub text-goes-on : at < length s → (getD s at 0 ≡ 0 → ⊥) → length (text-at at (suc w) s) ≡ suc (length (text-at (suc at) w s))
-  unfolding text-at unpadded
-  text-goes-on h e = rw (drop-cons s at 0 h, ne-eqb (getD s at 0) 0 e)
-
-  -- at a zero the text ends
-  pub text-stops : at < length s → getD s at 0 ≡ 0 → length (text-at at (suc w) s) ≡ 0
-  unfolding text-at unpadded
-  text-stops h e = rw (drop-cons s at 0 h, eq-eqb (getD s at 0) 0 e)
-
--- and so it does at the end of the field
-pub text-ends : (s : List ℕ) (at : ℕ) → length (text-at at 0 s) ≡ 0
-unfolding text-at unpadded
-text-ends s at = refl
-
--- what stands before the zeros
-take-unpadded : (l : List ℕ) → take (length (unpadded l)) l ≡ unpadded l
-unfolding unpadded
-take-unpadded [] = refl
-take-unpadded (x ∷ l) = case (eqb x 0) (λ e. rw e) (λ e. rw e (ap (λ (r : List ℕ). x ∷ r) (take-unpadded l)))
-
--- the text is as many bytes of the field as it has
-pub text-part : (s : List ℕ) (at w r : ℕ) → r ≡ length (text-at at w s) → r ≤ w → take r (drop at s) ≡ text-at at w s
-unfolding text-at
-text-part s at w r e h = sym (take-take r w (drop at s) h) ∙ rw e (take-unpadded (take w (drop at s)))
 
 -- ---- all rows
 
@@ -167,55 +129,6 @@ row-count-of-tree t h = sym (length-all-rows (encode-tree t)) ∙ ap length (all
 pub depth-of-place : {t : Place Node} {p : Path} {d : Place Node} → Around t p d → depth-of (rows t) (index-of t p) ≡ depth p
 unfolding depth-of first-depth place-rows
 depth-of-place c = rw (rows-from-place c)
-
--- ---- the order of two texts
-
-module _ (s t : Text) (i : ℕ) where
-  -- at the first byte that differs the lesser comes first
-  pub order-before : i < length s → i < length t → getD s i 0 < getD t i 0 → order-of (drop i s) (drop i t) ≡ Before
-  unfolding order-of same-text precedes
-  order-before h k l =
-      rw (drop-cons s i 0 h, drop-cons t i 0 k) (rw (ne-eqb (getD s i 0) (getD t i 0) (λ e. omega arith), lt-ltb (getD s i 0) (getD t i 0) l))
-
-  -- and the greater after it
-  pub order-after : i < length s → i < length t → getD t i 0 < getD s i 0 → order-of (drop i s) (drop i t) ≡ After
-  unfolding order-of same-text precedes
-  order-after h k l =
-      rw (drop-cons s i 0 h, drop-cons t i 0 k) (rw (ne-eqb (getD s i 0) (getD t i 0) (λ e. omega arith), le-ltb (getD s i 0) (getD t i 0) (omega arith)))
-
-  -- bytes that are the same leave it to those behind
-  pub order-goes-on : i < length s → i < length t → getD s i 0 ≡ getD t i 0 → order-of (drop (i + 1) s) (drop (i + 1) t) ≡ order-of (drop i s) (drop i t)
-  unfolding order-of same-text precedes
-  order-goes-on h k e =
-      rw (add-one, drop-cons s i 0 h, drop-cons t i 0 k) (rw (eq-eqb (getD s i 0) (getD t i 0) e, le-ltb (getD s i 0) (getD t i 0) (omega arith)))
-
-  -- a text comes after another that ends before it
-  pub order-longer : i < length s → length t ≤ i → order-of (drop i s) (drop i t) ≡ After
-  unfolding order-of same-text precedes
-  order-longer h k = rw (drop-cons s i 0 h, drop-of-length-le t k)
-
-  -- and before another that goes on
-  pub order-shorter : length s ≤ i → i < length t → order-of (drop i s) (drop i t) ≡ Before
-  unfolding order-of same-text precedes
-  order-shorter h k = rw (drop-of-length-le s h, drop-cons t i 0 k)
-
-  -- where both end, they are the same
-  pub order-same : length s ≤ i → length t ≤ i → order-of (drop i s) (drop i t) ≡ Same
-  unfolding order-of same-text precedes
-  order-same h k = rw (drop-of-length-le s h, drop-of-length-le t k)
-
--- whether an order is that of a text before another
-unfoldable pub is-before : Order → Bool
-is-before Before = true
-is-before Same = false
-is-before After = false
-
--- a text precedes another where the order says so
-pub order-tells : (s t : Text) → precedes s t ≡ is-before (order-of s t)
-unfolding order-of is-before
-order-tells s t = case (same-text s t)
-    (λ e. rw e (rw (same-text-sound s t e) (precedes-irrefl t)))
-    (λ e. rw e (case (precedes s t) (λ p. rw p) (λ p. rw p)))
 
 -- ---- the tests of a scan
 

@@ -7,9 +7,11 @@ use Prim.Native.Nat.{ℕ, _+_, _≤_}
 use native.Mathlib.Omega.{arith}
 use lib.Dec.{leb, ltb}
 use lib.ListN.{length, replicate, length-append}
-use Rattle.accounts.specs.Cases.{and-both}
-use Rattle.syntax.specs.Text.{Text, bytes, same-text, every, pieces}
-use Rattle.syntax.specs.TextLaws.{lacks}
+use Rattle.buffers.specs.Cases.{and-both}
+use Rattle.buffers.specs.Text.{Text, same-text, every, lacks}
+use Rattle.buffers.specs.Fields.{two-bytes, number-at, padded, text-at}
+use Rattle.buffers.specs.FieldsLaws.{length-padded, text-at-padded, number-at-bytes}
+use Rattle.syntax.specs.Pieces.{bytes, pieces}
 use Rattle.syntax.specs.Form.{_>>=_, _>>_, check}
 use Rattle.syntax.specs.Number.{is-mode}
 use Rattle.syntax.specs.Path.{is-entry-path, names-from-top, path, entry-path, entry-text}
@@ -21,8 +23,6 @@ use Rattle.tree.specs.declared.Kind.the-variants.{File, Directory}
 use Rattle.tree.specs.Node.{Tag, Node}
 use Rattle.tree.specs.Rows.{Row}
 use Rattle.tree.specs.WellFormed.{last-revision, is-tag, fits-kind, is-node}
-use Rattle.tree.specs.Fields.{two-bytes, number-at, padded, text-at}
-use Rattle.tree.specs.FieldsLaws.{length-padded, text-at-padded, number-at-bytes}
 use Rattle.tree.specs.Encoding.{row-width, kind-byte, kind-of, tag-bytes, tag-of, row-bytes, row-of}
 
 -- a tag's text and number, for no tag those of zero bytes

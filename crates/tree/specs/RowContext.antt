@@ -9,9 +9,9 @@ use native.Mathlib.Omega.{arith}
 use lib.Dec.{leb}
 use lib.ListN.{length, length-append}
 use borrow.Author.Tests.{leb-true, le-leb}
-use Rattle.accounts.specs.Cases.{case}
-use Rattle.syntax.specs.Text.{same-text}
-use Rattle.syntax.specs.TextLaws.{same-text-sound}
+use Rattle.buffers.specs.Cases.{case}
+use Rattle.buffers.specs.Text.{same-text}
+use Rattle.buffers.specs.TextLaws.{same-text-sound}
 use Rattle.syntax.specs.Path.{Name, Path, root, _▹_, last, depth}
 use Rattle.syntax.specs.FormLaws.{no-answer, answered}
 use Rattle.tree.specs.Forest.{Forest, nil, node, Place, get, at, under, update, place-at, size}

@@ -12,9 +12,9 @@ use mathlib.Core.Bool.{Bool, true, false, _&&_, cond}
 use Prim.Native.Nat.{ℕ, suc, _+_}
 use native.Mathlib.Omega.{arith}
 use lib.ListN.{length, length-append}
-use Rattle.accounts.specs.Cases.{case, and-both, contra}
-use Rattle.syntax.specs.Text.{same-text, precedes}
-use Rattle.syntax.specs.TextLaws.{same-text-sound, precedes-irrefl, precedes-trans, precedes-total, precedes-differ}
+use Rattle.buffers.specs.Cases.{case, and-both, contra}
+use Rattle.buffers.specs.Text.{same-text, precedes}
+use Rattle.buffers.specs.TextLaws.{same-text-sound, precedes-irrefl, precedes-trans, precedes-total, precedes-differ}
 use Rattle.syntax.specs.Path.{Name, Path, _▹_, last, depth}
 use Rattle.syntax.specs.FormLaws.{no-answer}
 use Rattle.tree.specs.Forest.{Forest, nil, node, Place, get, insert, remove, under, update, place-at, alter, put, drop, size}

@@ -8,8 +8,8 @@ use native.Mathlib.Omega.{arith}
 use lib.Dec.{eqb, leb}
 use lib.ListN.{length, length-append}
 use borrow.Author.Tests.{leb-true, le-leb, eq-eqb, ne-eqb}
-use Rattle.syntax.specs.Text.{every}
-use Rattle.syntax.specs.TextLaws.{every-append}
+use Rattle.buffers.specs.Text.{every}
+use Rattle.buffers.specs.TextLaws.{every-append}
 use Rattle.tree.specs.Forest.{Forest, nil, node, Place, size, height}
 use Rattle.tree.specs.ForestLaws.{larger-bounds}
 use Rattle.tree.specs.Rows.{Row, flatten, rows, Subtree, siblings, others, subtrees, only, tree-of}

@@ -15,9 +15,9 @@ use lib.Dec.{eqb, ltb}
 use lib.ListN.{length, drop, getD, length-append, drop-of-length-le}
 use lib.Seq.{drop-cons, drop-append-seam, drop-append-add, getD-append-seam, drop-drop, drop-at}
 use borrow.Author.Tests.{leb-true, lt-ltb, le-ltb, eq-eqb, ne-eqb}
-use Rattle.accounts.specs.Cases.{case, and-both}
-use Rattle.syntax.specs.Text.{every, same-text, precedes}
-use Rattle.syntax.specs.TextLaws.{every-append, every-implies, same-text-refl}
+use Rattle.buffers.specs.Cases.{case, and-both}
+use Rattle.buffers.specs.Text.{every, same-text, precedes}
+use Rattle.buffers.specs.TextLaws.{every-append, every-implies, same-text-refl}
 use Rattle.syntax.specs.Path.{Name, Path, _▹_, last, depth}
 use Rattle.tree.specs.Forest.{Forest, nil, node, Place, get, size}
 use Rattle.tree.specs.ForestLaws.{differ-sym, found-none}

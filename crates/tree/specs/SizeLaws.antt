@@ -5,7 +5,7 @@ use mathlib.Core.Bool.{true}
 use Prim.Native.Nat.{suc, _+_, _≤_}
 use native.Mathlib.Omega.{arith}
 use lib.ListN.{length}
-use Rattle.syntax.specs.Text.{every}
+use Rattle.buffers.specs.Text.{every}
 use Rattle.syntax.specs.Path.{Name, Path, is-name}
 use Rattle.tree.specs.Forest.{Forest, nil, node, Place, under, place-at, size, names}
 use Rattle.tree.specs.Node.{Node}

@@ -7,7 +7,7 @@ use mathlib.Core.List.{List, [], _∷_}
 use mathlib.Core.Option.{some}
 use mathlib.Core.Bool.{Bool, true, false, _&&_, not}
 use Prim.Native.Nat.{_≤_}
-use Rattle.syntax.specs.Text.{same-text, precedes, every}
+use Rattle.buffers.specs.Text.{same-text, precedes, every}
 use Rattle.syntax.specs.Number.{set-gid, is-mode}
 use Rattle.syntax.specs.Path.{Name, is-name, is-entry-path}
 use Rattle.syntax.specs.Field.{is-content}

@@ -6,9 +6,9 @@ use mathlib.Core.Bool.{Bool, true, false, _||_, not}
 use Prim.Native.Nat.{_≤_}
 use native.Mathlib.Omega.{arith}
 use borrow.Author.Tests.{ltb-true, lt-ltb, leb-true, le-leb, not-true}
-use Rattle.accounts.specs.Cases.{case, and-both, contra}
-use Rattle.syntax.specs.Text.{same-text, precedes, every}
-use Rattle.syntax.specs.TextLaws.{precedes-irrefl, precedes-trans, precedes-total, precedes-differ, every-implies}
+use Rattle.buffers.specs.Cases.{case, and-both, contra}
+use Rattle.buffers.specs.Text.{same-text, precedes, every}
+use Rattle.buffers.specs.TextLaws.{precedes-irrefl, precedes-trans, precedes-total, precedes-differ, every-implies}
 use Rattle.syntax.specs.Number.{set-gid}
 use Rattle.syntax.specs.Path.{Name, Path, root, _▹_, depth, is-name}
 use Rattle.syntax.specs.FormLaws.{no-answer, answered, both}

@@ -9,7 +9,6 @@ use lib.ListN.{length, getD}
 use Rattle.syntax.specs.Path.{Name, Path, _▹_, last, depth}
 use Rattle.tree.specs.declared.Child.{Child}
 use Rattle.tree.specs.declared.Child.the-variants.{Found, Missing}
-use Rattle.tree.specs.Result.{_>>=_, _>>_}
 use Rattle.tree.specs.Forest.{Place, get, place-at, size}
 use Rattle.tree.specs.Node.{Node}
 use Rattle.tree.specs.WellFormed.{is-tree, nodes}

@@ -5,7 +5,7 @@ use mathlib.Core.Bool.{Bool, true, _&&_, _||_, not}
 use Prim.Native.Nat.{ℕ, suc}
 use lib.Dec.{eqb, leb, ltb}
 use lib.ListN.{length}
-use Rattle.syntax.specs.Text.{Text, precedes}
+use Rattle.buffers.specs.Text.{Text, precedes}
 use Rattle.syntax.specs.Number.{set-gid, is-mode}
 use Rattle.syntax.specs.Path.{Name, is-name, is-entry-path, most-names}
 use Rattle.syntax.specs.Field.{is-content}

@@ -6,10 +6,10 @@ use Prim.Native.Nat.{_+_, _≤_}
 use native.Mathlib.Omega.{arith}
 use lib.Dec.{leb}
 use borrow.Author.Tests.{leb-true, le-leb}
+use Rattle.buffers.specs.Cases.{case, and-both, contra}
+use Rattle.buffers.specs.Text.{same-text, precedes}
+use Rattle.buffers.specs.TextLaws.{precedes-trans, precedes-differ}
 use Rattle.accounts.specs.declared.Account.{Account}
-use Rattle.accounts.specs.Cases.{case, and-both, contra}
-use Rattle.syntax.specs.Text.{same-text, precedes}
-use Rattle.syntax.specs.TextLaws.{precedes-trans, precedes-differ}
 use Rattle.syntax.specs.Path.{Name, Path, root, _▹_, depth, is-name, most-names}
 use Rattle.syntax.specs.FormLaws.{no-answer, answered}
 use Rattle.tree.specs.Result.{done}

@@ -1,9 +1,7 @@
 // The file tree as rows in preorder in a lent buffer of 59,394 bytes; docs/FORMAT.md has the layout.
-mod bytes;
 mod rows;
 mod scan;
 
-pub use bytes::write;
 pub use rows::content_at;
 pub use rows::count;
 pub use rows::depth_at;
@@ -15,7 +13,6 @@ pub use rows::owner_at;
 pub use rows::revision_at;
 pub use rows::tag_path_at;
 pub use rows::tag_revision_at;
-pub use scan::compare;
 pub use scan::find_child;
 pub use scan::subtree_end;
 
@@ -46,13 +43,6 @@ pub enum Cause {
     Unsound,
     TooDeep,
     ShortAnswer,
-}
-
-// How a text stands to another in byte order.
-pub enum Order {
-    Before,
-    Same,
-    After,
 }
 
 // The row of a child, or where a child of that name would stand.

@@ -1,49 +1,16 @@
 // The fields of a row.
 ghost use mathlib.Core.Path.{_≡_};
-ghost use Prim.Native.Nat.{_+_, _*_, _≤_, _<_};
+ghost use Prim.Native.Nat.{_+_, _*_, _<_};
 ghost use lib.ListN.{length};
-ghost use Rattle.tree.specs.Fields.{number-at, text-at};
 ghost use Rattle.tree.specs.RowAt.{row-count, row-at, tag-text-at, tag-number-at};
 use crate::Kind;
 use accounts::Gid;
 use accounts::Uid;
+use buffers::number;
+use buffers::text;
 
 // The bytes of a row.
 const ROW: usize = 232;
-
-// A number of two bytes, the low one first.
-fn number(s: &[u8], at: usize) -> u16
-    requires { ⌜ at + 1 < length (now s) ⌝ }
-    ensures { λ r. ⌜ r ≡ number-at at (now (s .entry)) ⌝ }
-{
-    let low = s[at] as u16;
-    let high = s[at + 1] as u16;
-    low + 256 * high
-}
-
-// How many bytes in front of a field are its text.
-fn text_length(s: &[u8], at: usize, width: usize) -> usize
-    requires { ⌜ at + width ≤ length (now s) ⌝ }
-    ensures { λ r. ⌜ (r ≡ length (text-at at width (now (s .entry)))) × (r ≤ width) ⌝ }
-{
-    let mut i: usize = 0;
-    while i < width {
-        if s[at + i] == 0 {
-            return i;
-        }
-        i += 1;
-    }
-    i
-}
-
-// The text of a field, without the zeros that fill it up.
-fn text(s: &[u8], at: usize, width: usize) -> &[u8]
-    requires { ⌜ at + width ≤ length (now s) ⌝ }
-    ensures { λ r. ⌜ now r ≡ text-at at width (now (s .entry)) ⌝ }
-{
-    let n = text_length(s, at, width);
-    &s[at..at + n]
-}
 
 // How many rows there are.
 pub fn count(tree: &[u8]) -> usize

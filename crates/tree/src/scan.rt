@@ -3,35 +3,14 @@ ghost use mathlib.Core.Path.{_≡_};
 ghost use Prim.Native.Nat.{_≤_, _<_};
 ghost use lib.ListN.{length};
 ghost use Rattle.tree.specs.RowScan.{passes, is-child};
-ghost use Rattle.tree.specs.RowAt.{row-count, row-at, all-rows, order-of, end-of-subtree, child-at};
+ghost use Rattle.tree.specs.RowAt.{row-count, row-at, all-rows, end-of-subtree, child-at};
 use crate::Child;
-use crate::Order;
 use crate::rows::count;
 use crate::rows::depth_at;
 use crate::rows::name_at;
-
-// How a text stands to another in byte order.
-pub fn compare(s: &[u8], t: &[u8]) -> Order
-    ensures { λ r. ⌜ r ≡ order-of (now (s .entry)) (now (t .entry)) ⌝ }
-{
-    let mut i: usize = 0;
-    while i < s.len() {
-        if t.len() <= i {
-            return Order::After;
-        }
-        if s[i] < t[i] {
-            return Order::Before;
-        }
-        if t[i] < s[i] {
-            return Order::After;
-        }
-        i += 1;
-    }
-    if i < t.len() {
-        return Order::Before;
-    }
-    Order::Same
-}
+use buffers::Order;
+use buffers::compare;
+use buffers::same;
 
 // Where the rows of a place end: at the next row that is no deeper, or after the last.
 pub fn subtree_end(tree: &[u8], at: usize) -> usize
@@ -77,7 +56,7 @@ fn is_child(tree: &[u8], i: usize, depth: usize, name: &[u8]) -> bool
     if depth_at(tree, i) as usize != depth {
         return false;
     }
-    syntax::same(name_at(tree, i), name)
+    same(name_at(tree, i), name)
 }
 
 // The child of a place, or where it would stand.

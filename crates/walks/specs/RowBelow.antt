@@ -5,7 +5,8 @@ use mathlib.Core.Bool.{Bool, cond}
 use Prim.Native.Nat.{ℕ, suc, _+_, _-_}
 use lib.Dec.{eqb}
 use lib.ListN.{length, take, drop}
-use Rattle.syntax.specs.Text.{Text, comma, joined}
+use Rattle.buffers.specs.Text.{Text}
+use Rattle.syntax.specs.Pieces.{comma, joined}
 use Rattle.tree.specs.Forest.{larger}
 use Rattle.tree.specs.Node.{Node}
 use Rattle.tree.specs.Rows.{Row}

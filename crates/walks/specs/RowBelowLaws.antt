@@ -17,8 +17,10 @@ use lib.Dec.{eqb, ltb}
 use lib.ListN.{length, set, take, drop, length-append, length-take}
 use lib.Seq.{drop-cons, take-at, take-length, take-append-seam, drop-append-add, set-split, drop-drop, paste}
 use borrow.Author.Tests.{lt-ltb, le-ltb, le-leb, eq-eqb, ne-eqb}
-use Rattle.accounts.specs.Cases.{case}
-use Rattle.syntax.specs.Text.{Text, comma, joined}
+use Rattle.buffers.specs.Cases.{case}
+use Rattle.buffers.specs.Text.{Text}
+use Rattle.buffers.specs.Fields.{unpadded, text-at}
+use Rattle.syntax.specs.Pieces.{comma, joined}
 use Rattle.syntax.specs.Path.{Path, depth}
 use Rattle.tree.specs.Forest.{Forest, nil, node, Place, is-empty, place-at, larger, height, names}
 use Rattle.tree.specs.ForestLaws.{larger-bounds, larger-least}
@@ -26,7 +28,6 @@ use Rattle.tree.specs.Node.{Node}
 use Rattle.tree.specs.Rows.{Row, flatten, rows}
 use Rattle.tree.specs.RowLaws.{length-flatten}
 use Rattle.tree.specs.WellFormed.{is-tree}
-use Rattle.tree.specs.Fields.{unpadded, text-at}
 use Rattle.tree.specs.Encoding.{row-of, encode-tree}
 use Rattle.tree.specs.RowContext.{ends, index-of, Around, around}
 use Rattle.tree.specs.RowScan.{span, first-passes, deeper, first-at, span-end, ends-deeper, rows-from-children, subtree-span}

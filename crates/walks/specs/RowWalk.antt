@@ -2,8 +2,8 @@
 use mathlib.Core.List.{List, [], _∷_}
 use Prim.Native.Nat.{ℕ}
 use lib.ListN.{take, drop}
+use Rattle.buffers.specs.Text.{Text}
 use Rattle.accounts.specs.declared.Account.{Account}
-use Rattle.syntax.specs.Text.{Text}
 use Rattle.syntax.specs.Path.{Name, Path, parent}
 use Rattle.syntax.specs.Parts.{last-slash}
 use Rattle.syntax.specs.PathPartsLaws.{path-names}

@@ -9,10 +9,10 @@ use lib.Dec.{ltb}
 use lib.ListN.{length, getD, take, drop}
 use lib.Seq.{drop-cons}
 use borrow.Author.Tests.{ltb-true, ltb-false}
-use Rattle.accounts.specs.Cases.{case, contra}
+use Rattle.buffers.specs.Cases.{case, contra}
+use Rattle.buffers.specs.Text.{Text}
 use Rattle.accounts.specs.declared.Account.{Account}
 use Rattle.accounts.specs.declared.Right.the-variants.{X}
-use Rattle.syntax.specs.Text.{Text}
 use Rattle.syntax.specs.Path.{Name}
 use Rattle.syntax.specs.Parts.{last-slash}
 use Rattle.syntax.specs.PathPartsLaws.{path-names}

@@ -5,8 +5,8 @@ use mathlib.Core.Option.{Option, none, some, Option·map}
 use mathlib.Core.Bool.{true}
 use Prim.Native.Nat.{ℕ}
 use lib.ListN.{take, drop}
+use Rattle.buffers.specs.Text.{Text}
 use Rattle.accounts.specs.declared.Account.{Account}
-use Rattle.syntax.specs.Text.{Text}
 use Rattle.syntax.specs.Path.{Name, Path, root, _▹_, parent, extended, path}
 use Rattle.syntax.specs.Parts.{last-slash}
 use Rattle.syntax.specs.PathPartsLaws.{path-names}

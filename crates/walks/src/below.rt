@@ -6,10 +6,10 @@ ghost use lib.ListN.{length, drop};
 ghost use Rattle.tree.specs.Forest.{larger};
 ghost use Rattle.tree.specs.RowAt.{row-count, row-at, all-rows};
 ghost use Rattle.walks.specs.RowBelow.{has-children, height-in, names-at, child-text, Adds};
+use buffers::write;
 use tree::count;
 use tree::depth_at;
 use tree::name_at;
-use tree::write;
 
 // Whether a row has children: the first would be the next row.
 pub fn has_children(tree: &[u8], at: usize) -> bool

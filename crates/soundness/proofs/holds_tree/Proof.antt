@@ -5,11 +5,11 @@ use mathlib.Core.Bool.{_&&_, and-false}
 use Prim.Native.Nat.{ℕ, _+_, _-_, _*_}
 use native.Mathlib.Omega.{arith}
 use denote.Ref.{now}
-use Rattle.syntax.specs.PartsLaws.{answers-false, answers-true}
+use Rattle.buffers.specs.Cases.{answers-false, answers-true}
+use Rattle.buffers.specs.Fields.{zeros-at}
 use Rattle.tree.specs.RowAt.{row-count, row-bytes-at, row-at}
 use Rattle.soundness.specs.Sound.{is-row, is-top, is-sound}
 use Rattle.soundness.specs.SoundLaws.{sound-is}
-use Rattle.soundness.specs.Tests.{zeros-at}
 use Rattle.soundness.specs.Tests.{rest-in-order}
 use Rattle.soundness.specs.SoundTestLaws.{not-long, no-rows, many-rows, top-at-zero, sound-in-parts}
 use borrow.Author.Needs.{needs}

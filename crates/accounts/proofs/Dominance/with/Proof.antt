@@ -10,9 +10,9 @@ use lib.ListN.{length, take, drop, set, getD, length-set, drop-of-length-le, Lis
 use lib.Seq.{take-suc-set, drop-set-lt, drop-cons, take-all}
 use lib.Bits.{or-zero-r}
 use borrow.Author.Needs.{needs}
+use Rattle.buffers.specs.Cases.{case}
 use Rattle.accounts.specs.declared.Role.{Role}
 use Rattle.accounts.specs.declared.Pair.{Pair}
-use Rattle.accounts.specs.Cases.{case}
 use Rattle.accounts.specs.Closure.{has-role, grown-row, grown-rows}
 use Rattle.accounts.proofs.Dominance.with.Statement.{statement}
 use Rattle.accounts.proofs.Dominance.with.Tie as tie

@@ -6,7 +6,8 @@ use mathlib.Core.List.{[], _∷_}
 use lib.ListN.{drop, length}
 use denote.Ref.{now}
 use borrow.Author.Needs.{needs}
-use Rattle.syntax.specs.Text.{comma, pieces, Text}
+use Rattle.buffers.specs.Text.{Text}
+use Rattle.syntax.specs.Pieces.{comma, pieces}
 use Rattle.syntax.specs.Form.{by-form}
 use Rattle.commands.specs.Command.{forms}
 use Rattle.syntax.specs.Parts.{span-text}

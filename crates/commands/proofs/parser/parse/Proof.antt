@@ -6,7 +6,8 @@ use mathlib.Core.List.{_∷_}
 use lib.ListN.{drop, length}
 use denote.Ref.{now}
 use borrow.Author.Needs.{needs}
-use Rattle.syntax.specs.Text.{Text, comma, pieces}
+use Rattle.buffers.specs.Text.{Text}
+use Rattle.syntax.specs.Pieces.{comma, pieces}
 use Rattle.syntax.specs.Parts.{part, span-text, number-of}
 use Rattle.syntax.specs.FieldAtLaws.{Field-at, field-is, field-goes-on, field-inside, last-piece, next-field}
 use Rattle.commands.specs.Parsed.{found}

@@ -5,7 +5,7 @@ use mathlib.Core.Bool.{and-false}
 use denote.Ref.{now}
 use borrow.Author.Tests.{not-true, not-false}
 use borrow.Author.Needs.{needs}
-use Rattle.syntax.specs.Text.{bytes}
+use Rattle.syntax.specs.Pieces.{bytes}
 use Rattle.syntax.specs.Form.{by-form}
 use Rattle.commands.specs.Command.{forms}
 use Rattle.syntax.specs.Parts.{span-text, number-of}

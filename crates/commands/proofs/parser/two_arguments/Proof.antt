@@ -3,7 +3,7 @@ use mathlib.Core.Path.{sym, _∙_}
 use mathlib.Core.List.{[], _∷_}
 use denote.Ref.{now}
 use borrow.Author.Needs.{needs}
-use Rattle.syntax.specs.Text.{bytes}
+use Rattle.syntax.specs.Pieces.{bytes}
 use Rattle.syntax.specs.Form.{by-form}
 use Rattle.commands.specs.Command.{forms}
 use Rattle.syntax.specs.Parts.{span-text}

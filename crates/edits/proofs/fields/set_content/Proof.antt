@@ -2,8 +2,8 @@
 use mathlib.Core.Path.{_∙_}
 use native.Mathlib.Omega.{arith}
 use denote.Ref.{now}
-use Rattle.tree.specs.Fields.{padded}
-use Rattle.tree.specs.FieldsLaws.{length-padded}
+use Rattle.buffers.specs.Fields.{padded}
+use Rattle.buffers.specs.FieldsLaws.{length-padded}
 use Rattle.edits.specs.Written.{piece-put}
 use borrow.Author.Needs.{needs}
 use Rattle.edits.proofs.fields.set_content.Statement.{statement}

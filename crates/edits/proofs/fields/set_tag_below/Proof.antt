@@ -5,7 +5,7 @@ use Prim.Native.Nat.{ℕ, _+_, _-_, _*_}
 use lib.ListN.{length, set, length-set}
 use lib.Seq.{paste}
 use denote.Ref.{now}
-use Rattle.tree.specs.Fields.{two-bytes, padded}
+use Rattle.buffers.specs.Fields.{two-bytes, padded}
 use Rattle.tree.specs.RowAt.{tag-text-at}
 use Rattle.edits.specs.Written.{tag-below-put}
 use native.Mathlib.Omega.{arith}

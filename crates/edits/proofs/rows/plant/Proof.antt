@@ -5,7 +5,7 @@ use Prim.Native.Nat.{ℕ}
 use native.Mathlib.Omega.{arith}
 use lib.Seq.{paste}
 use denote.Ref.{now}
-use Rattle.tree.specs.Fields.{two-bytes}
+use Rattle.buffers.specs.Fields.{two-bytes}
 use Rattle.tree.specs.Encoding.{row-bytes}
 use Rattle.edits.specs.Changes.{fresh-node}
 use Rattle.edits.specs.Written.{planted-tree}

@@ -5,7 +5,7 @@ use Prim.Native.Nat.{ℕ, _+_, _*_}
 use native.Mathlib.Omega.{arith}
 use lib.Seq.{paste}
 use denote.Ref.{now}
-use Rattle.tree.specs.Fields.{two-bytes}
+use Rattle.buffers.specs.Fields.{two-bytes}
 use Rattle.tree.specs.Encoding.{row-width}
 use Rattle.edits.specs.Written.{put-written}
 use borrow.Author.Needs.{needs}
@@ -36,12 +36,12 @@ mul-move-bytes-2 c = search needs
 move-bytes-requires : tie.Need-move-bytes-requires
 move-bytes-requires c κs = search needs
 
-mul-write : tie.Need-mul-write
-mul-write c = search needs
+mul-write-many : tie.Need-mul-write-many
+mul-write-many c = search needs
 
-write-requires : tie.Need-write-requires
+write-many-requires : tie.Need-write-many-requires
 unfolding row-width
-write-requires c κs = (omega arith, omega arith)
+write-many-requires c κs = (omega arith, omega arith)
 
 add-write-number : tie.Need-add-write-number
 add-write-number c = search needs
@@ -65,7 +65,7 @@ returns c =
     let a = s .args in
     let start = 2 + 232 * a .at in
     n .write-number .ensures
-    ∙ ap (λ (l : List ℕ). paste l 0 (two-bytes (k .result + a .n)) 2) (w .write .ensures)
+    ∙ ap (λ (l : List ℕ). paste l 0 (two-bytes (k .result + a .n)) 2) (w .write-many .ensures)
     ∙ ap (λ (l : List ℕ). paste (paste l start (now (a .rows)) (232 * a .n)) 0 (two-bytes (k .result + a .n)) 2) (m .move-bytes .ensures)
     ∙ put-written (now (a .tree)) (now (a .rows)) (a .at) (a .n) (k .result) (omega arith) (k .ensures) (omega arith) (omega arith)
 
@@ -81,8 +81,8 @@ put-rows-spec =
     sub-move-bytes
     mul-move-bytes-2
     move-bytes-requires
-    mul-write
-    write-requires
+    mul-write-many
+    write-many-requires
     add-write-number
     cast-write-number
     write-number-requires

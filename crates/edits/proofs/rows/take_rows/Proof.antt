@@ -6,7 +6,7 @@ use native.Mathlib.Omega.{arith}
 use lib.ListN.{replicate}
 use lib.Seq.{paste}
 use denote.Ref.{now}
-use Rattle.tree.specs.Fields.{two-bytes}
+use Rattle.buffers.specs.Fields.{two-bytes}
 use Rattle.edits.specs.Written.{taken-written}
 use borrow.Author.Needs.{needs}
 use Rattle.edits.proofs.rows.take_rows.Statement.{statement}

@@ -5,7 +5,7 @@ use Prim.Native.Nat.{ℕ, _+_}
 use native.Mathlib.Omega.{arith}
 use lib.Seq.{paste}
 use denote.Ref.{now}
-use Rattle.tree.specs.Fields.{two-bytes}
+use Rattle.buffers.specs.Fields.{two-bytes}
 use Rattle.edits.specs.Written.{head-written}
 use borrow.Author.Needs.{needs}
 use Rattle.edits.proofs.rows.write_head.Statement.{statement}

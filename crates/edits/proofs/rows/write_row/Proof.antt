@@ -6,7 +6,7 @@ use native.Mathlib.Omega.{arith}
 use lib.ListN.{replicate}
 use lib.Seq.{paste}
 use denote.Ref.{now}
-use Rattle.tree.specs.Fields.{padded}
+use Rattle.buffers.specs.Fields.{padded}
 use Rattle.edits.specs.Written.{fresh-row, row-written}
 use borrow.Author.Needs.{needs}
 use Rattle.edits.proofs.rows.write_row.Statement.{statement}

@@ -30,8 +30,8 @@ sub-n c =
     let q = movable-end m (e .result) (e .ensures .0) in
     omega (arith, q)
 
-mul-write : tie.Need-mul-write
-mul-write c =
+mul-write-many : tie.Need-mul-write-many
+mul-write-many c =
     let s = c .before .before .before .before .before .before in
     let m = s .pre .0 in
     let z = movable-sized m in
@@ -39,8 +39,8 @@ mul-write c =
     let q = movable-end m (e .result) (e .ensures .0) in
     omega (arith, q, z .wide, z .few-rows, movable-row m)
 
-add-write : tie.Need-add-write
-add-write c =
+add-write-many : tie.Need-add-write-many
+add-write-many c =
     let s = c .before .before .before .before .before .before in
     let m = s .pre .0 in
     let z = movable-sized m in
@@ -48,8 +48,8 @@ add-write c =
     let q = movable-end m (e .result) (e .ensures .0) in
     omega (arith, q, z .wide, z .few-rows, movable-row m)
 
-sub-write : tie.Need-sub-write
-sub-write c =
+sub-write-many : tie.Need-sub-write-many
+sub-write-many c =
     let s = c .before .before .before .before .before .before in
     let m = s .pre .0 in
     let z = movable-sized m in
@@ -57,8 +57,8 @@ sub-write c =
     let q = movable-end m (e .result) (e .ensures .0) in
     omega (arith, q, z .wide, z .few-rows, movable-row m)
 
-part-write-start : tie.Need-part-write-start
-part-write-start c =
+part-write-many-start : tie.Need-part-write-many-start
+part-write-many-start c =
     let s = c .before .before .before .before .before .before .before in
     let m = s .pre .0 in
     let z = movable-sized m in
@@ -66,11 +66,11 @@ part-write-start c =
     let q = movable-end m (e .result) (e .ensures .0) in
     omega (arith, q, z .wide, z .few-rows, movable-row m)
 
-part-write-end : tie.Need-part-write-end
-part-write-end c = search needs
+part-write-many-end : tie.Need-part-write-many-end
+part-write-many-end c = search needs
 
-mul-write-2 : tie.Need-mul-write-2
-mul-write-2 c =
+mul-write-many-2 : tie.Need-mul-write-many-2
+mul-write-many-2 c =
     let s = c .before .before .before .before .before .before .before .before in
     let m = s .pre .0 in
     let z = movable-sized m in
@@ -78,8 +78,8 @@ mul-write-2 c =
     let q = movable-end m (e .result) (e .ensures .0) in
     omega (arith, q, z .wide, z .few-rows, movable-row m)
 
-write-requires : tie.Need-write-requires
-write-requires c κs =
+write-many-requires : tie.Need-write-many-requires
+write-many-requires c κs =
     let s = c .before .before .before .before .before .before .before .before in
     let m = s .pre .0 in
     let z = movable-sized m in
@@ -124,7 +124,7 @@ relabel-requires c κs =
     let z = movable-sized m in
     let e = c .before .before .before .before .before .before .before .before .before .before .before .before .before .before .subtree-end in
     let q = movable-end m (e .result) (e .ensures .0) in
-    let w = c .before .before .before .before .before .before .before .before .before .before .write .kept .0 in
+    let w = c .before .before .before .before .before .before .before .before .before .before .write-many .kept .0 in
     let n = ap length (c .before .last-name .ensures ∙ behind-slash-is (now (s .args .to)) (m .b) (m .reads)) in
     (omega (arith, q, z .few-rows, w, s .pre .1), (omega (arith, w, s .pre .1), omega (arith, n, name-fits (last (m .b)) (movable-name m) .0)))
 
@@ -140,7 +140,7 @@ put-rows-requires c κs =
     let k = c .before .before .before .before .before .before .before .before .before .before .before .take-rows in
     let count : n ≡ suc (size (m .d .below)) = omega arith in
     let v = left m n count (k .last .0) (k .ensures) in
-    let w = c .before .before .before .before .before .before .before .before .before .before .before .before .before .before .before .write .kept .0 in
+    let w = c .before .before .before .before .before .before .before .before .before .before .before .before .before .before .before .write-many .kept .0 in
     let h = c .before .before .before .before .relabel .kept .0 in
     let g = c .before .before .before .before .before .before .before .gap-for .ensures v .0 in (
       vacant-sized v .wide,
@@ -165,7 +165,7 @@ returns c =
     let e = c .before .before .before .before .before .before .before .before .before .before .before .before .before .before .before .before .before .before .before .before .before .before .subtree-end in
     let n = e .result - s .args .at in
     let k = c .before .before .before .before .before .before .before .before .before .before .before .before .before .before .take-rows in
-    let w = c .before .before .before .before .before .before .before .before .before .before .before .before .before .before .before .before .before .before .write in
+    let w = c .before .before .before .before .before .before .before .before .before .before .before .before .before .before .before .before .before .before .write-many in
     let g = c .before .before .before .before .before .before .before .before .before .before .gap-for in
     let l = c .before .before .before .before .before .before .before .relabel in
     let name = c .before .before .before .before .before .before .before .before .before .last-name in
@@ -195,13 +195,13 @@ move-by-spec =
     (tie.spec
     subtree-end-requires
     sub-n
-    mul-write
-    add-write
-    sub-write
-    part-write-start
-    part-write-end
-    mul-write-2
-    write-requires
+    mul-write-many
+    add-write-many
+    sub-write-many
+    part-write-many-start
+    part-write-many-end
+    mul-write-many-2
+    write-many-requires
     take-rows-requires
     gap-for-requires
     last-name-requires

@@ -4,7 +4,7 @@ use mathlib.Core.List.{List}
 use Prim.Native.Nat.{ℕ}
 use lib.Seq.{paste}
 use denote.Ref.{now}
-use Rattle.tree.specs.Fields.{padded}
+use Rattle.buffers.specs.Fields.{padded}
 use Rattle.moving.specs.Relabel.{relabelled}
 use borrow.Author.Needs.{needs}
 use Rattle.moving.proofs.subtree.relabel.Statement.{statement}

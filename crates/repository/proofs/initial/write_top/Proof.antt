@@ -1,6 +1,6 @@
 -- `repository::initial::write_top` meets its contract: `/` alone, then `/rep` put in.
 use mathlib.Core.Path.{_∙_, ap}
-use Rattle.syntax.specs.Text.{bytes}
+use Rattle.syntax.specs.Pieces.{bytes}
 use Rattle.syntax.specs.Path.{rep}
 use Rattle.tree.specs.Forest.{nil}
 use Rattle.tree.specs.Encoding.{encode-tree}

@@ -4,7 +4,7 @@ use native.Mathlib.Omega.{arith}
 use denote.Ref.{now}
 use Prim.Native.Nat.{_+_, _≤_}
 use lib.ListN.{length}
-use Rattle.syntax.specs.Text.{Text}
+use Rattle.buffers.specs.Text.{Text}
 use Rattle.setup.specs.Reader.{reading-value}
 use Rattle.syntax.specs.FieldAtLaws.{Field-at, field-is, field-goes-on, field-inside, last-piece, next-piece, last-field, next-field, follow}
 use Rattle.setup.specs.ReaderLaws.{unread}

@@ -1,7 +1,7 @@
 -- `setup::reader::no_setup` meets its contract by computation.
 use native.Mathlib.Omega.{arith}
 use mathlib.Core.Path.{refl}
-use Rattle.syntax.specs.Text.{every}
+use Rattle.buffers.specs.Text.{every}
 use Rattle.setup.specs.Setup.{no-setup, accounts}
 use Rattle.setup.specs.Reader.{setup-value, slot-value}
 use Rattle.setup.proofs.reader.no_setup.Statement.{statement}

@@ -6,8 +6,9 @@ use borrow.Author.Tests.{not-true, not-false}
 use lib.ListN.{length, take, drop}
 use lib.Seq.{length-take-le}
 use denote.Ref.{now}
+use Rattle.buffers.specs.Text.{Text}
+use Rattle.syntax.specs.Pieces.{bytes, newline, pieces}
 use Rattle.setup.specs.declared.Reading.{Reading}
-use Rattle.syntax.specs.Text.{Text, bytes, newline, pieces}
 use Rattle.setup.specs.Setup.{read-lines, setup}
 use Rattle.syntax.specs.Parts.{part, span-text}
 use Rattle.setup.specs.Reader.{Held, reading-value}

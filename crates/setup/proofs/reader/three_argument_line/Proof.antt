@@ -2,8 +2,8 @@
 use mathlib.Core.Path.{_∙_}
 use native.Mathlib.Omega.{arith}
 use denote.Ref.{now}
-use Rattle.syntax.specs.PartsLaws.{answers-false, answers-true}
-use Rattle.syntax.specs.Text.{bytes}
+use Rattle.buffers.specs.Cases.{answers-false, answers-true}
+use Rattle.syntax.specs.Pieces.{bytes}
 use Rattle.syntax.specs.Parts.{span-text}
 use Rattle.setup.specs.Reader.{reading-value}
 use Rattle.setup.specs.ReaderLaws.{unread}

@@ -2,7 +2,7 @@
 use mathlib.Core.Path.{sym, _∙_}
 use native.Mathlib.Omega.{arith}
 use denote.Ref.{now}
-use Rattle.syntax.specs.Text.{bytes}
+use Rattle.syntax.specs.Pieces.{bytes}
 use Rattle.syntax.specs.Parts.{span-text}
 use Rattle.setup.specs.Reader.{reading-value}
 use Rattle.setup.specs.ReaderLaws.{unread}

@@ -3,11 +3,11 @@ use mathlib.Core.Path.{_≡_, sym, _∙_, ap}
 use Prim.Native.Nat.{_-_}
 use native.Mathlib.Omega.{arith}
 use denote.Ref.{now}
-use Rattle.syntax.specs.PartsLaws.{answers-false, answers-true}
+use Rattle.buffers.specs.Cases.{answers-false, answers-true}
+use Rattle.buffers.specs.TextLaws.{is-before, order-tells}
 use Rattle.syntax.specs.Path.{is-name}
 use Rattle.tree.specs.Node.{is-directory}
 use Rattle.tree.specs.RowAt.{row-at}
-use Rattle.tree.specs.RowAtLaws.{is-before, order-tells}
 use Rattle.soundness.specs.Sound.{may-follow}
 use Rattle.soundness.specs.OrderTestLaws.{follow-name, follow-top, follow-far, follow-below, follow-beside}
 use borrow.Author.Needs.{needs}

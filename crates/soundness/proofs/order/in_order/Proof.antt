@@ -10,9 +10,9 @@ use lib.Dec.{ltb}
 use lib.ListN.{length, getD, set, replicate, length-set}
 use borrow.Author.Tests.{lt-ltb, ltb-true}
 use denote.Ref.{now}
-use Rattle.syntax.specs.Text.{every}
-use Rattle.syntax.specs.TextLaws.{every-getD, every-set}
-use Rattle.syntax.specs.PartsLaws.{answers-false, answers-true}
+use Rattle.buffers.specs.Cases.{answers-false, answers-true}
+use Rattle.buffers.specs.Text.{every}
+use Rattle.buffers.specs.TextLaws.{every-getD, every-set}
 use Rattle.tree.specs.declared.Kind.{Kind}
 use Rattle.tree.specs.RowAt.{row-count, row-bytes-at, row-at}
 use Rattle.soundness.specs.Sound.{is-row, may-follow}

@@ -3,7 +3,7 @@ use mathlib.Core.Path.{sym, _∙_, ap}
 use native.Mathlib.Omega.{arith}
 use lib.ListN.{length}
 use denote.Ref.{now}
-use Rattle.syntax.specs.PartsLaws.{answers-false, answers-true}
+use Rattle.buffers.specs.Cases.{answers-false, answers-true}
 use Rattle.tree.specs.Encoding.{row-of}
 use Rattle.tree.specs.RowAt.{row-at}
 use Rattle.syntax.specs.Field.{is-content}

@@ -3,9 +3,9 @@ use mathlib.Core.Path.{sym, _∙_, ap}
 use native.Mathlib.Omega.{arith}
 use Prim.Native.Nat.{ℕ}
 use lib.Dec.{leb}
+use Rattle.buffers.specs.Cases.{answers-false, answers-true}
 use Rattle.syntax.specs.Number.{is-mode}
 use denote.Ref.{now}
-use Rattle.syntax.specs.PartsLaws.{answers-false, answers-true}
 use Rattle.soundness.specs.FieldTestLaws.{numbers-kind, numbers-owner, numbers-group, numbers-mode, numbers-revision}
 use borrow.Author.Needs.{needs}
 use Rattle.soundness.proofs.row.has_numbers.Statement.{statement}

@@ -4,9 +4,9 @@ use Prim.Native.Nat.{ℕ}
 use native.Mathlib.Omega.{arith}
 use lib.ListN.{length}
 use denote.Ref.{now}
-use Rattle.syntax.specs.PartsLaws.{answers-false, answers-true}
 use lib.Dec.{leb}
-use Rattle.syntax.specs.Text.{Text}
+use Rattle.buffers.specs.Cases.{answers-false, answers-true}
+use Rattle.buffers.specs.Text.{Text}
 use Rattle.syntax.specs.Path.{entry-path}
 use Rattle.syntax.specs.Form.{is-some}
 use Rattle.tree.specs.RowAt.{tag-text-at}

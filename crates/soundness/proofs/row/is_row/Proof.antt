@@ -4,7 +4,7 @@ use mathlib.Core.List.{List}
 use Prim.Native.Nat.{ℕ}
 use native.Mathlib.Omega.{arith}
 use denote.Ref.{now}
-use Rattle.syntax.specs.PartsLaws.{answers-false, answers-true}
+use Rattle.buffers.specs.Cases.{answers-false, answers-true}
 use Rattle.tree.specs.RowAt.{row-bytes-at}
 use Rattle.soundness.specs.Sound.{is-row}
 use Rattle.soundness.specs.Tests.{row-test}

@@ -10,12 +10,11 @@ use denote.Ref.{now}
 use borrow.Author.Tests.{le-leb, lt-leb, not-true, leb-true, eqb-false}
 use borrow.Author.Needs.{needs}
 use mathlib.Core.Option.{none, some}
-use Rattle.accounts.specs.Cases.{case, and-both}
-use Rattle.syntax.specs.Text.{Text, every}
+use Rattle.buffers.specs.Cases.{case, and-both, answers-false, answers-true}
+use Rattle.buffers.specs.Text.{Text, every}
 use Rattle.syntax.specs.Form.{_>>=_, _>>_, check}
 use Rattle.syntax.specs.Number.{digit, value-after, no-leading-zero, decimal, between}
 use Rattle.syntax.specs.Parts.{number-of, of-class}
-use Rattle.syntax.specs.PartsLaws.{answers-false, answers-true}
 use Rattle.syntax.proofs.numerals.between.Statement.{statement}
 use Rattle.syntax.proofs.numerals.between.Tie as tie
 

@@ -11,12 +11,11 @@ use borrow.Author.Tests.{eq-eqb, ne-eqb, eqb-true}
 use borrow.Author.Needs.{needs}
 use mathlib.Core.Logic.{⊎-elim}
 use mathlib.Core.Option.{none, some}
-use Rattle.accounts.specs.Cases.{case, and-both}
-use Rattle.syntax.specs.Text.{Text, every}
+use Rattle.buffers.specs.Cases.{case, and-both, answers-false, answers-true}
+use Rattle.buffers.specs.Text.{Text, every}
 use Rattle.syntax.specs.Form.{_>>_, check}
 use Rattle.syntax.specs.Number.{digit, value-after, mode-digits, mode}
 use Rattle.syntax.specs.Parts.{number-of, of-class}
-use Rattle.syntax.specs.PartsLaws.{answers-false, answers-true}
 use Rattle.syntax.proofs.numerals.mode.Statement.{statement}
 use Rattle.syntax.proofs.numerals.mode.Tie as tie
 

@@ -12,10 +12,10 @@ use lib.ListN.{length, drop, getD, drop-of-length-le}
 use lib.Seq.{drop-cons}
 use denote.Ref.{now}
 use borrow.Author.Tests.{ltb-true, leb-true}
-use Rattle.accounts.specs.Cases.{and-both}
-use Rattle.syntax.specs.Text.{every}
+use Rattle.buffers.specs.Cases.{and-both}
+use Rattle.buffers.specs.Text.{every}
+use Rattle.buffers.specs.TextLaws.{every-from}
 use Rattle.syntax.specs.Number.{digit, value-after}
-use Rattle.syntax.specs.PartsLaws.{every-from}
 use Rattle.syntax.proofs.numerals.value.Statement.{statement}
 use Rattle.syntax.proofs.numerals.value.Tie as tie
 

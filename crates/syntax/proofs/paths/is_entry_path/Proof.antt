@@ -4,9 +4,9 @@ use mathlib.Core.Path.{sym, _∙_}
 use denote.Ref.{now}
 use borrow.Author.Needs.{needs}
 use lib.Seq.{length-take-le}
-use Rattle.syntax.specs.Text.{bytes}
+use Rattle.buffers.specs.Cases.{answers-false, answers-true}
+use Rattle.syntax.specs.Pieces.{bytes}
 use Rattle.syntax.specs.PathPartsLaws.{entry-long, entry-begins, entry-is-path}
-use Rattle.syntax.specs.PartsLaws.{answers-false, answers-true}
 use Rattle.syntax.proofs.paths.is_entry_path.Statement.{statement}
 use Rattle.syntax.proofs.paths.is_entry_path.Tie as tie
 

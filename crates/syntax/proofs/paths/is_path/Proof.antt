@@ -5,11 +5,11 @@ use mathlib.Core.Path.{_≡_, sym, ap, _∙_}
 use mathlib.Core.List.{List}
 use lib.ListN.{length, drop}
 use denote.Ref.{now}
-use Rattle.syntax.specs.Text.{pieces}
+use Rattle.buffers.specs.Cases.{answers-false, answers-true}
+use Rattle.syntax.specs.Pieces.{pieces}
 use Rattle.syntax.specs.Path.{path}
 use Rattle.syntax.specs.Form.{is-some}
 use Rattle.syntax.specs.PathPartsLaws.{names-left, names-full, names-stop-from, names-last-from, names-next-from, path-empty, path-begins, path-top, path-is-names}
-use Rattle.syntax.specs.PartsLaws.{answers-false, answers-true}
 use Rattle.syntax.specs.Parts.{part}
 use Rattle.syntax.proofs.paths.is_path.Statement.{statement}
 use Rattle.syntax.proofs.paths.is_path.Tie as tie

@@ -7,10 +7,11 @@ use mathlib.Core.Bool.{Bool, true, false}
 use mathlib.Core.List.{List}
 use lib.ListN.{length, drop, getD}
 use denote.Ref.{now}
+use Rattle.buffers.specs.Cases.{answers-false, answers-true}
+use Rattle.buffers.specs.Text.{every}
+use Rattle.buffers.specs.TextLaws.{every-from, every-end}
 use Rattle.syntax.specs.declared.Class.{Class}
-use Rattle.syntax.specs.Text.{every}
 use Rattle.syntax.specs.Parts.{of-class}
-use Rattle.syntax.specs.PartsLaws.{every-from, every-end, answers-false, answers-true}
 use Rattle.syntax.proofs.text.all_of.Statement.{statement}
 use Rattle.syntax.proofs.text.all_of.Tie as tie
 

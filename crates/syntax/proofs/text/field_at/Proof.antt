@@ -1,8 +1,8 @@
 -- `syntax::text::field_at` meets its contract: the end is where `piece_end` says.
 use mathlib.Core.Path.{sym}
 use borrow.Author.Needs.{needs}
+use Rattle.syntax.specs.Pieces.{comma}
 use Rattle.syntax.specs.Parts.{field-at}
-use Rattle.syntax.specs.Text.{comma}
 use Rattle.syntax.proofs.text.field_at.Statement.{statement}
 use Rattle.syntax.proofs.text.field_at.Tie as tie
 

@@ -5,9 +5,9 @@ use mathlib.Core.Path.{_≡_}
 use lib.Dec.{leb, ltb}
 use borrow.Author.Tests.{lt-ltb, le-ltb, leb-true, leb-false}
 use borrow.Author.Needs.{needs}
+use Rattle.buffers.specs.Cases.{case}
 use Rattle.syntax.specs.Parts.{of-class}
 use Rattle.syntax.specs.Number.{digit}
-use Rattle.accounts.specs.Cases.{case}
 use Rattle.syntax.proofs.text.in_class.Statement.{statement}
 use Rattle.syntax.proofs.text.in_class.Tie as tie
 

@@ -4,7 +4,7 @@ use native.Mathlib.Omega.{arith}
 use mathlib.Core.Path.{_≡_, refl, sym, _∙_}
 use mathlib.Core.Bool.{Bool, true, false, cond}
 use mathlib.Core.List.{List}
-use Rattle.syntax.specs.PartsLaws.{answers-false, answers-true}
+use Rattle.buffers.specs.Cases.{answers-false, answers-true}
 use Rattle.tree.specs.declared.Child.the-variants.{Found, Missing}
 use Rattle.tree.specs.RowScan.{passes, is-child}
 use Rattle.tree.specs.RowAt.{row-count, row-at, all-rows, child-at}

@@ -2,10 +2,11 @@
 use mathlib.Core.Path.{_≡_, ap, sym, _∙_}
 use native.Mathlib.Omega.{arith}
 use denote.Ref.{now}
-use Rattle.syntax.specs.Text.{Text}
+use Rattle.buffers.specs.Text.{Text, order-of}
+use Rattle.buffers.specs.TextLaws.{is-before}
 use Rattle.tree.specs.RowScan.{passes}
-use Rattle.tree.specs.RowAt.{row-at, order-of}
-use Rattle.tree.specs.RowAtLaws.{passes-below, passes-above, passes-beside, is-before}
+use Rattle.tree.specs.RowAt.{row-at}
+use Rattle.tree.specs.RowAtLaws.{passes-below, passes-above, passes-beside}
 use borrow.Author.Needs.{needs}
 use Rattle.tree.proofs.scan.goes_past.Statement.{statement}
 use Rattle.tree.proofs.scan.goes_past.Tie as tie

@@ -2,7 +2,7 @@
 use mathlib.Core.Path.{ap, sym, _∙_}
 use native.Mathlib.Omega.{arith}
 use denote.Ref.{now}
-use Rattle.syntax.specs.Text.{Text, same-text}
+use Rattle.buffers.specs.Text.{Text, same-text}
 use Rattle.tree.specs.RowAt.{row-at}
 use Rattle.tree.specs.RowAtLaws.{child-elsewhere, child-beside}
 use borrow.Author.Needs.{needs}

@@ -1,6 +1,6 @@
 -- `walks::access::readable_at` meets its contract: r at the row, and x too at a directory's.
 use mathlib.Core.Path.{sym, _∙_}
-use Rattle.syntax.specs.PartsLaws.{answers-false, answers-true}
+use Rattle.buffers.specs.Cases.{answers-false, answers-true}
 use Rattle.tree.specs.Node.{is-directory}
 use Rattle.tree.specs.Walk.{by-modes}
 use borrow.Author.Needs.{needs}

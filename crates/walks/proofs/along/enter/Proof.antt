@@ -2,7 +2,7 @@
 use native.Mathlib.Omega.{arith}
 use mathlib.Core.Path.{sym, _∙_}
 use denote.Ref.{now}
-use Rattle.syntax.specs.PartsLaws.{answers-false, answers-true}
+use Rattle.buffers.specs.Cases.{answers-false, answers-true}
 use Rattle.walks.specs.RowWalk.{outcome}
 use Rattle.walks.specs.RowWalkLaws.{enter-file, enter-shut, enter-open}
 use borrow.Author.Needs.{needs}

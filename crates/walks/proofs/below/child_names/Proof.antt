@@ -5,7 +5,8 @@ use mathlib.Core.Path.{_≡_, refl, sym, _∙_, ap}
 use mathlib.Core.List.{List, [], _∷_, _++_, append-assoc, append-nil}
 use lib.ListN.{length, drop}
 use denote.Ref.{now}
-use Rattle.syntax.specs.Text.{Text, comma, joined}
+use Rattle.buffers.specs.Text.{Text}
+use Rattle.syntax.specs.Pieces.{comma, joined}
 use Rattle.tree.specs.RowAt.{row-count, row-at, all-rows}
 use Rattle.walks.specs.RowBelow.{front-below, names-at, child-text, Named}
 use Rattle.walks.specs.RowBelowLaws.{names-go, names-stop, names-end, named-nothing, named-length, child-text-from}
