@@ -1,10 +1,10 @@
 pub mod Steps
-pub mod ReadLaws
+pub mod ReadTextLaws
 pub mod Answers
-pub mod AnswerLaws
-pub mod Hiding
-pub mod Keeping
+pub mod ShellAnswerLaws
+pub mod HidingLaws
+pub mod ShellKeepingLaws
 pub mod ShutLaws
 pub mod Privacy
-pub mod PrivacyLaws
+pub mod ShellPrivacyLaws
 pub mod Compute

@@ -1,0 +1,100 @@
+-- The three library calls on bytes: from the bytes at entry to what is answered and all bytes at exit.
+use mathlib.Core.List.{List, [], _∷_, _++_}
+use mathlib.Core.Option.{none, some}
+use mathlib.Core.Bool.{cond}
+use Prim.Native.Nat.{ℕ}
+use lib.Dec.{eqb, leb}
+use lib.ListN.{length, getElem?, drop}
+use Rattle.buffers.specs.Text.{Text}
+use Rattle.setup.specs.Setup.{Setup, Setup-answer, accepted, wrong-line, setup}
+use Rattle.tree.specs.declared.Cause.the-variants.{Missing, Unsound, ShortAnswer}
+use Rattle.tree.specs.Causes.{number, wrong-setup}
+use Rattle.tree.specs.Result.{Result, done, _>>=_, _>>_, require, present, Outcome}
+use Rattle.store.specs.State.{Store}
+use Rattle.store.specs.Initial.{initial-store}
+use Rattle.store.specs.StoreBytes.{store-width, encode, decode}
+use Rattle.machine.specs.StoreMachine.{store}
+use Rattle.machine.specs.Runs.{least-room, Reply, ok, refusal, reply, after, perform}
+use Rattle.calls.specs.declared.Answer.{Answer}
+use Rattle.calls.specs.declared.Answer.the-variants.{Done, Refused, WrongLine}
+use Rattle.calls.specs.declared.Answer.the-variants
+use Rattle.calls.specs.Listing.{listing}
+
+-- ---- answers
+
+-- what an answer tells: document 01's number, 0 where the call is done, and the values beside it
+pub record Told : Type 0 where
+  pub number : ℕ
+  pub values : List ℕ
+
+-- beside 0 a text's length, beside 17 the wrong line's number
+unfoldable pub told : Answer → Told
+told Done = record { number = 0; values = [] }
+told (the-variants.Text n) = record { number = 0; values = n ∷ [] }
+told (Refused why) = record { number = number why; values = [] }
+told (WrongLine n) = record { number = wrong-setup; values = n ∷ [] }
+
+-- the answer that a reply is
+unfoldable pub answer-of : Reply → Answer
+answer-of (ok none) = Done
+answer-of (ok (some t)) = the-variants.Text (length t)
+answer-of (refusal why) = Refused why
+
+-- the answer buffer after a reply: a text stands from its first byte, and the bytes after it stay
+unfoldable pub written : Reply → List ℕ → List ℕ
+written (ok none) answer = answer
+written (ok (some t)) answer = t ++ drop (length t) answer
+written (refusal why) answer = answer
+
+-- ---- setup
+
+-- what `setup` tells, and the store's bytes after it
+pub record Set-up : Type 0 where
+  pub tells : Told
+  pub store : List ℕ
+
+unfoldable pub set-up : List ℕ → Setup-answer → Set-up
+set-up b (wrong-line n) = record { tells = told (WrongLine n); store = b }
+set-up b (accepted setup) = record { tells = told Done; store = encode (record { setup = setup; store = initial-store setup }) }
+
+-- 18 (length only), then 17
+unfoldable pub setup-call : List ℕ → Text → Set-up
+setup-call b text = cond (eqb (length b) store-width) (set-up b (setup text)) (record { tells = told (Refused Unsound); store = b })
+
+-- ---- run and listing
+
+-- what a call tells, and the lent bytes after it
+pub record Called : Type 0 where
+  pub tells : Told
+  pub store : List ℕ
+  pub answer : List ℕ
+
+-- a refused call leaves everything as it was
+unfoldable pub called : List ℕ → List ℕ → Result (Outcome (List ℕ)) → Called
+called b answer r = record { tells = told (answer-of (reply r)); store = after b r; answer = written (reply r) answer }
+
+-- the state after a command, as bytes
+unfoldable pub encoded : Setup → Outcome Store → Outcome (List ℕ)
+encoded setup o = record { text = o .text; state = encode (record { setup = setup; store = o .state }) }
+
+-- run: 20, 18, 1, 2, then the command
+unfoldable pub run-result : List ℕ → Text → ℕ → Result (Outcome (List ℕ))
+run-result b line room = do
+  require (leb least-room room) ShortAnswer
+  s ← present (decode b) Unsound
+  o ← perform store (s .setup) (s .store) line
+  done (encoded (s .setup) o)
+
+unfoldable pub run-call : List ℕ → Text → List ℕ → Called
+run-call b line answer = called b answer (run-result b line (length answer))
+
+-- listing: 20, 18, then 3 past the last line; no store is changed
+unfoldable pub listing-result : List ℕ → ℕ → ℕ → Result (Outcome (List ℕ))
+listing-result b n room = do
+  require (leb least-room room) ShortAnswer
+  s ← present (decode b) Unsound
+  t ← present (getElem? (listing (s .store .tree)) n) Missing
+  done (record { text = some t; state = b })
+
+unfoldable pub listing-call : List ℕ → ℕ → List ℕ → Called
+listing-call b n answer = called b answer (listing-result b n (length answer))

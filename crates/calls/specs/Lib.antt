@@ -1,0 +1,14 @@
+pub mod Listing
+pub mod ListingLaws
+pub mod Transcript
+pub mod Calls
+pub mod CallsLaws
+pub mod CallBoundsLaws
+pub mod CallLists
+pub mod CallListsLaws
+pub mod Program
+pub mod ProgramLaws
+pub mod CallTheorems
+pub mod Compute
+pub mod CallCases
+pub mod Example

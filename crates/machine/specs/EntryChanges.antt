@@ -1,0 +1,66 @@
+-- How a done command changes and makes an entry of the store, and by whose right.
+use mathlib.Core.Path.{_≡_}
+use mathlib.Core.Option.{Option, none, some, Option·map}
+use mathlib.Core.Bool.{true}
+use Prim.Native.Nat.{ℕ, suc}
+use lib.ListN.{getD}
+use Rattle.accounts.specs.declared.Caller.{Caller}
+use Rattle.accounts.specs.Dominance.{Bounded-role}
+use Rattle.syntax.specs.Path.{Path, Entry-path, entry-location}
+use Rattle.commands.specs.Command.{add, commit, del, Command, repository}
+use Rattle.setup.specs.Setup.{Setup}
+use Rattle.tree.specs.declared.Kind.{Kind}
+use Rattle.tree.specs.declared.Kind.the-variants.{File}
+use Rattle.tree.specs.Forest.{Place, place-at, alter}
+use Rattle.tree.specs.Node.{Node, set-tag}
+use Rattle.copying.specs.Copying.{below-rep}
+use Rattle.store.specs.State.{Sessions, Store}
+use Rattle.machine.specs.StoreMachine.{entry-node}
+use Rattle.machine.specs.AbstractMachine.{Abstract, Filed, dominated, abstract}
+
+-- the node of the store at an entry path
+unfoldable pub node-of : Store → Entry-path → Option Node
+node-of s e = Option·map (λ d. d .here) (place-at (s .tree) (entry-location e))
+
+-- the entry of the abstract machine at a path
+unfoldable pub entry-of : Abstract → Entry-path → Option Filed
+entry-of h e = Option·map (λ d. d .here) (place-at (abstract .entries h) (below-rep e))
+
+-- the caller's session has a role that dominates another
+pub record Rightful (u : Setup) (sessions : Sessions) (c : Caller) (r : Bounded-role) : Type 0 where
+  pub role : Bounded-role
+  pub session : getD sessions (c .account .uid .0) none ≡ some role
+  pub dominates : dominated u role r ≡ true
+
+-- the entry at e, of that kind, role and revision, before and after a `commit w`
+pub record Committed (before after : Store) (e : Entry-path) (kind : Kind) (r : Bounded-role) (revision : ℕ) (w : Path) : Type 0 where
+  -- at w stood a file tagged with just this path and revision
+  pub working : Place Node
+  pub stood : place-at (before .tree) w ≡ some working
+  pub working-is-file : working .here .kind ≡ File
+  pub was-tagged : working .here .tag ≡ some (record { path = e; revision = revision })
+  -- the entry, a file too, now has its content and the next revision,
+  pub entry-is-file : kind ≡ File
+  pub revised : node-of after e ≡ some (entry-node kind r (suc revision) (working .here .content))
+  -- and it the tag of that revision
+  pub is-tagged : place-at (after .tree) w ≡ some (alter (set-tag (record { path = e; revision = suc revision })) working)
+
+-- the commands that change the entry at e, of that kind, role and revision: a `commit` of a working file of it, and a `del` of
+-- it, after which nothing stands there
+pub data Change (before after : Store) (e : Entry-path) (kind : Kind) (r : Bounded-role) (revision : ℕ) : Command → Type 0 where
+  by-commit : {w : Path} → Committed before after e kind r revision w → Change before after e kind r revision (repository (commit w))
+  by-del : node-of after e ≡ none → Change before after e kind r revision (repository (del e))
+
+-- the entry of role r at e after an `add w e r`
+pub record Added (before after : Store) (e : Entry-path) (r : Bounded-role) (w : Path) : Type 0 where
+  -- what stood at w
+  pub working : Place Node
+  pub stood : place-at (before .tree) w ≡ some working
+  -- gave the entry its kind and its content, with revision 1,
+  pub made : node-of after e ≡ some (entry-node (working .here .kind) r 1 (working .here .content))
+  -- and has the tag of that revision
+  pub is-tagged : place-at (after .tree) w ≡ some (alter (set-tag (record { path = e; revision = 1 })) working)
+
+-- the command that makes an entry at e, in a session whose role dominates the new entry's
+pub data Making (u : Setup) (before after : Store) (c : Caller) (e : Entry-path) : Command → Type 0 where
+  by-add : {w : Path} {r : Bounded-role} → Added before after e r w → Rightful u (before .sessions) c r → Making u before after c e (repository (add w e r))

@@ -1,0 +1,295 @@
+-- A person's done command leaves an entry as it is, or changes it as `Change` says and by right.
+use mathlib.Core.Path.{_≡_, refl, sym, _∙_, ap}
+use mathlib.Core.Option.{none, some, Option·map, map-eq-some-iff}
+use mathlib.Core.Bool.{true, false, not}
+use mathlib.Core.Logic.{_⊎_, inl, inr}
+use Prim.Native.Nat.{ℕ, suc}
+use native.Mathlib.Omega.{arith}
+use borrow.Author.Tests.{not-true, eqb-true, eq-eqb}
+use lib.Dec.{eqb}
+use Rattle.buffers.specs.Cases.{case, contra}
+use Rattle.buffers.specs.Text.{Text}
+use Rattle.accounts.specs.declared.Caller.{Caller}
+use Rattle.accounts.specs.declared.Uid.{Uid}
+use Rattle.accounts.specs.declared.Right.the-variants.{R, W}
+use Rattle.accounts.specs.Access.{is-root, same-uid}
+use Rattle.accounts.specs.Dominance.{Bounded-role, same-role-is}
+use Rattle.accounts.specs.Service.{service-uid, same-service}
+use Rattle.syntax.specs.Path.{Path, Entry-path, same-path, in-rep, entry-location}
+use Rattle.syntax.specs.WithinLaws.{same-path-sound}
+use Rattle.syntax.specs.FormLaws.{answered}
+use Rattle.commands.specs.Command.{login, logout, add, co, commit, up, del, Command, shell, repository}
+use Rattle.setup.specs.Setup.{Setup}
+use Rattle.tree.specs.declared.Kind.{Kind}
+use Rattle.tree.specs.declared.Kind.the-variants.{File, Directory}
+use Rattle.tree.specs.declared.Cause.the-variants.{Access, WrongKind, NotEmpty, Reserved, Full, NoGrant, Stale, Untagged, RevisionsSpent, TooDeep}
+use Rattle.tree.specs.Result.{done, present, Outcome}
+use Rattle.tree.specs.ResultLaws.{present-some}
+use Rattle.tree.specs.Forest.{Place}
+use Rattle.tree.specs.Node.{is-directory, Node, set-content}
+use Rattle.tree.specs.Walk.{by-modes, walk, parent-walk, unused}
+use Rattle.tree.specs.Agree.{Ensures, ensured, ensured-done, after-do, after-facts, after-check, after-guard}
+use Rattle.tree.specs.UpdateLaws.{walked-at}
+use Rattle.tree.specs.WellFormed.{is-tree}
+use Rattle.tree.specs.JudgeLaws.{directory-is-one, set-revision-is, set-content-is}
+use Rattle.tree.specs.PathLaws.{drop-gone}
+use Rattle.tree.specs.ChangeAtLaws.{Holds, holds-altered, holds-alter, holds-put, holds-drop}
+use Rattle.shell.specs.Steps.{room, run-shell}
+use Rattle.copying.specs.Copying.{below-rep}
+use Rattle.store.specs.State.{Store}
+use Rattle.store.specs.Initial.{directory-of, rep-node}
+use Rattle.machine.specs.Machine.{Working, tagged, caller, run-login, run-logout, session, run-add, run-co, working-file, original, run-commit, run-up, run-del, run-repository, run}
+use Rattle.machine.specs.StoreMachine.{entry-mode, entry-node, next-node, store}
+use Rattle.machine.specs.AbstractMachine.{Entry, Abstract, Filed, top, entry, filed-kind, filed-readable, by-dominance, filed-revision, next-entry, abstract}
+use Rattle.machine.specs.Embedding.{in-store, met, embed}
+use Rattle.machine.specs.Observed.{Reached-without-root}
+use Rattle.machine.specs.EntryJudgeLaws.{next-law}
+use Rattle.machine.specs.SimulationLaws.{remove-tie}
+use Rattle.machine.specs.EntryChanges.{node-of, entry-of, Rightful, Change, by-commit, by-del}
+use Rattle.machine.specs.EntryPlacesLaws.{same-entry, holds-of, of-holds, free, next-filed, filed-after, revised-after, removed-after, by-session, node-tied, tagged-tied, rightful-tied, In-both, in-both}
+
+-- ---- one command of the abstract machine
+
+-- where the walk to a working file led, and what was found there
+record Worked (h : Abstract) (c : Caller) (w : Path) (k : Working) : Type 0 where
+  place : Place Node
+  led : walk (by-modes (c .account)) (h .workspace) w ≡ done place
+  here : place .here ≡ k .node
+  a-file : not (is-directory (place .here .kind)) ≡ true
+  tag : place .here .tag ≡ some (k .tag)
+
+worked : (u : Setup) (h : Abstract) (c : Caller) (w : Path) → Ensures (Worked h c w) (working-file abstract u h c R w)
+unfolding working-file
+worked u h c w =
+    after-do (walk (by-modes (c .account)) (h .workspace) w) λ d i.
+    after-check WrongKind _ λ b.
+    after-check Access _ λ _.
+    after-do (present (d .here .tag) Untagged) λ t j.
+    ensured (record { place = d; led = i; here = refl; a-file = b; tag = present-some (d .here .tag) Untagged j })
+
+-- the account's walk to a tag's entry led there, to a file that it may read
+record Original (u : Setup) (h : Abstract) (z : Bounded-role) (e : Entry-path) (a : Place Filed) : Type 0 where
+  walked : walk (by-dominance u z) (abstract .entries h) (below-rep e) ≡ done a
+  a-file : not (is-directory (by-dominance u z .kind (a .here))) ≡ true
+  readable : by-dominance u z .readable (a .here) ≡ true
+
+original-found : (u : Setup) (h : Abstract) (c : Caller) (z : Bounded-role) (e : Entry-path) → Ensures (Original u h z e) (original abstract u h c z e)
+unfolding original
+original-found u h c z e =
+    after-do (walk (by-dominance u z) (abstract .entries h) (below-rep e)) λ a w.
+    after-check WrongKind _ λ b.
+    after-check Access _ λ r.
+    ensured (record { walked = w; a-file = b; readable = r })
+
+-- what is no directory is a file
+file-kind : (k : Kind) → not (is-directory k) ≡ true → k ≡ File
+file-kind File b = refl
+file-kind Directory b = contra directory-is-one (not-true (is-directory Directory) b)
+
+-- how a command that takes h to h′ changes the entry x at e
+data Changed (h : Abstract) (c : Caller) (e : Entry-path) (x : Entry) (h′ : Abstract) : Command → Type 0 where
+  commits : {w : Path} {k : Working} → Worked h c w k → k .tag ≡ record { path = e; revision = x .revision } → x .kind ≡ File
+      → entry-of h′ e ≡ some (entry (next-entry (k .node .content) x)) → h′ .workspace ≡ tagged w e (suc (x .revision)) (h .workspace)
+      → Changed h c e x h′ (repository (commit w))
+  deletes : h′ ≡ abstract .remove e h → Changed h c e x h′ (repository (del e))
+
+module _ (u : Setup) (h : Abstract) (c : Caller) (e : Entry-path) (x : Entry) (same : entry-of h e ≡ some (entry x)) where
+  -- the entry stays, or is changed in a session whose role dominates its own
+  Guarded : Command → Outcome Abstract → Type 0
+  Guarded command o = (entry-of (o .state) e ≡ some (entry x)) ⊎ (Changed h c e x (o .state) command × Rightful u (h .sessions) c (x .role))
+
+  -- the place where it stands
+  there : Holds (abstract .entries h) (below-rep e) (entry x)
+  there = holds-of h e (entry x) same
+
+  -- it is what a walk there meets
+  its-entry : (z : Bounded-role) (a : Place Filed) → walk (by-dominance u z) (abstract .entries h) (below-rep e) ≡ done a → a .here ≡ entry x
+  its-entry z a w = ap (λ d. d .here) (answered (sym (there .stands) ∙ walked-at (abstract .entries h) (by-dominance u z) (below-rep e) a w)) ∙ there .here
+
+  -- where the session's role reads the entry, it dominates the entry's
+  rightful : (z : Bounded-role) → session abstract u h c ≡ done z → (a : Place Filed) → walk (by-dominance u z) (abstract .entries h) (below-rep e) ≡ done a
+      → by-dominance u z .readable (a .here) ≡ true → Rightful u (h .sessions) c (x .role)
+  unfolding by-dominance filed-readable
+  rightful z i a w b = by-session u h c z i (x .role) (ap (filed-readable u z) (sym (its-entry z a w)) ∙ b)
+
+  add-guarded : (w : Path) (e′ : Entry-path) (role′ : Bounded-role) → Ensures (Guarded (repository (add w e′ role′))) (run-add abstract u h c w e′ role′)
+  unfolding run-add Guarded
+  add-guarded w e′ role′ =
+      after-do (session abstract u h c) λ z _.
+      after-do (walk (by-modes (c .account)) (h .workspace) w) λ d _.
+      after-check Reserved _ λ _.
+      after-check Access _ λ _.
+      after-check Reserved _ λ _.
+      after-do (parent-walk (by-dominance u z) (abstract .entries h) (below-rep e′)) λ f i.
+      after-guard (unused (e′ .name) (f .below)) λ j.
+      after-check Access _ λ _.
+      after-check Full _ λ _.
+      ensured (inl (of-holds _ e (entry x) (rw (filed-after e′ (d .here .kind) role′ (d .here .content) h)
+      (holds-put (below-rep e) (e′ .folder) there (e′ .name) _ (free (by-dominance u z) (abstract .entries h) e′ f i j)))))
+
+  co-guarded : (e′ : Entry-path) (d : Path) → Ensures (Guarded (repository (co e′ d))) (run-co abstract u h c e′ d)
+  unfolding run-co entry-of Guarded
+  co-guarded e′ d =
+      after-do (session abstract u h c) λ z _.
+      after-do (room c _ (h .workspace) d) λ f _.
+      after-do (walk (by-dominance u z) (abstract .entries h) (below-rep e′)) λ a _.
+      after-check Access _ λ _.
+      after-check TooDeep _ λ _.
+      after-check Full _ λ _.
+      ensured (inl same)
+
+  -- a commit of a working file of the entry, with what it was done after
+  own-commit : (w : Path) (k : Working) → Worked h c w k → (z : Bounded-role) → session abstract u h c ≡ done z
+      → (a : Place Filed) → Original u h z (k .tag .path) a → eqb (k .tag .revision) (filed-revision (a .here)) ≡ true → below-rep e ≡ below-rep (k .tag .path)
+      → (t : Abstract) → t ≡ abstract .on-workspace (tagged w (k .tag .path) (suc (filed-revision (a .here)))) (abstract .revise (k .tag .path) (k .node .content) h)
+      → Changed h c e x t (repository (commit w)) × Rightful u (h .sessions) c (x .role)
+  unfolding by-dominance filed-kind filed-revision next-filed
+  own-commit w k g z j a f fresh q t made =
+      let s : k .tag .path ≡ e = sym (same-entry e (k .tag .path) q) in
+      let v : walk (by-dominance u z) (abstract .entries h) (below-rep e) ≡ done a = rw q (f .walked) in
+      let y = its-entry z a v in
+      let r : filed-revision (a .here) ≡ x .revision = ap filed-revision y in (
+        commits g
+            (λ m. record { path = s m; revision = (eqb-true (k .tag .revision) (filed-revision (a .here)) fresh ∙ r) m })
+            (file-kind (x .kind) (ap (λ n. not (is-directory (filed-kind n))) (sym y) ∙ f .a-file))
+            (rw (made, s) (of-holds _ e _ (rw (revised-after e (k .node .content) h) (holds-altered (below-rep e) there (next-filed (k .node .content))))))
+            (rw (made, s, r)),
+        rightful z j a v (f .readable),
+      )
+
+  commit-guarded : (w : Path) → Ensures (Guarded (repository (commit w))) (run-commit abstract u h c w)
+  unfolding run-commit Guarded
+  commit-guarded w =
+      after-do (session abstract u h c) λ z j.
+      after-facts (worked u h c w) λ k g.
+      after-facts (original-found u h c z (k .tag .path)) λ a f.
+      after-do (walk (by-dominance u z) (abstract .entries h) (k .tag .path .folder)) λ d _.
+      after-check Access _ λ _.
+      after-check Stale _ λ fresh.
+      after-check RevisionsSpent _ λ _.
+      ensured (case (same-path (below-rep e) (below-rep (k .tag .path)))
+      (λ s. inr (own-commit w k g z j a f fresh (same-path-sound (below-rep e) (below-rep (k .tag .path)) s) _ refl))
+      (λ s. inl (of-holds _ e (entry x) (rw (revised-after (k .tag .path) (k .node .content) h) (holds-alter (below-rep e) (below-rep (k .tag .path)) there _ s)))))
+
+  up-guarded : (w : Path) → Ensures (Guarded (repository (up w))) (run-up abstract u h c w)
+  unfolding run-up entry-of Guarded
+  up-guarded w =
+      after-do (session abstract u h c) λ z _.
+      after-do (working-file abstract u h c W w) λ k _.
+      after-do (original abstract u h c z (k .tag .path)) λ a _.
+      ensured (inl same)
+
+  del-guarded : (e′ : Entry-path) → Ensures (Guarded (repository (del e′))) (run-del abstract u h c e′)
+  unfolding run-del Guarded below-rep
+  del-guarded e′ =
+      after-do (session abstract u h c) λ z i.
+      after-do (walk (by-dominance u z) (abstract .entries h) (below-rep e′)) λ a w.
+      after-check Access _ λ b.
+      after-do (walk (by-dominance u z) (abstract .entries h) (e′ .folder)) λ f _.
+      after-check Access _ λ _.
+      after-check NotEmpty _ λ alone.
+      ensured (case (same-path (below-rep e) (below-rep e′))
+      (λ s.
+      let q = same-path-sound (below-rep e) (below-rep e′) s in
+      inr (rw (← same-entry e e′ q) (deletes refl), rightful z i a (rw q w) b))
+      (λ s. inl (of-holds _ e (entry x) (rw (removed-after e′ h)
+      (holds-drop (below-rep e) (e′ .folder) there (e′ .name) a (walked-at (abstract .entries h) (by-dominance u z) (below-rep e′) a w) alone s)))))
+
+  -- any command leaves the entry, or changes it by right
+  run-guarded : (command : Command) → Ensures (Guarded command) (run abstract u h c command)
+  unfolding run run-repository run-login run-logout entry-of Guarded
+  run-guarded (shell command) = after-do (run-shell c _ (h .workspace) command) λ o _. ensured (inl same)
+  run-guarded (repository (login z password)) = after-check NoGrant _ λ _. ensured (inl same)
+  run-guarded (repository logout) = ensured (inl same)
+  run-guarded (repository (add w e′ role′)) = add-guarded w e′ role′
+  run-guarded (repository (co e′ d)) = co-guarded e′ d
+  run-guarded (repository (commit w)) = commit-guarded w
+  run-guarded (repository (up w)) = up-guarded w
+  run-guarded (repository (del e′)) = del-guarded e′
+
+-- an entry stays under a done command, or is changed by right
+entry-changed : (u : Setup) (h : Abstract) (c : Caller) (command : Command) (o : Outcome Abstract) → run abstract u h c command ≡ done o
+    → (e : Entry-path) (x : Entry) → entry-of h e ≡ some (entry x)
+    → (entry-of (o .state) e ≡ some (entry x)) ⊎ (Changed h c e x (o .state) command × Rightful u (h .sessions) c (x .role))
+unfolding Guarded
+entry-changed u h c command o i e x same = ensured-done (rw i at (run-guarded u h c e x same command))
+
+-- ---- one command of the store
+
+-- no node stands where an entry was taken out
+removed-node : (s : Store) → is-tree (s .tree) ≡ true → (e : Entry-path) → node-of (store .remove e s) e ≡ none
+unfolding node-of entry-location in-rep
+removed-node s whole e = ap (Option·map (λ d. d .here)) (drop-gone (s .tree) whole (in-rep (e .folder)) (e .name))
+
+-- an entry's mode is not that of `/rep`
+rep-mode : {P : Type 0} (kind : Kind) → rep-node .mode ≡ entry-mode kind → P
+unfolding rep-node directory-of entry-mode
+rep-mode File i = let z : ⊥ = omega arith in absurd z
+rep-mode Directory i = let z : ⊥ = omega arith in absurd z
+
+module _ (kind : Kind) (r : Bounded-role) (revision : ℕ) (content : Text) where
+  -- what stands as an entry's node is an entry of that role
+  met-role : (x : Filed) → met x ≡ entry-node kind r revision content → (y : Entry) × (x ≡ entry y) × (y .role .role ≡ r .role)
+  unfolding met in-store entry-node same-uid
+  met-role top i = rep-mode kind (ap (λ a. a .mode) i)
+  met-role (entry y) i =
+      let q = y .role in
+      let s : service-uid (q .role) ≡ service-uid (r .role) = ap (λ a. a .owner) i in
+      let t : same-uid (service-uid (q .role)) (service-uid (r .role)) ≡ true = eq-eqb _ _ (ap (λ v. v .0) s) in
+      (y, refl, same-role-is (q .role) (r .role) (sym (same-service (q .role) (r .role)) ∙ t))
+
+  -- with new content it has the next revision
+  next-entry-node : (content′ : Text) → next-node content′ (entry-node kind r revision content) ≡ entry-node kind r (suc revision) content′
+  unfolding next-node entry-node
+  next-entry-node content′ =
+      let n = entry-node kind r revision content in
+      rw (set-revision-is (set-content content′ n) (suc (n .revision)), set-content-is n content′)
+
+  module _ (u : Setup) {s s′ : Store} {c : Caller} {command : Command} (b : In-both u s c command s′) (e : Entry-path) where
+    abbrev h : Abstract
+    h = b .apart
+
+    abbrev h′ : Abstract
+    h′ = b .outcome .state
+
+    -- the entry changed in both
+    change-tied : (y : Entry) → met (entry y) ≡ entry-node kind r revision content → {by : Command} → Changed h c e y h′ by → Change s s′ e kind r revision by
+    unfolding met in-store entry-node
+    change-tied y i (commits {w = w} {k = k} g tag a-file next workspace) =
+        let d = g .place in
+        let v : y .revision ≡ revision = ap (λ n. n .revision) i in
+        let content′ = k .node .content in
+        let o = b .file-outside w d (g .led) (g .a-file) in
+        let retagged = workspace ∙ ap (λ v. tagged w e (suc v) (h .workspace)) v in
+        let t = tagged-tied (b .tie) (b .tie-after) o e (suc revision) retagged d (walked-at (h .workspace) (by-modes (c .account)) w d (g .led)) in
+        by-commit (record {
+          working = d;
+          stood = t .0;
+          working-is-file = file-kind (d .here .kind) (g .a-file);
+          was-tagged = g .tag ∙ ap some tag ∙ ap (λ v. some (record { path = e; revision = v })) v;
+          entry-is-file = ap (λ n. n .kind) (sym i) ∙ a-file;
+          revised = node-tied (b .tie-after) e ∙ ap (Option·map met) next
+              ∙ ap some (sym (next-law content′ y) ∙ ap (next-node content′) i ∙ next-entry-node content′)
+              ∙ ap (λ n. some (entry-node kind r (suc revision) (n .content))) (sym (g .here));
+          is-tagged = t .1;
+        })
+    change-tied y i (deletes gone) = by-del (ap (λ b. node-of b e) (b .tie-after .same ∙ ap embed gone ∙ sym (remove-tie (b .tie) e .same)) ∙ removed-node s (b .whole) e)
+
+    -- or left in both
+    either-tied : (y : Entry) → met (entry y) ≡ entry-node kind r revision content → y .role .role ≡ r .role
+        → (entry-of h′ e ≡ some (entry y)) ⊎ (Changed h c e y h′ command × Rightful u (h .sessions) c (y .role))
+        → (node-of s′ e ≡ some (entry-node kind r revision content)) ⊎ (Change s s′ e kind r revision command × Rightful u (s .sessions) c r)
+    either-tied y i same (inl k) = inl (node-tied (b .tie-after) e ∙ ap (Option·map met) k ∙ ap some i)
+    either-tied y i same (inr k) = inr (change-tied y i (k .0), rightful-tied u (b .tie) c (y .role) r same (k .1))
+
+-- an entry's node stays under a person's done command, or is changed by right
+pub stored-entry-changed : (u : Setup) (s : Store) → Reached-without-root u s → (v : Uid) (c : Caller) → is-root v ≡ false → caller u v ≡ done c
+    → (command : Command) (o : Outcome Store) → run store u s c command ≡ done o
+    → (e : Entry-path) (kind : Kind) (r : Bounded-role) (revision : ℕ) (content : Text) → node-of s e ≡ some (entry-node kind r revision content)
+    → (node-of (o .state) e ≡ some (entry-node kind r revision content)) ⊎ (Change s (o .state) e kind r revision command × Rightful u (s .sessions) c r)
+stored-entry-changed u s reached v c n i command o ran e kind r revision content stood =
+    let b = in-both u s reached v c n i command o ran in
+    let x = map-eq-some-iff met (entry-of (b .apart) e) .0 (sym (node-tied (b .tie) e) ∙ stood) in
+    let y = met-role kind r revision content (x .0) (x .2) in
+    either-tied kind r revision content u b e (y .0) (ap met (sym (y .1)) ∙ x .2) (y .2)
+    (entry-changed u (b .apart) c command (b .outcome) (b .ran) e (y .0) (x .1 ∙ ap some (y .1)))

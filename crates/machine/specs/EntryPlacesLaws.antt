@@ -1,0 +1,199 @@
+-- The entries by path, in the abstract machine and in the store, and a person's done command in both.
+use mathlib.Core.Path.{_≡_, refl, sym, _∙_, ap}
+use mathlib.Core.Option.{Option, none, some, Option·map, map-eq-some-iff}
+use mathlib.Core.Bool.{true, false, not}
+use Prim.Native.Nat.{ℕ}
+use lib.ListN.{getD}
+use Rattle.buffers.specs.Text.{Text}
+use Rattle.accounts.specs.declared.Caller.{Caller}
+use Rattle.accounts.specs.declared.Uid.{Uid}
+use Rattle.accounts.specs.Access.{is-root}
+use Rattle.accounts.specs.Dominance.{Bounded-role, dominates}
+use Rattle.syntax.specs.Path.{Path, _▹_, Entry-path, parent, last, in-rep, entry-location}
+use Rattle.syntax.specs.FormLaws.{no-answer}
+use Rattle.commands.specs.Command.{Command}
+use Rattle.setup.specs.Setup.{Setup}
+use Rattle.setup.specs.SetupLaws.{accepted-is-setup}
+use Rattle.tree.specs.declared.Kind.{Kind}
+use Rattle.tree.specs.declared.Cause.the-variants.{NoSession}
+use Rattle.tree.specs.Result.{done, Outcome}
+use Rattle.tree.specs.ResultLaws.{present-some}
+use Rattle.tree.specs.Forest.{Place, update, place-at, alter, put, drop, leaf, map-place}
+use Rattle.tree.specs.ForestLaws.{leaf-map}
+use Rattle.tree.specs.RootedLaws.{rooted-put, rooted-drop, rooted-alter}
+use Rattle.tree.specs.Node.{is-directory, Node, set-tag, owns}
+use Rattle.tree.specs.Walk.{Judge, by-modes, walk, parent-walk, unused}
+use Rattle.tree.specs.Agree.{done-first}
+use Rattle.tree.specs.StepLaws.{was-unused, parent-walked}
+use Rattle.tree.specs.UpdateLaws.{at-child, walked-at}
+use Rattle.tree.specs.MapLaws.{map-here}
+use Rattle.tree.specs.WellFormed.{is-tree}
+use Rattle.tree.specs.PathLaws.{changed-at}
+use Rattle.tree.specs.Graft.{Outside}
+use Rattle.tree.specs.ChangeAtLaws.{Holds, place-map, place-inside, place-outside}
+use Rattle.copying.specs.Copying.{below-rep}
+use Rattle.store.specs.State.{Store}
+use Rattle.store.specs.StateLaws.{parts}
+use Rattle.machine.specs.Machine.{tagged, caller, session, run}
+use Rattle.machine.specs.StoreMachine.{store}
+use Rattle.machine.specs.AbstractMachine.{Abstract, Filed, top, entry, dominated, new-entry, next-entry, abstract}
+use Rattle.machine.specs.Embedding.{stored, met, embed}
+use Rattle.machine.specs.Observed.{Reached-without-root}
+use Rattle.machine.specs.MachineKeepingLaws.{reached-well-formed}
+use Rattle.machine.specs.Simulation.{Kept, Tie}
+use Rattle.machine.specs.SimulationLaws.{stored-is-met, run-agrees, file-is-outside, owned-is-outside}
+use Rattle.machine.specs.ComparedLaws.{reached-tie}
+use Rattle.machine.specs.EntryChanges.{node-of, entry-of, Rightful}
+
+-- ---- entries and places
+
+-- entry paths with one path below `/rep` are one
+pub same-entry : (e e′ : Entry-path) → below-rep e ≡ below-rep e′ → e ≡ e′
+unfolding below-rep parent last
+same-entry e e′ s = λ i. record { folder = parent (s i); name = last (s i) }
+
+-- an entry stands at its place
+pub holds-of : (h : Abstract) (e : Entry-path) (x : Filed) → entry-of h e ≡ some x → Holds (abstract .entries h) (below-rep e) x
+unfolding entry-of
+holds-of h e x i =
+    let k = map-eq-some-iff (λ (d : Place Filed). d .here) (place-at (abstract .entries h) (below-rep e)) .0 i in
+    record { place = k .0; stands = k .1; here = k .2 }
+
+-- and what stands there is the entry
+pub of-holds : (h : Abstract) (e : Entry-path) (x : Filed) → Holds (abstract .entries h) (below-rep e) x → entry-of h e ≡ some x
+unfolding entry-of
+of-holds h e x k = map-eq-some-iff (λ (d : Place Filed). d .here) (place-at (abstract .entries h) (below-rep e)) .1 (k .place, k .stands, k .here)
+
+-- where no place is, there is no entry
+pub of-none : (h : Abstract) (e : Entry-path) → place-at (abstract .entries h) (below-rep e) ≡ none → entry-of h e ≡ none
+unfolding entry-of
+of-none h e i = ap (Option·map (λ d. d .here)) i
+
+map-none : {A B : Type 0} (f : A → B) (o : Option A) → Option·map f o ≡ none → o ≡ none
+map-none f none i = refl
+map-none f (some a) i = no-answer (sym i)
+
+-- and where no entry is, there is no place
+pub none-of : (h : Abstract) (e : Entry-path) → entry-of h e ≡ none → place-at (abstract .entries h) (below-rep e) ≡ none
+unfolding entry-of
+none-of h e i = map-none (λ d. d .here) (place-at (abstract .entries h) (below-rep e)) i
+
+-- where a walk finds the name unused there is no entry
+pub free : (j : Judge Filed) (t : Place Filed) (e : Entry-path) (f : Place Filed) → parent-walk j t (below-rep e) ≡ done f → unused (e .name) (f .below) ≡ done tt
+    → place-at t (e .folder ▹ e .name) ≡ none
+unfolding below-rep parent
+free j t e f w i = at-child t (e .folder) (e .name) f (walked-at t j (e .folder) f (parent-walked j t (e .folder ▹ e .name) w .0)) ∙ was-unused (e .name) (f .below) i
+
+-- ---- what a walk meets after a change of the entries
+
+-- what is met with new content and the next revision; `/rep` is never revised
+unfoldable pub next-filed : Text → Filed → Filed
+next-filed content top = top
+next-filed content (entry x) = entry (next-entry content x)
+
+-- an entry filed
+pub filed-after : (e : Entry-path) (kind : Kind) (r : Bounded-role) (content : Text) (h : Abstract)
+    → abstract .entries (abstract .file e kind r content h) ≡ update (e .folder) (put (e .name) (leaf (entry (new-entry kind r content)))) (abstract .entries h)
+filed-after e kind r content h =
+    rw (leaf-map entry (new-entry kind r content)) (sym (rooted-put entry top (e .folder) (e .name) (leaf (new-entry kind r content)) (h .entries)))
+
+-- an entry revised
+pub revised-after : (e : Entry-path) (content : Text) (h : Abstract)
+    → abstract .entries (abstract .revise e content h) ≡ update (below-rep e) (alter (next-filed content)) (abstract .entries h)
+unfolding below-rep next-filed
+revised-after e content h = sym (rooted-alter entry top (next-filed content) (next-entry content) (λ x. refl) (e .folder) (e .name) (h .entries))
+
+-- an entry taken out
+pub removed-after : (e : Entry-path) (h : Abstract) → abstract .entries (abstract .remove e h) ≡ update (e .folder) (drop (e .name)) (abstract .entries h)
+removed-after e h = sym (rooted-drop entry top (e .folder) (e .name) (h .entries))
+
+-- ---- rights
+
+-- the session's role dominates another
+pub by-session : (u : Setup) (h : Abstract) (c : Caller) (z : Bounded-role) → session abstract u h c ≡ done z → (r : Bounded-role) → dominated u z r ≡ true → Rightful u (h .sessions) c r
+unfolding session
+by-session u h c z i r b = record { role = z; session = present-some (getD (h .sessions) (c .account .uid .0) none) NoSession i; dominates = b }
+
+-- ---- a store that holds what the abstract machine holds
+
+here-map : (o : Option (Place Filed)) → Option·map (λ d. d .here) (Option·map (map-place met) o) ≡ Option·map met (Option·map (λ d. d .here) o)
+here-map none = refl
+here-map (some d) = ap some (map-here met d)
+
+-- the node at an entry path is how the entry stands in the store
+node-embed : (h : Abstract) → Kept h → (e : Entry-path) → node-of (embed h) e ≡ Option·map met (entry-of h e)
+unfolding node-of entry-of embed entry-location below-rep in-rep
+node-embed h k e =
+    let p = e .folder ▹ e .name in
+    rw (place-inside (stored (h .entries)) (h .workspace) (k .there) p, stored-is-met (h .entries), place-map met (abstract .entries h) p) (here-map (place-at (abstract .entries h) p))
+
+-- and so in any store that holds what the abstract machine holds
+pub node-tied : {s : Store} {h : Abstract} → Tie s h → (e : Entry-path) → node-of s e ≡ Option·map met (entry-of h e)
+node-tied {h} t e = ap (λ s. node-of s e) (t .same) ∙ node-embed h (t .kept) e
+
+-- where no node is there is no place
+pub no-node : (s : Store) (e : Entry-path) → node-of s e ≡ none → place-at (s .tree) (entry-location e) ≡ none
+unfolding node-of
+no-node s e i = map-none (λ d. d .here) (place-at (s .tree) (entry-location e)) i
+
+-- and no entry
+pub none-tied : {s : Store} {h : Abstract} → Tie s h → (e : Entry-path) → node-of s e ≡ none → entry-of h e ≡ none
+none-tied {h} t e i = map-none met (entry-of h e) (sym (node-tied t e) ∙ i)
+
+-- outside `/rep` it has the people's tree
+place-tied : {s : Store} {h : Abstract} → Tie s h → {w : Path} → Outside w → place-at (s .tree) w ≡ place-at (h .workspace) w
+unfolding embed
+place-tied {h} t {w} o = ap (λ s. place-at (s .tree) w) (t .same) ∙ place-outside o (stored (h .entries)) (h .workspace)
+
+-- and so it has what a tag is put on
+pub tagged-tied : {s s′ : Store} {h h′ : Abstract} → Tie s h → Tie s′ h′ → {w : Path} → Outside w → (e : Entry-path) (revision : ℕ) → h′ .workspace ≡ tagged w e revision (h .workspace)
+    → (d : Place Node) → place-at (h .workspace) w ≡ some d
+    → (place-at (s .tree) w ≡ some d) × (place-at (s′ .tree) w ≡ some (alter (set-tag (record { path = e; revision = revision })) d))
+tagged-tied {h} t t′ {w} o e revision made d there = (
+  place-tied t o ∙ there,
+  place-tied t′ o ∙ ap (λ b. place-at b w) made ∙ changed-at (h .workspace) w (alter (set-tag (record { path = e; revision = revision }))) d there,
+)
+
+-- the sessions are the same, and roles of one number dominate alike
+pub rightful-tied : (u : Setup) {s : Store} {h : Abstract} → Tie s h → (c : Caller) (q r : Bounded-role) → q .role ≡ r .role
+    → Rightful u (h .sessions) c q → Rightful u (s .sessions) c r
+unfolding embed dominated
+rightful-tied u t c q r same k = record {
+  role = k .role;
+  session = ap (λ s. getD (s .sessions) (c .account .uid .0) none) (t .same) ∙ k .session;
+  dominates = ap (dominates (u .pairs) (k .role .role)) (sym same) ∙ k .dominates;
+}
+
+-- ---- a person's done command
+
+-- done in a well-formed store and in the abstract machine
+pub record In-both (u : Setup) (s : Store) (c : Caller) (command : Command) (s′ : Store) : Type 0 where
+  pub apart : Abstract
+  pub tie : Tie s apart
+  pub whole : is-tree (s .tree) ≡ true
+  -- what a person walks to is outside `/rep` if it is a file or the person's own
+  pub file-outside : (w : Path) (d : Place Node) → walk (by-modes (c .account)) (apart .workspace) w ≡ done d → not (is-directory (d .here .kind)) ≡ true → Outside w
+  pub owned-outside : (w : Path) (d : Place Node) → walk (by-modes (c .account)) (apart .workspace) w ≡ done d → owns (c .account) (d .here) ≡ true → Outside w
+  pub outcome : Outcome Abstract
+  pub ran : run abstract u apart c command ≡ done outcome
+  pub tie-after : Tie s′ (outcome .state)
+
+-- and so is every one in a store reached without root
+pub in-both : (u : Setup) (s : Store) → Reached-without-root u s → (v : Uid) (c : Caller) → is-root v ≡ false → caller u v ≡ done c
+    → (command : Command) (o : Outcome Store) → run store u s c command ≡ done o → In-both u s c command (o .state)
+in-both u s reached v c n i command o ran =
+    let setup = accepted-is-setup (reached .reached .text) u (reached .reached .taken) in
+    let t = reached-tie u s reached in
+    let h = t .0 in
+    let k = t .1 .kept in
+    let a = done-first (run-agrees u setup v c n i h k command) (ap (λ b. run store u b c command) (sym (t .1 .same)) ∙ ran) in
+    record {
+      apart = h;
+      tie = t .1;
+      whole = parts (record { setup = u; store = s }) (reached-well-formed u s (reached .reached)) .1 .1;
+      file-outside = file-is-outside u setup v c n i h k;
+      owned-outside = owned-is-outside u setup v c n i h k;
+      outcome = a .0;
+      ran = a .1;
+      tie-after = a .2 .state;
+    }

@@ -1,0 +1,209 @@
+-- Document 01's commands over any machine that holds a workspace, sessions and a repository.
+--
+-- A person's part is done in the workspace by the access test; the account's part in the repository, by the machine's own
+-- judge. The store and the abstract machine are two instances of this one text. Throughout, w is the path of a working file
+-- or directory, e an entry path, d the path of a copy to be made, z the session's role and r an entry's.
+use mathlib.Core.List.{List, [], _∷_}
+use mathlib.Core.Option.{Option, none, some}
+use mathlib.Core.Bool.{Bool, false, _&&_, _||_, not, cond}
+use Prim.Native.Nat.{ℕ, suc, _+_}
+use lib.Dec.{eqb, leb}
+use lib.ListN.{getD, set}
+use Rattle.buffers.specs.Text.{Text, same-text}
+use Rattle.accounts.specs.declared.Caller.{Caller}
+use Rattle.accounts.specs.declared.Uid.{Uid}
+use Rattle.accounts.specs.declared.Right.{Right}
+use Rattle.accounts.specs.declared.Right.the-variants.{R, W}
+use Rattle.accounts.specs.Groups.{with-group}
+use Rattle.accounts.specs.Access.{is-root, same-uid}
+use Rattle.accounts.specs.Caller.{root-caller}
+use Rattle.accounts.specs.Dominance.{same-role, Bounded-role, dominates}
+use Rattle.syntax.specs.Path.{Path, Entry-path, parent, last, depth, most-names}
+use Rattle.commands.specs.Command.{Repository-command, login, logout, add, co, commit, up, del, Command, shell, repository}
+use Rattle.setup.specs.Setup.{Person, Grant, Setup, person}
+use Rattle.tree.specs.declared.Kind.{Kind}
+use Rattle.tree.specs.declared.Cause.the-variants.{UnknownCaller, Access, WrongKind, NotEmpty, Reserved, Full, NoSession, NoGrant, Stale, Untagged, RevisionsSpent, TooDeep}
+use Rattle.tree.specs.Result.{Result, done, _>>=_, _>>_, require, present, Outcome}
+use Rattle.tree.specs.Forest.{Place, is-empty, update, alter, put, size, height}
+use Rattle.tree.specs.Node.{is-directory, Tag, Node, allows, set-tag, set-content, owns}
+use Rattle.tree.specs.Walk.{Judge, by-modes, unused, walk, parent-walk}
+use Rattle.tree.specs.WellFormed.{last-revision}
+use Rattle.shell.specs.Steps.{room, fit, run-shell}
+use Rattle.copying.specs.Copying.{below-rep, Source, copy}
+use Rattle.store.specs.State.{Sessions}
+
+-- A machine with states S and A for what an account meets in its repository.
+pub record Machine (S A : Type 0) : Type 0 where
+  -- the tree in which persons walk, and how many nodes exist elsewhere
+  pub workspace : S → Place Node
+  pub elsewhere : S → ℕ
+  -- the tree in which the account of a session's role walks, how it judges there, and where a path below `/rep` lies there
+  pub entries : S → Place A
+  pub judge : Setup → Bounded-role → Judge A
+  pub locate : Path → Path
+  -- revision and content of what the account meets
+  pub revision : A → ℕ
+  pub content : A → Text
+  -- one role or none for each account
+  pub sessions : S → Sessions
+  -- changes: a new entry of revision 1; an entry with new content and the next revision; an entry taken out
+  pub file : Entry-path → Kind → Bounded-role → Text → S → S
+  pub revise : Entry-path → Text → S → S
+  pub remove : Entry-path → S → S
+  pub on-workspace : (Place Node → Place Node) → S → S
+  pub with-sessions : Sessions → S → S
+
+-- the caller's account and primary group: root, or a person of the setup (2)
+unfoldable pub person-caller : Uid → Person → Caller
+person-caller uid who = record {
+  account = record { uid = uid; groups = with-group (who .primary) (who .further) };
+  primary = who .primary;
+}
+
+unfoldable pub known-caller : Uid → Option Person → Result Caller
+known-caller uid known = do
+  who ← present known UnknownCaller
+  done (person-caller uid who)
+
+unfoldable pub caller : Setup → Uid → Result Caller
+caller setup uid = cond (is-root uid) (done root-caller) (known-caller uid (person setup uid))
+
+-- whether a grant has just these three
+unfoldable pub granted : List Grant → Uid → Bounded-role → Text → Bool
+granted [] uid z password = false
+granted (g ∷ gs) uid z password =
+    (same-uid (g .uid) uid && (same-role (g .role) (z .role) && same-text (g .password) password)) || granted gs uid z password
+
+-- what copies are made of, as a judge sees it
+abbrev pub source : {S A : Type 0} → Machine S A → Judge A → Source A
+source M j = record { kind = j .kind; readable = j .readable; revision = M .revision; content = M .content }
+
+-- a working file and its tag
+pub record Working : Type 0 where
+  pub node : Node
+  pub tag : Tag
+
+-- the tag (e, revision) put on what stands at w
+abbrev pub tagged : Path → Entry-path → ℕ → Place Node → Place Node
+tagged w e revision = update w (alter (set-tag (record { path = e; revision = revision })))
+
+-- One command of the caller c on the state s. The account is that of the session's role.
+module _ {S A : Type 0} (M : Machine S A) (setup : Setup) (s : S) (c : Caller) where
+  abbrev walks : Path → Result (Place Node)
+  walks p = walk (by-modes (c .account)) (M .workspace s) p
+
+  abbrev account-walks : Bounded-role → Path → Result (Place A)
+  account-walks z p = walk (M .judge setup z) (M .entries s) (M .locate p)
+
+  abbrev account-parent-walks : Bounded-role → Path → Result (Place A)
+  account-parent-walks z p = parent-walk (M .judge setup z) (M .entries s) (M .locate p)
+
+  abbrev fits : ℕ → Bool
+  fits more = fit c (M .elsewhere s) (M .workspace s) more
+
+  abbrev ok : S → Result (Outcome S)
+  ok t = done (record { text = none; state = t })
+
+  -- sessions with the caller's replaced
+  abbrev session-becomes : Option Bounded-role → S
+  session-becomes z = M .with-sessions (set (M .sessions s) (c .account .uid .0) z) s
+
+  unfoldable pub run-login : Bounded-role → Text → Result (Outcome S)
+  run-login z password = do
+    require (granted (setup .grants) (c .account .uid) z password) NoGrant
+    ok (session-becomes (some z))
+
+  unfoldable pub run-logout : Result (Outcome S)
+  run-logout = ok (session-becomes none)
+
+  -- the session's role
+  unfoldable pub session : Result Bounded-role
+  session = present (getD (M .sessions s) (c .account .uid .0) none) NoSession
+
+  unfoldable pub run-add : Path → Entry-path → Bounded-role → Result (Outcome S)
+  run-add w e r = do
+    z ← session
+    found ← walks w
+    require (owns (c .account) (found .here)) Reserved
+    require (by-modes (c .account) .readable (found .here)) Access
+    require (dominates (setup .pairs) (z .role) (r .role)) Reserved
+    folder ← account-parent-walks z (below-rep e)
+    unused (e .name) (folder .below)
+    require (M .judge setup z .writable (folder .here)) Access
+    require (fits 1) Full
+    ok (M .on-workspace (tagged w e 1) (M .file e (found .here .kind) r (found .here .content) s))
+
+  unfoldable pub run-co : Entry-path → Path → Result (Outcome S)
+  run-co e d = do
+    z ← session
+    directory ← room c (M .elsewhere s) (M .workspace s) d
+    filed ← account-walks z (below-rep e)
+    require (M .judge setup z .readable (filed .here)) Access
+    let copies = copy c (source M (M .judge setup z)) (directory .here) e filed
+    require (leb (depth d + height (copies .below)) most-names) TooDeep
+    require (fits (suc (size (copies .below)))) Full
+    ok (M .on-workspace (update (parent d) (put (last d) copies)) s)
+
+  -- the person's part of commit and up: walk; directory 7; the right 5; no tag 15
+  unfoldable pub working-file : Right → Path → Result Working
+  working-file right w = do
+    found ← walks w
+    require (not (is-directory (found .here .kind))) WrongKind
+    require (allows (c .account) right (found .here)) Access
+    tag ← present (found .here .tag) Untagged
+    done (record { node = found .here; tag = tag })
+
+  -- the account's walk to the tag's entry: directory 7; r 5
+  unfoldable pub original : Bounded-role → Entry-path → Result (Place A)
+  original z e = do
+    entry ← account-walks z (below-rep e)
+    require (not (is-directory (M .judge setup z .kind (entry .here)))) WrongKind
+    require (M .judge setup z .readable (entry .here)) Access
+    done entry
+
+  unfoldable pub run-commit : Path → Result (Outcome S)
+  run-commit w = do
+    z ← session
+    file ← working-file R w
+    let e = file .tag .path
+    filed ← original z e
+    above ← account-walks z (e .folder)
+    require (M .judge setup z .writable (above .here)) Access
+    let revision = M .revision (filed .here)
+    require (eqb (file .tag .revision) revision) Stale
+    require (not (eqb revision last-revision)) RevisionsSpent
+    ok (M .on-workspace (tagged w e (suc revision)) (M .revise e (file .node .content) s))
+
+  unfoldable pub run-up : Path → Result (Outcome S)
+  run-up w = do
+    z ← session
+    file ← working-file W w
+    let e = file .tag .path
+    filed ← original z e
+    let tag : Tag = record { path = e; revision = M .revision (filed .here) }
+    ok (M .on-workspace (update w (alter (λ n. set-content (M .content (filed .here)) (set-tag tag n)))) s)
+
+  unfoldable pub run-del : Entry-path → Result (Outcome S)
+  run-del e = do
+    z ← session
+    filed ← account-walks z (below-rep e)
+    require (M .judge setup z .readable (filed .here)) Access
+    folder ← account-walks z (e .folder)
+    require (M .judge setup z .writable (folder .here)) Access
+    require (is-empty (filed .below)) NotEmpty
+    ok (M .remove e s)
+
+  unfoldable pub run-repository : Repository-command → Result (Outcome S)
+  run-repository (login z password) = run-login z password
+  run-repository logout = run-logout
+  run-repository (add w e r) = run-add w e r
+  run-repository (co e d) = run-co e d
+  run-repository (commit w) = run-commit w
+  run-repository (up w) = run-up w
+  run-repository (del e) = run-del e
+
+  unfoldable pub run : Command → Result (Outcome S)
+  run (shell command) = do
+    o ← run-shell c (M .elsewhere s) (M .workspace s) command
+    done (record { text = o .text; state = M .on-workspace (λ t. o .state) s })
+  run (repository command) = run-repository command

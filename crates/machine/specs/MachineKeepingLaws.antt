@@ -1,0 +1,275 @@
+-- Every command and call of anyone, root too, keeps the store well-formed. So is every store reached from the initial one, and 18
+-- never comes there.
+use mathlib.Core.Path.{_≡_, refl, _∙_, ap}
+use mathlib.Core.List.{List, [], _∷_}
+use mathlib.Core.Option.{Option, none, some}
+use mathlib.Core.Bool.{true, false}
+use Prim.Native.Nat.{ℕ, suc, _+_, _≤_}
+use native.Mathlib.Omega.{arith}
+use lib.Dec.{eqb, leb, ltb}
+use lib.ListN.{length, set, length-set}
+use borrow.Author.Tests.{not-true, eqb-false, leb-true, le-leb, ltb-true, lt-ltb}
+use Rattle.buffers.specs.Cases.{and-both}
+use Rattle.buffers.specs.Text.{Text}
+use Rattle.accounts.specs.declared.Caller.{Caller}
+use Rattle.accounts.specs.declared.Uid.{Uid}
+use Rattle.accounts.specs.declared.Right.{Right}
+use Rattle.accounts.specs.declared.Right.the-variants.{R, W}
+use Rattle.accounts.specs.Caller.{is-caller}
+use Rattle.accounts.specs.Dominance.{Bounded-role}
+use Rattle.accounts.specs.Service.{service}
+use Rattle.syntax.specs.Path.{Path, _▹_, Entry-path, parent, depth, in-rep, entry-location, is-path, is-entry-path, most-names}
+use Rattle.syntax.specs.PathLaws.{entry-parts}
+use Rattle.commands.specs.Command.{line, Repository-command, login, logout, add, co, commit, up, del, Command, shell, repository, is-repository-command, is-command, is-line}
+use Rattle.commands.specs.CommandLaws.{line-is-line}
+use Rattle.setup.specs.Setup.{Setup, is-setup}
+use Rattle.setup.specs.SetupLaws.{accepted-is-setup}
+use Rattle.tree.specs.declared.Cause.the-variants.{NoForm, Access, WrongKind, NotEmpty, Reserved, Full, NoGrant, Stale, Untagged, RevisionsSpent, TooDeep, ShortAnswer}
+use Rattle.tree.specs.Result.{Result, done, Outcome}
+use Rattle.tree.specs.ResultLaws.{present-some}
+use Rattle.tree.specs.Forest.{Place, update, alter, leaf, size, height}
+use Rattle.tree.specs.Node.{is-directory, Tag, Node, set-tag, set-content}
+use Rattle.tree.specs.Walk.{Judge, by-modes, walk}
+use Rattle.tree.specs.WellFormed.{last-revision, is-node, is-tree}
+use Rattle.tree.specs.Agree.{Ensures, no-matter, ensured, after-do, after-facts, after-check, after-guard}
+use Rattle.tree.specs.JudgeLaws.{kind-by-modes}
+use Rattle.tree.specs.StepLaws.{was-unused, parent-walked}
+use Rattle.tree.specs.PlaceLaws.{leaf-size}
+use Rattle.tree.specs.UpdateLaws.{leaf-height}
+use Rattle.tree.specs.NodeLaws.{last-revision-is, node-ranges, node-of-revision, node-of-tag, node-of-content, kind-of-set-revision, kind-of-set-tag, kind-of-set-content}
+use Rattle.tree.specs.WellFormedLaws.{place-node, leaf-place, entered-directory, walked-place, walked-depth}
+use Rattle.tree.specs.ChangeLaws.{keep-alter, keep-alter-all, keep-put, keep-drop}
+use Rattle.copying.specs.Copying.{below-rep, copy}
+use Rattle.copying.specs.CopyLaws.{copy-is-place}
+use Rattle.shell.specs.ShellKeepingLaws.{room-found, fit-most, room-keeps, run-shell-keeps}
+use Rattle.store.specs.State.{Store, well-formed}
+use Rattle.store.specs.StateLaws.{parts, formed}
+use Rattle.store.specs.Initial.{initial-store}
+use Rattle.store.specs.InitialLaws.{initial-well-formed}
+use Rattle.store.specs.StoreBytes.{encode, decode}
+use Rattle.store.specs.StoreBytesLaws.{decode-encode}
+use Rattle.machine.specs.Machine.{source, Working, run-login, run-logout, run-add, run-co, working-file, original, run-commit, run-up, run-del, run-repository, caller, run}
+use Rattle.machine.specs.StoreMachine.{entry-node, next-node, store}
+use Rattle.machine.specs.Runs.{Call, after, perform, step, runs}
+use Rattle.machine.specs.Observed.{Reached}
+use Rattle.machine.specs.CallerLaws.{caller-in-range}
+use Rattle.machine.specs.EntryRangeLaws.{entry-fits}
+
+-- ---- commands
+
+module _ (u : Setup) (g : is-setup u ≡ true) (s : Store) (w : well-formed (record { setup = u; store = s }) ≡ true) (c : Caller) (o : is-caller c ≡ true) where
+  abbrev Keeps : Result (Outcome Store) → Type 0
+  Keeps r = Ensures (λ o. well-formed (record { setup = u; store = o .state }) ≡ true) r
+
+  tree : is-tree (s .tree) ≡ true
+  tree = parts (record { setup = u; store = s }) w .1 .1
+
+  count : length (s .sessions) ≡ 16
+  count = parts (record { setup = u; store = s }) w .1 .0
+
+  -- done with another well-formed tree
+  changed : (x : Option Text) (t : Place Node) → is-tree t ≡ true → Keeps (done (record { text = x; state = record { tree = t; sessions = s .sessions } }))
+  changed x t h = ensured (formed u g (record { tree = t; sessions = s .sessions }) count h)
+
+  -- done with a session set
+  session-set : (k : ℕ) (z : Option Bounded-role) → Keeps (done (record { text = none; state = record { tree = s .tree; sessions = set (s .sessions) k z } }))
+  session-set k z = ensured (formed u g (record { tree = s .tree; sessions = set (s .sessions) k z }) (length-set (s .sessions) k z ∙ count) tree)
+
+  login-keeps : (z : Bounded-role) (password : Text) → Keeps (run-login store u s c z password)
+  unfolding run-login
+  login-keeps z password = after-check NoGrant _ λ _. session-set (c .account .uid .0) (some z)
+
+  logout-keeps : Keeps (run-logout store u s c)
+  unfolding run-logout
+  logout-keeps = session-set (c .account .uid .0) none
+
+  -- the node where a walk leads is in range
+  node-at : (j : Judge Node) (p : Path) (d : Place Node) → walk j (s .tree) p ≡ done d → is-node (d .here) ≡ true
+  node-at j p d e = place-node d (walked-place j (s .tree) p d tree e)
+
+  -- a tag in range put on whatever node lies at a path
+  tagged : (t : Place Node) → is-tree t ≡ true → (p : Path) (e : Entry-path) (v : ℕ) → is-entry-path e ≡ true → v ≤ 9999
+      → is-tree (update p (alter (set-tag (record { path = e; revision = v }))) t) ≡ true
+  tagged t h p e v k l =
+      let tag : Tag = record { path = e; revision = v } in
+      let i : leb v last-revision ≡ true = rw last-revision-is (le-leb v 9999 l) in
+      keep-alter-all t p (set-tag tag) h (λ x n. (node-of-tag tag x n k i, kind-of-set-tag tag x))
+
+  add-keeps : (p : Path) (e : Entry-path) (role : Bounded-role) → is-entry-path e ≡ true → Keeps (run-add store u s c p e role)
+  unfolding run-add below-rep in-rep parent
+  add-keeps p e role k =
+      after-do _ λ z _.
+      after-do _ λ d i.
+      after-check Reserved _ λ _.
+      after-check Access _ λ _.
+      after-check Reserved _ λ _.
+      after-do _ λ f l.
+      after-guard _ λ free.
+      after-check Access _ λ _.
+      after-check Full _ λ fits.
+      let j = by-modes (service (u .pairs) z) in
+      let to = parent-walked j (s .tree) (in-rep (e .folder) ▹ e .name) l in
+      let r = node-ranges (d .here) (node-at (by-modes (c .account)) p d i) in
+      let names = entry-parts e k in
+      let x = entry-node (d .here .kind) role 1 (d .here .content) in
+      changed none _ (tagged _ (keep-put j (s .tree) (in-rep (e .folder)) f (e .name) (leaf x) tree (to .0)
+      (entered-directory (service (u .pairs) z) (f .here) (to .1)) (was-unused (e .name) (f .below) free) (names .0)
+      (leaf-place x (entry-fits (d .here .kind) role (d .here .content) (r .content) (r .bare)))
+      (omega (arith, names .1, leaf-height x)) (omega (arith, leaf-size x, fit-most c 0 (s .tree) 1 fits))) p e 1 k (omega arith))
+
+  co-keeps : (e : Entry-path) (p : Path) → is-entry-path e ≡ true → is-path p ≡ true → Keeps (run-co store u s c e p)
+  unfolding run-co most-names below-rep in-rep entry-location
+  co-keeps e p k i =
+      after-do _ λ z _.
+      after-do _ λ f r.
+      after-do _ λ d a.
+      after-check Access _ λ _.
+      after-check TooDeep _ λ l.
+      after-check Full _ λ fits.
+      let j = by-modes (service (u .pairs) z) in
+      let x = copy c (source store j) (f .here) e d in
+      changed none _ (room-keeps c 0 (s .tree) p f x tree i r
+      (copy-is-place c o (service (u .pairs) z) (f .here) e d (node-at (by-modes (c .account)) (parent p) f (room-found c 0 (s .tree) p f r .0))
+      k (walked-place j (s .tree) (entry-location e) d tree a) (walked-depth j (s .tree) (entry-location e) d tree a))
+      (leb-true (depth p + height (x .below)) 6 l) (fit-most c 0 (s .tree) (suc (size (x .below))) fits))
+
+  del-keeps : (e : Entry-path) → Keeps (run-del store u s c e)
+  unfolding run-del
+  del-keeps e =
+      after-do _ λ z _.
+      after-do _ λ d _.
+      after-check Access _ λ _.
+      after-do _ λ f _.
+      after-check Access _ λ _.
+      after-check NotEmpty _ λ _.
+      changed none _ (keep-drop (s .tree) (in-rep (e .folder)) (e .name) tree)
+
+  -- a working file is where the walk leads, with its tag
+  abbrev Worked : Path → Working → Type 0
+  Worked p k = (d : Place Node) × (walk (by-modes (c .account)) (s .tree) p ≡ done d) × (k .node ≡ d .here) × (is-directory (d .here .kind) ≡ false) × (d .here .tag ≡ some (k .tag))
+
+  worked : (right : Right) (p : Path) → Ensures (Worked p) (working-file store u s c right p)
+  unfolding working-file
+  worked right p =
+      after-do _ λ d e.
+      after-check WrongKind _ λ b.
+      after-check Access _ λ _.
+      after-do _ λ t i.
+      ensured (d, e, refl, not-true (is-directory (d .here .kind)) b, present-some (d .here .tag) Untagged i)
+
+  -- its original is a file where the account's walk leads
+  abbrev Filed : Bounded-role → Entry-path → Place Node → Type 0
+  Filed z e d = (walk (by-modes (service (u .pairs) z)) (s .tree) (in-rep (below-rep e)) ≡ done d) × (is-directory (d .here .kind) ≡ false)
+
+  filed : (z : Bounded-role) (e : Entry-path) → Ensures (Filed z e) (original store u s c z e)
+  unfolding original
+  filed z e =
+      after-do _ λ d i.
+      after-check WrongKind _ λ b.
+      after-check Access _ λ _.
+      ensured (i, not-true (is-directory (d .here .kind)) (rw (kind-by-modes (service (u .pairs) z) (d .here)) at b))
+
+  up-keeps : (p : Path) → Keeps (run-up store u s c p)
+  unfolding run-up
+  up-keeps p =
+      after-do _ λ z _.
+      after-facts (worked W p) λ k h.
+      after-facts (filed z (k .tag .path)) λ a i.
+      let j = by-modes (service (u .pairs) z) in
+      let d = h .0 in
+      let n = node-at (by-modes (c .account)) p d (h .1) in
+      let r = node-ranges (a .here) (node-at j (in-rep (below-rep (k .tag .path))) a (i .0)) in
+      let tag : Tag = record { path = k .tag .path; revision = a .here .revision } in
+      let content = a .here .content in
+      let x = set-tag tag (d .here) in
+      changed none _ (keep-alter (by-modes (c .account)) (s .tree) p d (λ y. set-content content (set-tag tag y)) tree (h .1)
+      (node-of-content content x (node-of-tag tag (d .here) n (node-ranges (d .here) n .tag (k .tag) (h .4) .0) (r .revision))
+      (ap is-directory (kind-of-set-tag tag (d .here)) ∙ h .3) (r .content))
+      (kind-of-set-content content x ∙ kind-of-set-tag tag (d .here)))
+
+  commit-keeps : (p : Path) → Keeps (run-commit store u s c p)
+  unfolding run-commit entry-location below-rep in-rep next-node
+  commit-keeps p =
+      after-do _ λ z _.
+      after-facts (worked R p) λ k h.
+      after-facts (filed z (k .tag .path)) λ a i.
+      after-do _ λ f _.
+      after-check Access _ λ _.
+      after-check Stale _ λ _.
+      after-check RevisionsSpent _ λ b.
+      let j = by-modes (service (u .pairs) z) in
+      let d = h .0 in
+      let r = node-ranges (d .here) (node-at (by-modes (c .account)) p d (h .1)) in
+      let e = k .tag .path in
+      let n = node-at j (in-rep (below-rep e)) a (i .0) in
+      let content = k .node .content in
+      let v = a .here .revision in
+      let x = set-content content (a .here) in
+      let l : suc v ≤ 9999 = omega (arith, leb-true v 9999 (rw last-revision-is at (node-ranges (a .here) n .revision)), eqb-false v 9999 (not-true (eqb v 9999) (rw last-revision-is at b))) in
+      changed none _ (tagged _ (keep-alter j (s .tree) (entry-location e) a (next-node content) tree (i .0)
+      (node-of-revision (suc v) x (node-of-content content (a .here) n (i .1) (rw (h .2) (r .content))) (rw last-revision-is (le-leb (suc v) 9999 l)))
+      (kind-of-set-revision (suc v) x ∙ kind-of-set-content content (a .here))) p e (suc v) (r .tag (k .tag) (h .4) .0) l)
+
+  repository-keeps : (command : Repository-command) → is-repository-command command ≡ true → Keeps (run-repository store u s c command)
+  unfolding run-repository is-repository-command
+  repository-keeps (login z password) k = login-keeps z password
+  repository-keeps logout k = logout-keeps
+  repository-keeps (add p e role) k = add-keeps p e role (and-both (is-path p) (is-entry-path e) k .1)
+  repository-keeps (co e p) k = let i = and-both (is-entry-path e) (is-path p) k in co-keeps e p (i .0) (i .1)
+  repository-keeps (commit p) k = commit-keeps p
+  repository-keeps (up p) k = up-keeps p
+  repository-keeps (del e) k = del-keeps e
+
+  -- a command of a caller in range keeps the store well-formed
+  run-keeps : (command : Command) → is-command command ≡ true → Ensures (λ o. well-formed (record { setup = u; store = o .state }) ≡ true) (run store u s c command)
+  unfolding run is-command
+  run-keeps (shell command) k = after-facts (run-shell-keeps c 0 (s .tree) o tree command k) λ x h. changed (x .text) (x .state) h
+  run-keeps (repository command) k = repository-keeps command k
+
+-- ---- calls
+
+-- who calls is in range
+caller-fits : (u : Setup) → is-setup u ≡ true → (v : Uid) (c : Caller) → caller u v ≡ done c → is-caller c ≡ true
+unfolding is-caller
+caller-fits u g v c h =
+    let i = caller-in-range u g v c h in
+    rw (lt-ltb (c .account .uid .0) 24 (omega (arith, ltb-true (c .account .uid .0) 16 (i .0)))) (lt-ltb (c .primary .0) 25 (omega (arith, ltb-true (c .primary .0) 16 (i .1))))
+
+-- what holds before a call and is ensured of it holds after it
+after-keeps : (P : Store → Type 0) {r : Result (Outcome Store)} (s : Store) → P s → Ensures (λ o. P (o .state)) r → P (after s r)
+unfolding after
+after-keeps P s h (no-matter n) = h
+after-keeps P s h (ensured k) = k
+
+-- a line of any bytes keeps the store well-formed
+pub perform-keeps : (u : Setup) → is-setup u ≡ true → (s : Store) → well-formed (record { setup = u; store = s }) ≡ true → (t : Text)
+    → Ensures (λ o. well-formed (record { setup = u; store = o .state }) ≡ true) (perform store u s t)
+unfolding perform is-line
+perform-keeps u g s w t =
+    after-do _ λ l e.
+    after-do _ λ c f.
+    let i = and-both (ltb (l .caller .0) 24) (is-command (l .command)) (line-is-line t l (present-some (line t) NoForm e)) in
+    run-keeps u g s w c (caller-fits u g (l .caller) c f) (l .command) (i .1)
+
+-- so does a call
+pub step-keeps : (u : Setup) → is-setup u ≡ true → (s : Store) → well-formed (record { setup = u; store = s }) ≡ true → (call : Call)
+    → well-formed (record { setup = u; store = after s (step store u s call) }) ≡ true
+unfolding step
+step-keeps u g s w call = after-keeps (λ t. well-formed (record { setup = u; store = t }) ≡ true) s w (after-check ShortAnswer _ λ _. perform-keeps u g s w (call .line))
+
+-- and a list of calls
+pub runs-keep : (u : Setup) → is-setup u ≡ true → (s : Store) → well-formed (record { setup = u; store = s }) ≡ true → (calls : List Call)
+    → well-formed (record { setup = u; store = runs store u s calls .state }) ≡ true
+unfolding runs
+runs-keep u g s w [] = w
+runs-keep u g s w (call ∷ calls) = runs-keep u g (after s (step store u s call)) (step-keeps u g s w call) calls
+
+-- a store reached from the initial one is well-formed
+pub reached-well-formed : (u : Setup) (s : Store) → Reached u s → well-formed (record { setup = u; store = s }) ≡ true
+reached-well-formed u s r =
+    let g = accepted-is-setup (r .text) u (r .taken) in
+    rw (r .state) (runs-keep u g (initial-store u) (initial-well-formed u g) (r .calls))
+
+-- and read back from its bytes
+pub reached-decodes : (u : Setup) (s : Store) → Reached u s → decode (encode (record { setup = u; store = s })) ≡ some (record { setup = u; store = s })
+reached-decodes u s r = decode-encode (record { setup = u; store = s }) (reached-well-formed u s r)

@@ -1,0 +1,182 @@
+-- A person's directory of mode 0700 is its owner's and root's alone in the store: every command of anybody else, the repository's
+-- too, is refused if a path that it walks lies below the directory, and else leaves it unaltered.
+use mathlib.Core.Path.{_≡_, refl, _∙_, ap}
+use mathlib.Core.Option.{some}
+use mathlib.Core.Bool.{true, false, not}
+use Prim.Native.Nat.{_+_}
+use native.Mathlib.Omega.{arith}
+use borrow.Author.Tests.{ltb-true, ne-eqb}
+use lib.Dec.{ltb}
+use Rattle.buffers.specs.Cases.{contra}
+use Rattle.accounts.specs.declared.Caller.{Caller}
+use Rattle.accounts.specs.declared.Right.{Right}
+use Rattle.accounts.specs.declared.Right.the-variants.{R, W, X}
+use Rattle.accounts.specs.Access.{same-uid}
+use Rattle.accounts.specs.Dominance.{Bounded-role}
+use Rattle.accounts.specs.Service.{service-uid, service, service-not-root, service-own}
+use Rattle.syntax.specs.Path.{Path, _▹_, Entry-path, parent, last, within, lies-below, in-rep, entry-location}
+use Rattle.syntax.specs.WithinLaws.{outside-differs}
+use Rattle.commands.specs.Command.{Shell-command, Repository-command, login, logout, add, co, commit, up, del, Command, shell, repository, some-path, some-working-path, some-walked-path}
+use Rattle.setup.specs.Setup.{Setup}
+use Rattle.tree.specs.declared.Cause.{Cause}
+use Rattle.tree.specs.declared.Cause.the-variants.{Access, WrongKind, NotEmpty, Reserved, Full, NoGrant, Stale, Untagged, RevisionsSpent, TooDeep}
+use Rattle.tree.specs.Result.{refused, present}
+use Rattle.tree.specs.ResultLaws.{refused-bind}
+use Rattle.tree.specs.Forest.{Place, place-at}
+use Rattle.tree.specs.Node.{is-directory, Node, owns}
+use Rattle.tree.specs.Walk.{by-modes, unused, walk, parent-walk}
+use Rattle.tree.specs.WellFormed.{is-tree}
+use Rattle.tree.specs.Agree.{Ensures, ensured, ensured-so, never-done, after-do, after-facts, after-check, after-guard}
+use Rattle.tree.specs.JudgeLaws.{kind-by-modes, readable-by-modes, writable-by-modes}
+use Rattle.tree.specs.PathLaws.{alter-keeps}
+use Rattle.shell.specs.ShutLaws.{never-walked, never-room, never-run}
+use Rattle.shell.specs.Privacy.{Private, Unaltered, in-place, walks-first}
+use Rattle.copying.specs.Copying.{below-rep}
+use Rattle.shell.specs.ShellPrivacyLaws.{private-shut, private-foreign, private-outside, put-private, drop-private, room-private, run-shell-through, run-shell-private}
+use Rattle.store.specs.State.{Store}
+use Rattle.machine.specs.Machine.{session, run-login, run-logout, run-add, run-co, working-file, original, run-commit, run-up, run-del, run-repository, run}
+use Rattle.machine.specs.StoreMachine.{store}
+
+module _ (u : Setup) (s : Store) (c : Caller) (p : Path) (d : Place Node) (there : place-at (s .tree) p ≡ some d) (v : Private (c .account) d) where
+  -- ---- paths below it
+
+  never-working : (right : Right) (w : Path) → lies-below p w ≡ true → Ensures (λ _. ⊥) (working-file store u s c right w)
+  unfolding working-file
+  never-working right w b = never-walked c (s .tree) p d there (private-shut v X) _ w b
+
+  never-repository : (command : Repository-command) → some-working-path (lies-below p) command ≡ true → Ensures (λ _. ⊥) (run-repository store u s c command)
+  unfolding some-working-path run-repository run-add run-co run-commit run-up
+  never-repository (login z password) b = contra b refl
+  never-repository logout b = contra b refl
+  never-repository (add w e role) b = after-do (session store u s c) λ _ _. never-walked c (s .tree) p d there (private-shut v X) _ w b
+  never-repository (co e q) b =
+      after-do (session store u s c) λ _ _.
+      after-facts (never-room c (s .tree) p d there (private-shut v X) 0 q b) λ _ z. absurd z
+  never-repository (commit w) b = after-do (session store u s c) λ _ _. after-facts (never-working R w b) λ _ z. absurd z
+  never-repository (up w) b = after-do (session store u s c) λ _ _. after-facts (never-working W w b) λ _ z. absurd z
+  never-repository (del e) b = contra b refl
+
+  -- a command with a path below it is refused
+  pub run-refused : (command : Command) → some-walked-path (lies-below p) command ≡ true → (why : Cause) × (run store u s c command ≡ refused why)
+  unfolding some-walked-path run
+  run-refused (shell command) b = never-done (after-facts (never-run c (s .tree) p d there (private-shut v X) 0 command b) λ _ z. absurd z)
+  run-refused (repository command) b = never-done (never-repository command b)
+
+  -- a shell command that walks first, for want of x
+  pub run-through : is-tree (s .tree) ≡ true → (command : Shell-command) → walks-first command ≡ true → some-path (lies-below p) command ≡ true
+      → run store u s c (shell command) ≡ refused Access
+  unfolding run
+  run-through whole command i b = rw (run-shell-through c 0 (s .tree) p d there v whole command i b, refused-bind)
+
+  -- ---- what becomes of it
+
+  module _ (small : ltb (d .here .owner .0) 16 ≡ true) where
+    -- it is private for every service account too
+    service-private : (z : Bounded-role) → Private (service (u .pairs) z) d
+    unfolding same-uid service-uid
+    service-private z = record {
+      not-root = service-not-root (u .pairs) z;
+      foreign = rw (service-own (u .pairs) z) (ne-eqb (16 + z .role .0) (d .here .owner .0) (λ e. omega (arith, ltb-true (d .here .owner .0) 16 small)));
+      mode = v .mode;
+      directory = v .directory;
+    }
+
+    add-private : (w : Path) (e : Entry-path) (role : Bounded-role) → Ensures (λ o. place-at (o .state .tree) p ≡ some d) (run-add store u s c w e role)
+    unfolding run-add below-rep in-rep parent last
+    add-private w e role =
+        after-do (session store u s c) λ z _.
+        after-do (walk (by-modes (c .account)) (s .tree) w) λ f i.
+        after-check Reserved _ λ o.
+        after-check Access _ λ _.
+        after-check Reserved _ λ _.
+        after-do (parent-walk (by-modes (service (u .pairs) z)) (s .tree) (in-rep (e .folder) ▹ e .name)) λ g k.
+        after-guard (unused (e .name) (g .below)) λ n.
+        after-check Access _ λ b.
+        after-check Full _ λ _.
+        ensured (alter-keeps _ p d w _
+        (put-private (s .tree) p d there (service-private z) (in-rep (e .folder) ▹ e .name) g k n (rw (writable-by-modes (service (u .pairs) z) (g .here)) at b) _)
+        (private-outside (s .tree) p d there v (owns (c .account)) (private-foreign v) w f i o))
+
+    co-private : (e : Entry-path) (q : Path) → Ensures (λ o. place-at (o .state .tree) p ≡ some d) (run-co store u s c e q)
+    unfolding run-co
+    co-private e q =
+        after-do (session store u s c) λ z _.
+        after-facts (room-private c 0 (s .tree) p d there v q) λ f k.
+        after-do (walk (by-modes (service (u .pairs) z)) (s .tree) (in-rep (below-rep e))) λ a _.
+        after-check Access _ λ _.
+        after-check TooDeep _ λ _.
+        after-check Full _ λ _.
+        ensured (k _)
+
+    -- a working file is outside the directory
+    working-private : (right : Right) (w : Path) → Ensures (λ k. within p w ≡ false) (working-file store u s c right w)
+    unfolding working-file
+    working-private right w =
+        after-do (walk (by-modes (c .account)) (s .tree) w) λ f i.
+        after-check WrongKind _ λ b.
+        after-check Access _ λ _.
+        after-do (present (f .here .tag) Untagged) λ _ _.
+        ensured (private-outside (s .tree) p d there v (λ n. not (is-directory (n .kind))) (ap not (v .directory)) w f i b)
+
+    -- and so is an entry's file
+    original-private : (z : Bounded-role) (e : Entry-path) → Ensures (λ a. within p (in-rep (below-rep e)) ≡ false) (original store u s c z e)
+    unfolding original
+    original-private z e =
+        after-do (walk (by-modes (service (u .pairs) z)) (s .tree) (in-rep (below-rep e))) λ f i.
+        after-check WrongKind _ λ b.
+        after-check Access _ λ _.
+        ensured (private-outside (s .tree) p d there (service-private z) (λ n. not (is-directory (by-modes (service (u .pairs) z) .kind n)))
+        (ap (λ k. not (is-directory k)) (kind-by-modes (service (u .pairs) z) (d .here)) ∙ ap not (v .directory)) (in-rep (below-rep e)) f i b)
+
+    commit-private : (w : Path) → Ensures (λ o. place-at (o .state .tree) p ≡ some d) (run-commit store u s c w)
+    unfolding run-commit entry-location below-rep in-rep
+    commit-private w =
+        after-do (session store u s c) λ z _.
+        after-facts (working-private R w) λ k o.
+        after-facts (original-private z (k .tag .path)) λ a i.
+        after-do (walk (by-modes (service (u .pairs) z)) (s .tree) (in-rep (k .tag .path .folder))) λ _ _.
+        after-check Access _ λ _.
+        after-check Stale _ λ _.
+        after-check RevisionsSpent _ λ _.
+        ensured (alter-keeps _ p d w _ (alter-keeps (s .tree) p d (in-rep (below-rep (k .tag .path))) _ there i) o)
+
+    up-private : (w : Path) → Ensures (λ o. place-at (o .state .tree) p ≡ some d) (run-up store u s c w)
+    unfolding run-up
+    up-private w =
+        after-do (session store u s c) λ z _.
+        after-facts (working-private W w) λ k o.
+        after-do (original store u s c z (k .tag .path)) λ a _.
+        ensured (alter-keeps (s .tree) p d w _ there o)
+
+    -- an account may not read the directory, so what it takes out is another
+    del-private : (e : Entry-path) → Ensures (λ o. place-at (o .state .tree) p ≡ some d) (run-del store u s c e)
+    unfolding run-del below-rep in-rep
+    del-private e =
+        after-do (session store u s c) λ z _.
+        let a = service (u .pairs) z in
+        let q = in-rep (e .folder) in
+        after-do (walk (by-modes a) (s .tree) (q ▹ e .name)) λ x w.
+        after-check Access _ λ r.
+        after-do (walk (by-modes a) (s .tree) q) λ f i.
+        after-check Access _ λ b.
+        after-check NotEmpty _ λ n.
+        let o = private-outside (s .tree) p d there (service-private z) (by-modes a .readable) (readable-by-modes a (d .here) ∙ rw (private-shut (service-private z) R)) (q ▹ e .name) x w r in
+        ensured (drop-private (s .tree) p d there (service-private z) q (e .name) x f w i (rw (writable-by-modes a (f .here)) at b) n (outside-differs p (q ▹ e .name) o))
+
+    run-repository-private : (command : Repository-command) → Ensures (λ o. place-at (o .state .tree) p ≡ some d) (run-repository store u s c command)
+    unfolding run-repository run-login run-logout
+    run-repository-private (login z password) = after-check NoGrant _ λ _. ensured there
+    run-repository-private logout = ensured there
+    run-repository-private (add w e role) = add-private w e role
+    run-repository-private (co e q) = co-private e q
+    run-repository-private (commit w) = commit-private w
+    run-repository-private (up w) = up-private w
+    run-repository-private (del e) = del-private e
+
+    -- every command leaves the directory unaltered
+    pub run-private : is-tree (s .tree) ≡ true → (command : Command) → Ensures (λ o. Unaltered (c .account) (s .tree) d p command (o .state .tree)) (run store u s c command)
+    unfolding run
+    run-private whole (shell command) =
+        after-facts (run-shell-private c 0 (s .tree) p d there v whole command) λ o k.
+        ensured k
+    run-private whole (repository command) = ensured-so (λ o. in-place) (run-repository-private command)

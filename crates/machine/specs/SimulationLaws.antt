@@ -1,0 +1,356 @@
+-- One command of a person does the same in the store as in the abstract machine: the same refusal, or the same text and
+-- states that still stand for one another.
+use mathlib.Core.Path.{_≡_, refl, sym, _∙_, ap}
+use mathlib.Core.Option.{none}
+use mathlib.Core.Bool.{Bool, true, false, not}
+use Prim.Native.Nat.{ℕ, _+_}
+use native.Mathlib.Omega.{arith}
+use Rattle.buffers.specs.Text.{Text}
+use Rattle.accounts.specs.declared.Caller.{Caller}
+use Rattle.accounts.specs.declared.Uid.{Uid}
+use Rattle.accounts.specs.declared.Right.{Right}
+use Rattle.accounts.specs.declared.Right.the-variants.{R, W}
+use Rattle.accounts.specs.Access.{is-root}
+use Rattle.accounts.specs.Dominance.{Bounded-role}
+use Rattle.accounts.specs.Service.{service}
+use Rattle.syntax.specs.Path.{Path, _▹_, Entry-path, parent, rep, in-rep, entry-location}
+use Rattle.commands.specs.Command.{Shell-command, Repository-command, login, logout, add, co, commit, up, del, Command, shell, repository}
+use Rattle.setup.specs.Setup.{Setup, is-setup}
+use Rattle.tree.specs.declared.Kind.{Kind}
+use Rattle.tree.specs.declared.Cause.the-variants.{Access, WrongKind, NotEmpty, Reserved, Full, NoGrant, Stale, Untagged, RevisionsSpent, TooDeep}
+use Rattle.tree.specs.Result.{done, present}
+use Rattle.tree.specs.Forest.{Forest, nil, node, Place, insert, remove, at, update, update-forest, alter, put, drop, leaf, size, map-forest, map-place, rooted}
+use Rattle.tree.specs.Node.{is-directory, Node, allows, owns}
+use Rattle.tree.specs.Walk.{by-modes, enter, walk, parent-walk}
+use Rattle.tree.specs.WellFormed.{nodes}
+use Rattle.tree.specs.Agree.{Agree, both, done-second, bind, each, check, guard}
+use Rattle.tree.specs.JudgeLaws.{directory-is-one, kind-by-modes, passes-by-modes}
+use Rattle.tree.specs.StepLaws.{enters}
+use Rattle.tree.specs.ForestLaws.{empty-map, leaf-map}
+use Rattle.tree.specs.RootedLaws.{rooted-here, rooted-size, rooted-put, rooted-drop, rooted-alter, rooted-map}
+use Rattle.tree.specs.PlaceLaws.{leaf-here, leaf-size}
+use Rattle.tree.specs.MapLaws.{map-nil, map-node, map-here, map-below, unused-map, walk-map, parent-walk-map}
+use Rattle.tree.specs.Graft.{graft, Outside, nodes-graft, update-inside, walk-inside, parent-walk-inside, Seen, seen-here}
+use Rattle.shell.specs.Steps.{room, fit, run-shell}
+use Rattle.copying.specs.Copying.{below-rep, copied, copy-children, copy}
+use Rattle.shell.specs.HidingLaws.{Kept-out, Beside, Alike, update-beside, walk-alike, owned-outside, file-outside, room-alike, fit-alike, run-shell-alike}
+use Rattle.store.specs.State.{Sessions, Store}
+use Rattle.store.specs.Initial.{directory-of, top-node, rep-node}
+use Rattle.machine.specs.Machine.{caller, source, run-login, run-logout, session, run-add, run-co, working-file, original, run-commit, run-up, run-del, run-repository, run}
+use Rattle.machine.specs.StoreMachine.{entry-node, next-node, on-tree, store}
+use Rattle.machine.specs.AbstractMachine.{Entry, Abstract, Filed, top, entry, new-entry, next-entry, on-entries, abstract}
+use Rattle.machine.specs.Embedding.{in-store, stored, met, embed}
+use Rattle.machine.specs.EntryJudgeLaws.{kind-law, passes-law, readable-law, writable-law, top-passed, revision-law, content-law, next-law}
+use Rattle.machine.specs.CallerLaws.{person-not-root, person-top, person-rep}
+use Rattle.machine.specs.Simulation.{Kept, Tie, Tied}
+
+-- ---- what stands for what
+
+-- the store's tree has them at `/rep`
+beside : {s : Store} {h : Abstract} → Tie s h → Beside (stored (h .entries)) (leaf rep-node) top-node (s .tree) (h .workspace)
+unfolding embed
+beside t = record { same = ap (λ s. s .tree) (t .same); here = t .kept .top; there = t .kept .there }
+
+-- another people's tree in both
+workspace-tie : {s : Store} {h : Abstract} → Tie s h → {a b : Place Node} → Beside (stored (h .entries)) (leaf rep-node) top-node a b
+    → Tie (store .on-workspace (λ t. a) s) (abstract .on-workspace (λ t. b) h)
+unfolding embed
+workspace-tie t w = record {
+  same = λ i. record { tree = w .same i; sessions = t .same i .sessions };
+  kept = record { top = w .here; there = w .there };
+}
+
+-- one change of it in both, outside `/rep`
+people-tie : {s : Store} {h : Abstract} → Tie s h → (p : Path) → Outside p → (f : Place Node → Place Node)
+    → Tie (store .on-workspace (update p f) s) (abstract .on-workspace (update p f) h)
+people-tie t p o f = workspace-tie t (update-beside (beside t) p o f)
+
+-- a change of the entries in both
+entries-tie : {s : Store} {h : Abstract} → Tie s h → (p : Path) (f : Place Node → Place Node) (g : Forest Entry → Forest Entry)
+    → update p f (stored (h .entries)) ≡ stored (g (h .entries)) → Tie (on-tree (update (in-rep p) f) s) (on-entries g h)
+unfolding embed
+entries-tie {h} t p f g law = record {
+  same = rw (t .same, update-inside p f (stored (h .entries)) (h .workspace), law);
+  kept = record { top = t .kept .top; there = t .kept .there };
+}
+
+-- a new entry in both
+pub file-tie : {s : Store} {h : Abstract} → Tie s h → (e : Entry-path) (kind : Kind) (r : Bounded-role) (content : Text)
+    → Tie (store .file e kind r content s) (abstract .file e kind r content h)
+unfolding stored in-store new-entry
+file-tie {h} t e kind r content =
+    let x = leaf (new-entry kind r content) in
+    entries-tie t (e .folder) (put (e .name) (leaf (entry-node kind r 1 content))) (update-forest (e .folder) (insert (e .name) x))
+    (rw (leaf-map in-store (new-entry kind r content)) (rooted-put in-store rep-node (e .folder) (e .name) x (h .entries)))
+
+-- an entry revised in both
+revise-tie : {s : Store} {h : Abstract} → Tie s h → (e : Entry-path) (content : Text) → Tie (store .revise e content s) (abstract .revise e content h)
+unfolding stored entry-location in-rep
+revise-tie {h} t e content =
+    entries-tie t (e .folder ▹ e .name) (alter (next-node content)) (update-forest (e .folder) (at (e .name) (alter (next-entry content))))
+    (rooted-alter in-store rep-node (next-node content) (next-entry content) (next-law content) (e .folder) (e .name) (h .entries))
+
+-- an entry taken out of both
+pub remove-tie : {s : Store} {h : Abstract} → Tie s h → (e : Entry-path) → Tie (store .remove e s) (abstract .remove e h)
+unfolding stored
+remove-tie {h} t e = entries-tie t (e .folder) (drop (e .name)) (update-forest (e .folder) (remove (e .name))) (rooted-drop in-store rep-node (e .folder) (e .name) (h .entries))
+
+-- changes of the sessions in both
+sessions-tie : {s : Store} {h : Abstract} → Tie s h → (z : Sessions) → Tie (store .with-sessions z s) (abstract .with-sessions z h)
+unfolding embed
+sessions-tie t z = record {
+  same = rw (t .same);
+  kept = record { top = t .kept .top; there = t .kept .there };
+}
+
+-- done without a text
+changed : {s : Store} {h : Abstract} → Tie s h → Tied (record { text = none; state = s }) (record { text = none; state = h })
+changed t = record { text = refl; state = t }
+
+module _ (h : Abstract) (k : Kept h) where
+  start : Tie (embed h) h
+  start = record { same = refl; kept = k }
+
+  -- the node of `/rep` is one
+  pub rep-alike : stored (h .entries) .here ≡ leaf rep-node .here
+  unfolding stored
+  rep-alike = rooted-here in-store rep-node (h .entries) ∙ sym (leaf-here rep-node)
+
+  -- both count as many nodes
+  count : nodes (graft (stored (h .entries)) (h .workspace)) + 0 ≡ nodes (h .workspace) + size (h .entries)
+  unfolding stored
+  count = omega (arith, nodes-graft (stored (h .entries)) (h .workspace) (k .there), leaf-size rep-node, rooted-size in-store rep-node (h .entries))
+
+-- what stands below `/rep` is what a walk from there meets
+pub stored-is-met : (F : Forest Entry) → stored F ≡ map-place met (rooted entry top F)
+unfolding stored met
+stored-is-met F = sym (rooted-map met entry top F)
+
+-- ---- the account of a session's role
+
+module _ (u : Setup) (z : Bounded-role) where
+  module _ (h : Abstract) (k : Kept h) where
+    -- the account enters `/`
+    top-entered : enter (store .judge u z) (h .workspace .here) ≡ done tt
+    top-entered =
+        let a = service (u .pairs) z in
+        let t = top-passed u z in
+        rw (k .top) (enters (store .judge u z) top-node (rw (kind-by-modes a top-node) (t .0)) (rw (passes-by-modes a top-node) (t .1)))
+
+    -- it walks to the same entry in both
+    pub account-walk : (p : Path) → Agree (λ d e. d ≡ map-place met e) (walk (store .judge u z) (embed h .tree) (in-rep p)) (walk (abstract .judge u z) (abstract .entries h) p)
+    unfolding embed
+    account-walk p =
+        rw (walk-inside (store .judge u z) (stored (h .entries)) (h .workspace) top-entered (k .there) p, stored-is-met (h .entries))
+        (walk-map met (abstract .judge u z) (store .judge u z) (kind-law u z) (passes-law u z) (abstract .entries h) p)
+
+    account-parent-walk : (e : Entry-path) →
+        Agree (λ d e. d ≡ map-place met e) (parent-walk (store .judge u z) (embed h .tree) (in-rep (below-rep e))) (parent-walk (abstract .judge u z) (abstract .entries h) (below-rep e))
+    unfolding embed below-rep in-rep
+    account-parent-walk e =
+        rw (parent-walk-inside (store .judge u z) (stored (h .entries)) (h .workspace) top-entered (k .there) (e .folder) (e .name), stored-is-met (h .entries))
+        (parent-walk-map met (abstract .judge u z) (store .judge u z) (kind-law u z) (passes-law u z) (abstract .entries h) (e .folder ▹ e .name))
+
+  -- ---- copies
+
+  module _ (c : Caller) where
+    copied-law : (parent : Node) (e : Entry-path) (a : Filed) → copied c (source store (store .judge u z)) parent e (met a) ≡ copied c (source abstract (abstract .judge u z)) parent e a
+    unfolding copied
+    copied-law parent e a = rw (kind-law u z a, content-law a, revision-law a)
+
+    children-law : (parent : Node) (folder : Path) (F : Forest Filed)
+        → copy-children c (source store (store .judge u z)) parent folder (map-forest met F) ≡ copy-children c (source abstract (abstract .judge u z)) parent folder F
+    unfolding copy-children
+    children-law parent folder nil = rw (map-nil met)
+    children-law parent folder (node n a cs rest) =
+        let e : Entry-path = record { folder = folder; name = n } in
+        rw (map-node met n a cs rest) (
+        rw (readable-law u z a, copied-law parent e a, children-law (copied c (source abstract (abstract .judge u z)) parent e a) (folder ▹ n) cs, children-law parent folder rest))
+
+    -- what is copied from the store is what is copied apart
+    copy-law : (parent : Node) (e : Entry-path) (d : Place Filed)
+        → copy c (source store (store .judge u z)) parent e (map-place met d) ≡ copy c (source abstract (abstract .judge u z)) parent e d
+    unfolding copy
+    copy-law parent e d = rw (map-here met d, map-below met d) (rw (copied-law parent e (d .here)) (rw (children-law _ (below-rep e) (d .below))))
+
+-- ---- the commands
+
+-- a person may do nothing at `/rep` and has neither it nor `/` to change
+kept-out : (u : Setup) → is-setup u ≡ true → (v : Uid) (c : Caller) → is-root v ≡ false → caller u v ≡ done c → Kept-out c top-node (leaf rep-node .here)
+unfolding top-node rep-node directory-of
+kept-out u s v c r h = rw (leaf-here rep-node) (record {
+  not-root = person-not-root u v c r h;
+  top-shut = person-top u s v c r h .0;
+  top-foreign = person-top u s v c r h .1;
+  top-directory = directory-is-one;
+  rep-shut = person-rep u s v c r h .0;
+  rep-foreign = person-rep u s v c r h .1;
+  rep-directory = directory-is-one;
+})
+
+module _ (u : Setup) (c : Caller) (out : Kept-out c top-node (leaf rep-node .here)) (h : Abstract) (k : Kept h) where
+  -- the person walks to the same place in both
+  person-walk : (p : Path) → Agree (Seen (stored (h .entries)) (leaf rep-node) (h .workspace) p) (walk (by-modes (c .account)) (embed h .tree) p) (walk (by-modes (c .account)) (h .workspace) p)
+  unfolding embed
+  person-walk = walk-alike c (stored (h .entries)) (leaf rep-node) top-node out (rep-alike h k) (h .workspace) (k .top) (k .there)
+
+  -- the same test on both
+  test : (T : Node → Bool) {p : Path} {d d′ : Place Node} → Seen (stored (h .entries)) (leaf rep-node) (h .workspace) p d d′ → T (d .here) ≡ T (d′ .here)
+  test T s = ap T (seen-here (rep-alike h k) s)
+
+  -- what the person owns is outside `/rep`, and so is a file that the person meets
+  owned : {p : Path} {d d′ : Place Node} → Seen (stored (h .entries)) (leaf rep-node) (h .workspace) p d d′ → owns (c .account) (d .here) ≡ true → Outside p
+  owned = owned-outside c (stored (h .entries)) (leaf rep-node) top-node out (rep-alike h k) (h .workspace) (k .top) (k .there)
+
+  a-file : {p : Path} {d d′ : Place Node} → Seen (stored (h .entries)) (leaf rep-node) (h .workspace) p d d′ → not (is-directory (d .here .kind)) ≡ true → Outside p
+  a-file = file-outside c (stored (h .entries)) (leaf rep-node) top-node out (rep-alike h k) (h .workspace) (k .top) (k .there)
+
+  -- there is room for a new node in both
+  room-agrees : (p : Path)
+      → Agree (λ d d′. (d .here ≡ d′ .here) × Outside (parent p)) (room c 0 (embed h .tree) p) (room c (size (h .entries)) (h .workspace) p)
+  unfolding embed
+  room-agrees = room-alike c (stored (h .entries)) (leaf rep-node) top-node out (rep-alike h k) (h .workspace) (k .top) (k .there) 0 (size (h .entries)) (count h k)
+
+  -- as many more nodes fit
+  fits-agree : (n : ℕ) → fit c 0 (embed h .tree) n ≡ fit c (size (h .entries)) (h .workspace) n
+  unfolding embed
+  fits-agree = fit-alike c (stored (h .entries)) (leaf rep-node) top-node out (rep-alike h k) (h .workspace) (k .top) (k .there) 0 (size (h .entries)) (count h k)
+
+  -- a shell command
+  shell-agrees : (command : Shell-command)
+      → Agree (Alike (stored (h .entries)) (leaf rep-node) top-node) (run-shell c 0 (embed h .tree) command) (run-shell c (size (h .entries)) (h .workspace) command)
+  unfolding embed
+  shell-agrees = run-shell-alike c (stored (h .entries)) (leaf rep-node) top-node out (rep-alike h k) (h .workspace) (k .top) (k .there) 0 (size (h .entries)) (count h k)
+
+  -- the parts that commands share
+  working-agrees : (right : Right) (p : Path) → Agree (λ a b. (a ≡ b) × Outside p) (working-file store u (embed h) c right p) (working-file abstract u h c right p)
+  unfolding working-file
+  working-agrees right p =
+      bind (person-walk p) λ d e s.
+      check WrongKind (test (λ n. not (is-directory (n .kind))) s) λ i.
+      check Access (test (allows (c .account) right) s) λ _.
+      rw (seen-here (rep-alike h k) s) (
+      each (present (e .here .tag) Untagged) λ t _.
+      both (refl, a-file s i))
+
+  original-agrees : (z : Bounded-role) (e : Entry-path) → Agree (λ d b. d ≡ map-place met b) (original store u (embed h) c z e) (original abstract u h c z e)
+  unfolding original
+  original-agrees z e =
+      bind (account-walk u z h k (below-rep e)) λ d b y.
+      check WrongKind (rw (y, map-here met b) (ap (λ i. not (is-directory i)) (kind-law u z (b .here)))) λ _.
+      check Access (rw (y, map-here met b) (readable-law u z (b .here))) λ _.
+      both y
+
+  -- command by command, line by line
+  login-agrees : (z : Bounded-role) (password : Text) → Agree Tied (run-login store u (embed h) c z password) (run-login abstract u h c z password)
+  unfolding run-login embed
+  login-agrees z password = check NoGrant refl λ _. both (changed (sessions-tie (start h k) _))
+
+  logout-agrees : Agree Tied (run-logout store u (embed h) c) (run-logout abstract u h c)
+  unfolding run-logout embed
+  logout-agrees = both (changed (sessions-tie (start h k) _))
+
+  add-agrees : (w : Path) (e : Entry-path) (role : Bounded-role) → Agree Tied (run-add store u (embed h) c w e role) (run-add abstract u h c w e role)
+  unfolding run-add session embed
+  add-agrees w e role =
+      each (session abstract u h c) λ z _.
+      bind (person-walk w) λ d f s.
+      check Reserved (test (owns (c .account)) s) λ i.
+      check Access (test (by-modes (c .account) .readable) s) λ _.
+      check Reserved refl λ _.
+      bind (account-parent-walk u z h k e) λ a b y.
+      rw y (rw (map-here met b, map-below met b) (
+      guard (unused-map met (e .name) (b .below)) λ _.
+      check Access (writable-law u z (b .here)) λ _.
+      check Full (fits-agree 1) λ _.
+      rw (seen-here (rep-alike h k) s) (
+      both (changed (people-tie (file-tie (start h k) e (f .here .kind) role (f .here .content)) w (owned s i) _)))))
+
+  co-agrees : (e : Entry-path) (p : Path) → Agree Tied (run-co store u (embed h) c e p) (run-co abstract u h c e p)
+  unfolding run-co session embed
+  co-agrees e p =
+      each (session abstract u h c) λ z _.
+      bind (room-agrees p) λ f g s.
+      bind (account-walk u z h k (below-rep e)) λ a b y.
+      rw y (
+      check Access (rw (map-here met b) (readable-law u z (b .here))) λ _.
+      rw (s .0, copy-law u z c (g .here) e b) (
+      check TooDeep refl λ _.
+      check Full (fits-agree _) λ _.
+      both (changed (people-tie (start h k) (parent p) (s .1) _))))
+
+  commit-agrees : (w : Path) → Agree Tied (run-commit store u (embed h) c w) (run-commit abstract u h c w)
+  unfolding run-commit session embed
+  commit-agrees w =
+      each (session abstract u h c) λ z _.
+      bind (working-agrees R w) λ f g s.
+      rw (s .0) (
+      bind (original-agrees z (g .tag .path)) λ a b y.
+      rw y (rw (map-here met b, revision-law (b .here)) (
+      bind (account-walk u z h k (g .tag .path .folder)) λ d l v.
+      rw v (rw (map-here met l) (
+      check Access (writable-law u z (l .here)) λ _.
+      check Stale refl λ _.
+      check RevisionsSpent refl λ _.
+      both (changed (people-tie (revise-tie (start h k) (g .tag .path) (g .node .content)) w (s .1) _)))))))
+
+  up-agrees : (w : Path) → Agree Tied (run-up store u (embed h) c w) (run-up abstract u h c w)
+  unfolding run-up session embed
+  up-agrees w =
+      each (session abstract u h c) λ z _.
+      bind (working-agrees W w) λ f g s.
+      rw (s .0) (
+      bind (original-agrees z (g .tag .path)) λ a b y.
+      rw y (rw (map-here met b) (rw (revision-law (b .here), content-law (b .here)) (
+      both (changed (people-tie (start h k) w (s .1) _))))))
+
+  del-agrees : (e : Entry-path) → Agree Tied (run-del store u (embed h) c e) (run-del abstract u h c e)
+  unfolding run-del session embed
+  del-agrees e =
+      each (session abstract u h c) λ z _.
+      bind (account-walk u z h k (below-rep e)) λ a b y.
+      rw y (rw (map-here met b, map-below met b) (
+      check Access (readable-law u z (b .here)) λ _.
+      bind (account-walk u z h k (e .folder)) λ d l v.
+      rw v (rw (map-here met l) (
+      check Access (writable-law u z (l .here)) λ _.
+      check NotEmpty (empty-map met (b .below)) λ _.
+      both (changed (remove-tie (start h k) e))))))
+
+  run-repository-agrees : (command : Repository-command) → Agree Tied (run-repository store u (embed h) c command) (run-repository abstract u h c command)
+  unfolding run-repository
+  run-repository-agrees (login z password) = login-agrees z password
+  run-repository-agrees logout = logout-agrees
+  run-repository-agrees (add w e role) = add-agrees w e role
+  run-repository-agrees (co e p) = co-agrees e p
+  run-repository-agrees (commit w) = commit-agrees w
+  run-repository-agrees (up w) = up-agrees w
+  run-repository-agrees (del e) = del-agrees e
+
+  run-kept-out : (command : Command) → Agree Tied (run store u (embed h) c command) (run abstract u h c command)
+  unfolding run
+  run-kept-out (shell command) = bind (shell-agrees command) λ a b s. both (record { text = s .text; state = workspace-tie (start h k) (s .state) })
+  run-kept-out (repository command) = run-repository-agrees command
+
+-- one command of a person
+pub run-agrees : (u : Setup) → is-setup u ≡ true → (v : Uid) (c : Caller) → is-root v ≡ false → caller u v ≡ done c
+    → (h : Abstract) → Kept h → (command : Command) → Agree Tied (run store u (embed h) c command) (run abstract u h c command)
+run-agrees u s v c r i h k command = run-kept-out u c (kept-out u s v c r i) h k command
+
+-- what a person walks to
+module _ (u : Setup) (s : is-setup u ≡ true) (v : Uid) (c : Caller) (r : is-root v ≡ false) (i : caller u v ≡ done c) (h : Abstract) (k : Kept h)
+    (w : Path) (d : Place Node) (led : walk (by-modes (c .account)) (h .workspace) w ≡ done d) where
+  out : Kept-out c top-node (leaf rep-node .here)
+  out = kept-out u s v c r i
+
+  -- is outside `/rep` if it is a file
+  pub file-is-outside : not (is-directory (d .here .kind)) ≡ true → Outside w
+  file-is-outside b =
+      let a = done-second (person-walk u c out h k w) led in
+      a-file u c out h k (a .2) (test u c out h k (λ n. not (is-directory (n .kind))) (a .2) ∙ b)
+
+  -- or the person's own
+  pub owned-is-outside : owns (c .account) (d .here) ≡ true → Outside w
+  owned-is-outside b =
+      let a = done-second (person-walk u c out h k w) led in
+      owned u c out h k (a .2) (test u c out h k (owns (c .account)) (a .2) ∙ b)

@@ -1,0 +1,1 @@
+// The store and the abstract machine, and what holds of both.

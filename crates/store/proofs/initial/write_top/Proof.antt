@@ -1,0 +1,43 @@
+-- `store::initial::write_top` meets its contract: `/` alone, then `/rep` put in.
+use mathlib.Core.Path.{_∙_, ap}
+use Rattle.syntax.specs.Pieces.{bytes}
+use Rattle.syntax.specs.Path.{rep}
+use Rattle.tree.specs.Forest.{nil}
+use Rattle.tree.specs.Encoding.{encode-tree}
+use Rattle.edits.specs.Changes.{fresh-node}
+use Rattle.store.specs.Initial.{directory-of, top-node, rep-node, topped}
+use Rattle.store.specs.InitialRowsLaws.{planted-opens, rep-put}
+use borrow.Author.Needs.{needs}
+use Rattle.store.proofs.initial.write_top.Statement.{statement}
+use Rattle.store.proofs.initial.write_top.Tie as tie
+
+plant-requires : tie.Need-plant-requires
+plant-requires c κs = search needs
+
+slice-aggregate-put-directory : tie.Need-slice-aggregate-put-directory
+slice-aggregate-put-directory c = search needs
+
+put-directory-requires : tie.Need-put-directory-requires
+unfolding rep bytes top-node directory-of fresh-node
+put-directory-requires c κs =
+    let p = c .before .before .before .before .plant in
+    (topped nil, planted-opens (p .last .0) (p .ensures))
+
+same-length : tie.Need-same-length
+same-length c = search needs
+
+returns : tie.Need-returns
+unfolding rep bytes top-node rep-node directory-of fresh-node
+returns c u =
+    let p = c .before .before .before .before .before .before .before .plant in
+    c .before .before .put-directory .ensures (topped nil) (planted-opens (p .last .0) (p .ensures)) ∙ ap encode-tree (rep-put u)
+
+pub write-top-spec : {M : Type 1} → statement M
+write-top-spec =
+    tie.close
+    (tie.spec
+    plant-requires
+    slice-aggregate-put-directory
+    put-directory-requires
+    same-length
+    returns)

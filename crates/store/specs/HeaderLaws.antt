@@ -1,0 +1,213 @@
+-- The header of the store: it always takes as many bytes, and setup and sessions are read back from it.
+use mathlib.Core.Path.{_≡_, refl, sym, _∙_, ap}
+use mathlib.Core.List.{List, [], _∷_, _++_, append-assoc, append-nil}
+use mathlib.Core.Option.{Option, none, some}
+use mathlib.Core.Bool.{Bool, true, false, _&&_, _||_, Bool-set}
+use Prim.Native.Nat.{ℕ, _+_, _≤_, _%_}
+use native.Mathlib.Omega.{arith}
+use lib.Dec.{eqb, leb, ltb}
+use lib.ListN.{length, getD, drop, replicate, length-append, length-replicate}
+use lib.Seq.{drop-at}
+use borrow.Author.Tests.{ne-eqb, leb-true}
+use Rattle.buffers.specs.Cases.{and-both, contra}
+use Rattle.buffers.specs.Text.{every, lacks}
+use Rattle.buffers.specs.Fields.{two-bytes, number-at, padded, text-at, all-bytes, all-from, table-bytes, table-from}
+use Rattle.buffers.specs.FieldsLaws.{length-two-bytes, number-at-bytes, length-padded, text-at-padded}
+use Rattle.buffers.specs.TableLaws.{length-all-bytes, length-table, all-from-bytes, table-from-bytes}
+use Rattle.accounts.specs.declared.Pair.{Pair}
+use Rattle.accounts.specs.Access.{is-root}
+use Rattle.accounts.specs.Dominance.{Bounded-role}
+use Rattle.syntax.specs.Path.{is-name}
+use Rattle.syntax.specs.PathLaws.{name-fits}
+use Rattle.syntax.specs.Field.{bounded, bounded-by}
+use Rattle.syntax.specs.Form.{is-some}
+use Rattle.setup.specs.Setup.{Person, Grant, Setup, accounts, most-pairs, most-grants, person, is-person, is-slot, is-pair, is-grant, is-setup}
+use Rattle.setup.specs.SetupLaws.{apart}
+use Rattle.store.specs.State.{Sessions}
+use Rattle.store.specs.StoreBytes.{header-width, slot-bytes, slot-of, session-byte, session-of, pair-bytes, pair-of, grant-bytes, grant-of, header-bytes, setup-of, sessions-of}
+
+-- ---- one value
+
+person-number : (p : Person) → is-person p ≡ true → eqb (p .primary .0) 0 ≡ false
+unfolding is-person
+person-number p h =
+    let i = and-both (leb 1 (p .primary .0) && leb (p .primary .0) 15) (ltb (p .further .0) 65536 && eqb (p .further .0 % 2) 0) h in
+    let j = leb-true 1 (p .primary .0) (and-both (leb 1 (p .primary .0)) (leb (p .primary .0) 15) (i .0) .0) in
+    ne-eqb (p .primary .0) 0 (λ e. omega arith)
+
+length-slot : (o : Option Person) → is-slot o ≡ true → length (slot-bytes o) ≡ 3
+unfolding slot-bytes
+length-slot none h = refl
+length-slot (some p) h = rw (length-two-bytes (p .further .0))
+
+slot-back : (o : Option Person) → is-slot o ≡ true → slot-of (slot-bytes o) ≡ o
+unfolding slot-bytes slot-of is-slot
+slot-back none h = refl
+slot-back (some p) h =
+    let n : number-at 1 (p .primary .0 ∷ two-bytes (p .further .0)) ≡ p .further .0 =
+    rw append-nil at (number-at-bytes (p .primary .0 ∷ []) [] 1 (p .further .0) refl) in
+    rw (person-number p h) (λ i. some (record { primary = p .primary; further = record { 0 = n i } }))
+
+bounded-back : (z : Bounded-role) (small : Bool) (e : ltb (z .role .0) 8 ≡ small) → bounded-by (z .role .0) small e ≡ some z
+unfolding bounded-by
+bounded-back z true e = λ i. some (record { role = z .role; bound = Bool-set (ltb (z .role .0) 8) true e (z .bound) i })
+bounded-back z false e = contra (z .bound) e
+
+session-back : (z : Option Bounded-role) → session-of (session-byte z) ≡ z
+unfolding session-byte session-of bounded
+session-back none = refl
+session-back (some z) = bounded-back z (ltb (z .role .0) 8) refl
+
+-- a session's byte as a field, and the test that every session passes
+one-session : Option Bounded-role → List ℕ
+one-session z = session-byte z ∷ []
+
+any-session : Option Bounded-role → Bool
+any-session z = true
+
+every-session : (z : Sessions) → every any-session z ≡ true
+unfolding every any-session
+every-session [] = refl
+every-session (a ∷ z) = every-session z
+
+length-session : (z : Option Bounded-role) → any-session z ≡ true → length (one-session z) ≡ 1
+unfolding one-session
+length-session z t = refl
+
+grant-password : (u : Setup) (g : Grant) → is-grant u g ≡ true → (length (g .password) ≤ 8) × (lacks 0 (g .password) ≡ true)
+unfolding is-grant
+grant-password u g h =
+    let i = and-both (is-root (g .uid) || is-some (person u (g .uid))) (ltb (g .role .0) 8 && is-name (g .password)) h in
+    name-fits (g .password) (and-both (ltb (g .role .0) 8) (is-name (g .password)) (i .1) .1)
+
+length-grant : (u : Setup) (g : Grant) → is-grant u g ≡ true → length (grant-bytes g) ≡ 10
+unfolding grant-bytes
+length-grant u g h = rw (length-padded 8 (g .password) (grant-password u g h .0))
+
+grant-back : (u : Setup) (g : Grant) → is-grant u g ≡ true → grant-of (grant-bytes g) ≡ g
+unfolding grant-bytes grant-of
+grant-back u g h =
+    let f = grant-password u g h in
+    let t : text-at 2 8 (g .uid .0 ∷ g .role .0 ∷ padded 8 (g .password)) ≡ g .password =
+    rw append-nil at (text-at-padded (g .uid .0 ∷ g .role .0 ∷ []) [] 2 8 (g .password) refl (f .0) (f .1)) in
+    λ i. record { uid = g .uid; role = g .role; password = t i }
+
+length-pair : (p : Pair) → is-pair p ≡ true → length (pair-bytes p) ≡ 2
+unfolding pair-bytes
+length-pair p h = refl
+
+pair-back : (p : Pair) → is-pair p ≡ true → pair-of (pair-bytes p) ≡ p
+unfolding pair-bytes pair-of
+pair-back p h = refl
+
+-- ---- the parts of a header
+
+-- what follows the first parts of known lengths
+past-two : (S Z Q : List ℕ) (k l n : ℕ) → length S ≡ k → length Z ≡ l → k + l ≡ n → drop n (S ++ (Z ++ Q)) ≡ Q
+past-two S Z Q k l n s z e = rw (← append-assoc S Z Q) (drop-at (S ++ Z) Q n (length-append S Z ∙ omega arith))
+
+past-three : (S Z P Q : List ℕ) (k l m n : ℕ) → length S ≡ k → length Z ≡ l → length P ≡ m → k + l + m ≡ n → drop n (S ++ (Z ++ (P ++ Q))) ≡ Q
+past-three S Z P Q k l m n s z p e = rw (← append-assoc S Z (P ++ Q)) (past-two (S ++ Z) P Q (k + l) m n (length-append S Z ∙ omega arith) p e)
+
+appended : (S Z P G R B : List ℕ) → (S ++ (Z ++ (P ++ (G ++ R)))) ++ B ≡ S ++ (Z ++ (P ++ (G ++ (R ++ B))))
+appended S Z P G R B = rw (append-assoc S (Z ++ (P ++ (G ++ R))) B, append-assoc Z (P ++ (G ++ R)) B, append-assoc P (G ++ R) B, append-assoc G R B)
+
+length-five : (S Z P G R : List ℕ) → length (S ++ (Z ++ (P ++ (G ++ R)))) ≡ length S + (length Z + (length P + (length G + length R)))
+length-five S Z P G R = rw (length-append S (Z ++ (P ++ (G ++ R))), length-append Z (P ++ (G ++ R)), length-append P (G ++ R), length-append G R)
+
+-- the bytes that are zero, not computed
+unused : List ℕ
+unused = replicate 5700 0
+
+length-unused : length unused ≡ 5700
+unfolding unused
+length-unused = length-replicate {A = ℕ} 5700 0
+
+-- what stands before them
+slots-part : Setup → List ℕ
+slots-part u = all-bytes slot-bytes (u .persons)
+
+sessions-part : Sessions → List ℕ
+sessions-part z = all-bytes one-session z
+
+pairs-part : Setup → List ℕ
+pairs-part u = table-bytes 2 most-pairs pair-bytes (u .pairs)
+
+grants-part : Setup → List ℕ
+grants-part u = table-bytes 10 most-grants grant-bytes (u .grants)
+
+header-parts : (u : Setup) (z : Sessions) → header-bytes u z ≡ slots-part u ++ (sessions-part z ++ (pairs-part u ++ (grants-part u ++ unused)))
+unfolding header-bytes slots-part sessions-part pairs-part grants-part unused one-session
+header-parts u z = refl
+
+-- a header before other bytes
+before : (u : Setup) (z : Sessions) (B : List ℕ) →
+    header-bytes u z ++ B ≡ slots-part u ++ (sessions-part z ++ (pairs-part u ++ (grants-part u ++ (unused ++ B))))
+before u z B = ap (λ (l : List ℕ). l ++ B) (header-parts u z) ∙ appended (slots-part u) (sessions-part z) (pairs-part u) (grants-part u) unused B
+
+length-slots : (u : Setup) → is-setup u ≡ true → length (slots-part u) ≡ 48
+unfolding slots-part
+length-slots u h = let r = apart u h in length-all-bytes 3 is-slot slot-bytes length-slot (u .persons) (r .slots) ∙ omega (arith, r .count)
+
+length-sessions : (z : Sessions) → length z ≡ 16 → length (sessions-part z) ≡ 16
+unfolding sessions-part
+length-sessions z e = length-all-bytes 1 any-session one-session length-session z (every-session z) ∙ omega arith
+
+length-pairs : (u : Setup) → is-setup u ≡ true → length (pairs-part u) ≡ 57
+unfolding pairs-part most-pairs
+length-pairs u h = let r = apart u h in length-table 2 is-pair pair-bytes length-pair 28 (u .pairs) (r .all-pairs) (r .few-pairs)
+
+length-grants : (u : Setup) → is-setup u ≡ true → length (grants-part u) ≡ 321
+unfolding grants-part most-grants
+length-grants u h = let r = apart u h in length-table 10 (is-grant u) grant-bytes (length-grant u) 32 (u .grants) (r .all-grants) (r .few-grants)
+
+persons-back : (u : Setup) (Q : List ℕ) → is-setup u ≡ true → all-from 3 slot-of accounts (slots-part u ++ Q) ≡ u .persons
+unfolding slots-part accounts
+persons-back u Q h =
+    let r = apart u h in
+    ap (λ k. all-from 3 slot-of k (slots-part u ++ Q)) (sym (r .count))
+    ∙ all-from-bytes 3 is-slot slot-bytes length-slot slot-of slot-back (u .persons) Q (r .slots)
+
+pairs-back : (u : Setup) (Q : List ℕ) → is-setup u ≡ true → table-from 2 pair-of (pairs-part u ++ Q) ≡ u .pairs
+unfolding pairs-part
+pairs-back u Q h = table-from-bytes 2 is-pair pair-bytes length-pair pair-of pair-back most-pairs (u .pairs) Q (apart u h .all-pairs)
+
+grants-back : (u : Setup) (Q : List ℕ) → is-setup u ≡ true → table-from 10 grant-of (grants-part u ++ Q) ≡ u .grants
+unfolding grants-part
+grants-back u Q h =
+    table-from-bytes 10 (is-grant u) grant-bytes (length-grant u) grant-of (grant-back u) most-grants (u .grants) Q (apart u h .all-grants)
+
+-- the header takes its width
+pub length-header : (u : Setup) (z : Sessions) → is-setup u ≡ true → length z ≡ 16 → length (header-bytes u z) ≡ header-width
+unfolding header-width
+length-header u z h e =
+    ap length (header-parts u z) ∙ length-five (slots-part u) (sessions-part z) (pairs-part u) (grants-part u) unused
+    ∙ omega (arith, length-slots u h, length-sessions z e, length-pairs u h, length-grants u h, length-unused)
+
+-- the setup is read back from the header
+pub setup-of-header : (u : Setup) (z : Sessions) (B : List ℕ) → is-setup u ≡ true → length z ≡ 16 → setup-of (header-bytes u z ++ B) ≡ u
+unfolding setup-of
+setup-of-header u z B h e =
+    let S = slots-part u in
+    let Z = sessions-part z in
+    let P = pairs-part u in
+    let Q = unused ++ B in
+    let G = grants-part u ++ Q in
+    let s = length-slots u h in
+    let w = length-sessions z e in
+    rw (
+      before u z B,
+      past-two S Z (P ++ G) 48 16 64 s w refl,
+      past-three S Z P G 48 16 57 121 s w (length-pairs u h) refl,
+      persons-back u (Z ++ (P ++ G)) h,
+      pairs-back u G h,
+      grants-back u Q h,
+    )
+
+-- the sessions are read back from the header
+pub sessions-of-header : (u : Setup) (z : Sessions) (B : List ℕ) → is-setup u ≡ true → length z ≡ 16 → sessions-of (header-bytes u z ++ B) ≡ z
+unfolding sessions-of sessions-part one-session accounts
+sessions-of-header u z B h e =
+    let Q = pairs-part u ++ (grants-part u ++ (unused ++ B)) in
+    rw (before u z B, drop-at (slots-part u) (sessions-part z ++ Q) 48 (length-slots u h), ← e)
+    (all-from-bytes 1 any-session one-session length-session (λ s. session-of (getD s 0 0)) (λ a t. session-back a) z Q (every-session z))

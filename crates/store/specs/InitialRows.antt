@@ -1,0 +1,44 @@
+-- What the contracts of the code that writes the initial tree say.
+use mathlib.Core.Path.{_≡_}
+use mathlib.Core.List.{List}
+use mathlib.Core.Option.{Option, none}
+use mathlib.Core.Bool.{Bool, true}
+use Prim.Native.Nat.{ℕ, _<_}
+use lib.Dec.{ltb}
+use Rattle.accounts.specs.declared.Uid.{Uid}
+use Rattle.syntax.specs.Path.{Name, is-name}
+use Rattle.setup.specs.declared.Person.{Person as Slot}
+use Rattle.setup.specs.Setup.{Person, Setup}
+use Rattle.tree.specs.Forest.{Forest, Place, get, put, leaf}
+use Rattle.tree.specs.Node.{Node}
+use Rattle.tree.specs.WellFormed.{nodes, is-tree}
+use Rattle.tree.specs.Encoding.{encode-tree}
+use Rattle.store.specs.Initial.{home-name, with-home, topped, initial-tree}
+
+-- the primary group is one of 0 to 15
+unfoldable pub slot-in-range : Slot → Bool
+slot-in-range s = ltb (s .primary .0) 16
+
+-- a well-formed tree with room for a child of `/` whose name is not used yet
+pub record Open (n : Name) (t : Place Node) : Type 0 where
+  pub sound : is-tree t ≡ true
+  pub room : nodes t < 256
+  pub named : is-name n ≡ true
+  pub free : get n (t .below) ≡ none
+
+-- the bytes of a tree that is open to a name
+pub record Opens (b : List ℕ) (n : Name) (t : Place Node) : Type 0 where
+  pub encoded : b ≡ encode-tree t
+  pub ready : Open n t
+
+-- the bytes before and after a node is put in below `/`: of whatever tree they were that is open to its name, they are the one with it
+abbrev pub Node-put : List ℕ → Name → Node → List ℕ → Type 0
+Node-put b n x c = (t : Place Node) → Opens b n t → c ≡ encode-tree (put n (leaf x) t)
+
+-- and so with the home of an account, if it is a person's
+abbrev pub Home-put : List ℕ → Uid → Option Person → List ℕ → Type 0
+Home-put b v p c = (f : Forest Node) → Opens b (home-name v) (topped f) → c ≡ encode-tree (topped (with-home v p f))
+
+-- the bytes of the initial tree of every setup with these persons
+abbrev pub Initial-written : List (Option Person) → List ℕ → Type 0
+Initial-written persons b = (u : Setup) → u .persons ≡ persons → b ≡ encode-tree (initial-tree u)

@@ -1,0 +1,222 @@
+-- The initial tree as the code writes it: a row for each directory, put in where its name belongs.
+--
+-- In order: a directory put in below `/`; `/` and `/rep`; the home of an account; the accounts one after another.
+use mathlib.Core.Path.{_≡_, refl, sym, _∙_, ap}
+use mathlib.Core.List.{List, [], _∷_, _++_, map}
+use mathlib.Core.Option.{Option, none, some}
+use mathlib.Core.Bool.{Bool, true}
+use Prim.Native.Nat.{ℕ, suc, _+_, _-_, _≤_, _<_, _/_, _%_}
+use native.Mathlib.Omega.{arith}
+use native.Mathlib.Numerals.{add-one}
+use lib.Dec.{eqb}
+use lib.ListN.{length, getD, length-append, List·getD-map}
+use borrow.Author.Tests.{eqb-true, eq-eqb, ne-eqb, ltb-true, lt-ltb, le-ltb}
+use Rattle.buffers.specs.Cases.{case, contra}
+use Rattle.buffers.specs.Text.{every}
+use Rattle.buffers.specs.TextLaws.{every-getD}
+use Rattle.accounts.specs.declared.Uid.{Uid}
+use Rattle.syntax.specs.Pieces.{bytes}
+use Rattle.syntax.specs.Number.{octal, digits-before, decimal-text}
+use Rattle.syntax.specs.Path.{Name, root, depth, rep}
+use Rattle.syntax.specs.PathLaws.{name-fits}
+use Rattle.syntax.specs.FormLaws.{no-answer, answered}
+use Rattle.setup.specs.declared.Person.{Person as Slot}
+use Rattle.setup.specs.Setup.{Person, Setup, accounts, person, is-setup}
+use Rattle.setup.specs.Reader.{slot-value}
+use Rattle.setup.specs.ReaderLaws.{no-slot}
+use Rattle.tree.specs.declared.Child.{Child}
+use Rattle.tree.specs.declared.Child.the-variants.{Found, Missing}
+use Rattle.tree.specs.Forest.{Forest, nil, Place, insert, put, leaf, size}
+use Rattle.tree.specs.Node.{Node}
+use Rattle.tree.specs.Rows.{rows}
+use Rattle.tree.specs.RowLaws.{length-rows}
+use Rattle.tree.specs.RowContext.{index-of, around}
+use Rattle.tree.specs.RowEdits.{lesser, before, after, length-before, put-rows}
+use Rattle.tree.specs.RowScan.{index-bound}
+use Rattle.tree.specs.RowAt.{row-count, all-rows, child-at}
+use Rattle.tree.specs.RowAtLaws.{row-count-of-tree}
+use Rattle.tree.specs.TreeAtLaws.{tree-sized, no-child-at-place}
+use Rattle.tree.specs.PlaceLaws.{nodes-below, put-here, put-below, update-root}
+use Rattle.tree.specs.UpdateLaws.{at-top}
+use Rattle.tree.specs.Encoding.{row-bytes, encode-tree}
+use Rattle.edits.specs.declared.Fresh.{Fresh}
+use Rattle.edits.specs.Changes.{rows-put, fresh-node}
+use Rattle.edits.specs.EditLaws.{child-law}
+use Rattle.store.specs.Initial.{directory-of, top-node, rep-node, home-node, home-name, with-home, homes, topped, initial-tree}
+use Rattle.store.specs.InitialRows.{slot-in-range, Opens}
+use Rattle.store.specs.InitialLaws.{Primaries, setup-primaries, top-alone, rep-open, rep-alone, home-open, initial-by-persons}
+
+-- a name may be given in other words
+pub opens-named : {b : List ℕ} {n m : Name} {t : Place Node} → n ≡ m → Opens b m t → Opens b n t
+opens-named e h = rw e h
+
+-- ---- a directory put in
+
+-- no row stands before that of `/`
+index-top : (t : Place Node) → index-of t root ≡ 0
+index-top t = omega (arith, index-bound (around t root t (at-top t)), length-rows t, nodes-below t)
+
+-- a child put in below `/`
+put-topped : (n : Name) (e : Place Node) (F : Forest Node) → put n e (topped F) ≡ topped (insert n e F)
+put-topped n e F = λ i. record { here = put-here n e (topped F) i; below = put-below n e (topped F) i }
+
+-- where the row of a child belongs
+spot : Name → Place Node → ℕ
+spot n t = suc (size (lesser n (t .below)))
+
+spot-is : (n : Name) (t : Place Node) → suc (index-of t root + size (lesser n (t .below))) ≡ spot n t
+unfolding spot
+spot-is n t = omega (arith, index-top t)
+
+module _ (b : List ℕ) (n : Name) (t : Place Node) (h : Opens b n t) where
+  -- how many bytes and rows there are
+  pub opens-sized : (length b ≡ 59394) × (0 < row-count b) × (row-count b < 256)
+  opens-sized =
+      let s = tree-sized t (h .ready .sound) in
+      rw (h .encoded) (s .wide, s .some-rows, omega (arith, row-count-of-tree t (h .ready .sound), length-rows t, h .ready .room))
+
+  -- the name fits its field
+  pub opens-short : length n ≤ 8
+  opens-short = name-fits n (h .ready .named) .0
+
+  missing-there : child-at (all-rows b) 0 n ≡ Missing (spot n t)
+  missing-there =
+      let e = no-child-at-place t (h .ready .sound) root t (at-top t) n (h .ready .free) in
+      rw (h .encoded) (ap (λ (i : ℕ). child-at (all-rows (encode-tree t)) i n) (sym (index-top t)) ∙ e ∙ ap {B = Child} Missing (spot-is n t))
+
+  -- the search does not find it
+  pub not-found : (j : ℕ) → Found j ≡ child-at (all-rows b) 0 n → ⊥
+  not-found j e = let q : Found j ≡ Missing (spot n t) = e ∙ missing-there in contra {b = true} refl (cc)
+
+  module _ (j : ℕ) (found : Missing j ≡ child-at (all-rows b) 0 n) where
+    found-spot : j ≡ spot n t
+    found-spot = let q : Missing j ≡ Missing (spot n t) = found ∙ missing-there in cc
+
+    -- where it says that the row belongs is one of the rows or behind the last
+    pub spot-within : j ≤ row-count b
+    spot-within =
+        let c = around t root t (at-top t) in
+        let xs = before c n in
+        let ys = after c n in
+        let l : length (rows t) ≡ length (xs ++ ys) = ap length (put-rows c n (h .ready .free) .0) in
+        let q : row-count b ≡ length (rows t) = rw (h .encoded) (row-count-of-tree t (h .ready .sound)) in
+        omega (arith, found-spot, spot-is n t, length-before c n, length-append xs ys)
+
+    -- and the row put in there is the directory put in
+    pub directory-put : (f : Fresh) → rows-put b j 1 (row-bytes (record { depth = 1; name = n; here = fresh-node f })) ≡ encode-tree (put n (leaf (fresh-node f)) t)
+    unfolding depth
+    directory-put f =
+        let r = row-bytes (record { depth = 1; name = n; here = fresh-node f }) in
+        ap (λ (i : ℕ). rows-put b i 1 r) (found-spot ∙ sym (spot-is n t))
+        ∙ ap (λ (l : List ℕ). rows-put l (suc (index-of t root + size (lesser n (t .below)))) 1 r) (h .encoded)
+        ∙ child-law t root t n (h .ready .sound) (at-top t) f (h .ready .free) (h .ready .named) (h .ready .room)
+        ∙ ap encode-tree (update-root (put n (leaf (fresh-node f))) t)
+
+-- ---- `/` and `/rep`
+
+-- `/` alone is open to `/rep`
+pub planted-opens : (b : List ℕ) → b ≡ encode-tree (leaf top-node) → Opens b rep (topped nil)
+planted-opens b e = record { encoded = e ∙ ap encode-tree top-alone; ready = rep-open }
+
+-- and with it there are the homes of no account
+pub rep-put : (u : Setup) → put rep (leaf rep-node) (topped nil) ≡ topped (homes u 0)
+unfolding homes
+rep-put u = put-topped rep (leaf rep-node) nil ∙ ap topped rep-alone
+
+-- ---- homes
+
+-- the name of a home is `u` and one digit
+pub short-name : (v : Uid) → v .0 < 10 → 117 ∷ (48 + v .0) ∷ [] ≡ home-name v
+unfolding home-name bytes decimal-text digits-before
+short-name v h = let m : v .0 % 10 ≡ v .0 = omega arith in rw (lt-ltb (v .0) 10 h, m)
+
+-- or two, of which the first is 1
+two-digits : (fuel n : ℕ) → 10 ≤ n → n < 16 → digits-before (suc (suc fuel)) n [] ≡ 49 ∷ (48 + (n - 10)) ∷ []
+unfolding digits-before
+two-digits fuel n h k =
+    let d : n / 10 ≡ 1 = omega arith in
+    let m : n % 10 ≡ n - 10 = omega arith in
+    rw (le-ltb n 10 h, d, m)
+
+pub long-name : (v : Uid) → 10 ≤ v .0 → v .0 < 16 → 117 ∷ 49 ∷ (48 + (v .0 - 10)) ∷ [] ≡ home-name v
+unfolding home-name bytes decimal-text
+long-name v h k =
+    let e : v .0 ≡ suc (v .0 - 1) = omega arith in
+    ap (λ (t : List ℕ). 117 ∷ t) (sym (ap (λ (fuel : ℕ). digits-before (suc fuel) (v .0) []) e ∙ two-digits (v .0 - 1) (v .0) h k))
+
+module _ (v : Uid) (p : Slot) (F : Forest Node) where
+  -- an account without a person gets no home
+  pub no-home : p .primary .0 ≡ 0 → with-home v (slot-value p) F ≡ F
+  unfolding with-home slot-value
+  no-home e = rw (eq-eqb (p .primary .0) 0 e)
+
+  -- a person does
+  pub home-put : (n : Name) → n ≡ home-name v → (p .primary .0 ≡ 0 → ⊥)
+      → put n (leaf (directory-of v (p .primary) (octal 0 7 5 5))) (topped F) ≡ topped (with-home v (slot-value p) F)
+  unfolding with-home slot-value home-node
+  home-put n e h =
+      ap (λ (m : Name). put m (leaf (directory-of v (p .primary) (octal 0 7 5 5))) (topped F)) e
+      ∙ put-topped (home-name v) (leaf (directory-of v (p .primary) (octal 0 7 5 5))) F
+      ∙ rw (ne-eqb (p .primary .0) 0 h)
+
+-- ---- the accounts one after another
+
+-- a list passes a test where each of its elements does
+every-at : {A : Type 0} (f : A → Bool) (l : List A) (d : A) → ((i : ℕ) → f (getD l i d) ≡ true) → every f l ≡ true
+unfolding every
+every-at f [] d h = refl
+every-at f (a ∷ l) d h = rw (h 0) (every-at f l d (λ i. h (suc i)))
+
+-- a slot's person has its primary group
+slot-primary : (s : Slot) (p : Person) → slot-value s ≡ some p → s .primary ≡ p .primary
+unfolding slot-value
+slot-primary s p e = case (eqb (s .primary .0) 0)
+    (λ t. let q : none ≡ some p = rw t at e in no-answer q)
+    (λ t. let q : some (record { primary = s .primary; further = s .further }) ≡ some p = rw t at e in sym (ap (λ (x : Person). x .primary) (answered q)))
+
+-- a setup of persons alone
+abbrev pub with-persons : List (Option Person) → Setup
+with-persons l = record { persons = l; pairs = []; grants = [] }
+
+module _ (ps : List Slot) where
+  -- the setup of these slots
+  abbrev of-slots : Setup
+  of-slots = with-persons (map slot-value ps)
+
+  slot-person : (u : Setup) (v : Uid) → u .persons ≡ map slot-value ps → person u v ≡ slot-value (getD ps (v .0) no-slot)
+  unfolding person slot-value
+  slot-person u v e = ap (λ (l : List (Option Person)). getD l (v .0) none) e ∙ List·getD-map slot-value ps (v .0) no-slot
+
+  -- with the home of account k there are the homes of one account more
+  pub turn-home : (k : ℕ) → topped (with-home (record { 0 = k }) (slot-value (getD ps k no-slot)) (homes of-slots k)) ≡ topped (homes of-slots (k + 1))
+  unfolding homes
+  turn-home k =
+      let v : Uid = record { 0 = k } in
+      ap (λ (p : Option Person). topped (with-home v p (homes of-slots k))) (sym (slot-person of-slots v refl))
+      ∙ ap (λ (m : ℕ). topped (homes of-slots m)) (sym (add-one k))
+
+  -- the slots of a setup in range are in range
+  pub slots-of-setup : (u : Setup) → is-setup u ≡ true → u .persons ≡ map slot-value ps → every slot-in-range ps ≡ true
+  unfolding slot-in-range slot-value
+  slots-of-setup u g e = every-at slot-in-range ps no-slot λ i.
+      let s = getD ps i no-slot in
+      case (eqb (s .primary .0) 0)
+      (λ t. lt-ltb (s .primary .0) 16 (omega (arith, eqb-true (s .primary .0) 0 t)))
+      (λ t. lt-ltb (s .primary .0) 16 (setup-primaries u g (record { 0 = i }) (record { primary = s .primary; further = s .further }) (slot-person u (record { 0 = i }) e ∙ rw t)))
+
+  module _ (fit : every slot-in-range ps ≡ true) where
+    slots-primaries : Primaries of-slots
+    unfolding slot-in-range
+    slots-primaries v p e =
+        let s = getD ps (v .0) no-slot in
+        let q : s .primary ≡ p .primary = slot-primary s p (sym (slot-person of-slots v refl) ∙ e) in
+        rw q at (ltb-true (s .primary .0) 16 (every-getD slot-in-range ps (v .0) no-slot fit refl))
+
+    -- the home of account k may be put in
+    pub turn-opens : (b : List ℕ) (k : ℕ) → k < 16 → b ≡ encode-tree (topped (homes of-slots k)) → Opens b (home-name (record { 0 = k })) (topped (homes of-slots k))
+    turn-opens b k h e = record { encoded = e; ready = home-open of-slots slots-primaries k h }
+
+-- behind the last account the tree is the initial tree of every setup with the same persons
+pub turned-all : (u v : Setup) (b : List ℕ) (k : ℕ) → k ≡ 16 → b ≡ encode-tree (topped (homes u k)) → v .persons ≡ u .persons → b ≡ encode-tree (initial-tree v)
+unfolding initial-tree accounts
+turned-all u v b k q e s = e ∙ ap (λ (m : ℕ). encode-tree (topped (homes u m))) q ∙ ap encode-tree (initial-by-persons u v (sym s))

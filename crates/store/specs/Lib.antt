@@ -1,0 +1,13 @@
+pub mod State
+pub mod StateLaws
+pub mod PersonLaws
+pub mod Initial
+pub mod InitialRows
+pub mod InitialLaws
+pub mod InitialRowsLaws
+pub mod StoreBytes
+pub mod HeaderLaws
+pub mod StoreBytesLaws
+pub mod SoundStore
+pub mod SoundStoreLaws
+pub mod Compute

@@ -1,0 +1,23 @@
+-- A state is well-formed just if its parts are.
+use mathlib.Core.Path.{_≡_}
+use mathlib.Core.Bool.{true, _&&_}
+use lib.Dec.{eqb}
+use lib.ListN.{length}
+use borrow.Author.Tests.{eqb-true, eq-eqb}
+use Rattle.buffers.specs.Cases.{and-both}
+use Rattle.setup.specs.Setup.{Setup, accounts, is-setup}
+use Rattle.tree.specs.WellFormed.{is-tree}
+use Rattle.store.specs.State.{Store, State, well-formed}
+
+-- a well-formed state's setup, sessions and tree
+pub parts : (s : State) → well-formed s ≡ true → (is-setup (s .setup) ≡ true) × ((length (s .store .sessions) ≡ 16) × (is-tree (s .store .tree) ≡ true))
+unfolding well-formed accounts
+parts s h =
+    let i = and-both (is-setup (s .setup)) (eqb (length (s .store .sessions)) 16 && is-tree (s .store .tree)) h in
+    let j = and-both (eqb (length (s .store .sessions)) 16) (is-tree (s .store .tree)) (i .1) in
+    (i .0, (eqb-true (length (s .store .sessions)) 16 (j .0), j .1))
+
+-- a state with its parts well-formed is well-formed
+pub formed : (u : Setup) → is-setup u ≡ true → (s : Store) → length (s .sessions) ≡ 16 → is-tree (s .tree) ≡ true → well-formed (record { setup = u; store = s }) ≡ true
+unfolding well-formed accounts
+formed u g s n t = rw (g, eq-eqb (length (s .sessions)) 16 n) t

@@ -1,0 +1,92 @@
+// The initial tree: `/`, `/rep`, and a home for each person.
+ghost use mathlib.Core.Path.{_≡_};
+ghost use mathlib.Core.Bool.{true};
+ghost use mathlib.Core.List.{map};
+ghost use Prim.Native.Nat.{_<_};
+ghost use lib.ListN.{length};
+ghost use Rattle.buffers.specs.Text.{every};
+ghost use Rattle.setup.specs.Setup.{Setup};
+ghost use Rattle.setup.specs.Reader.{slot-value};
+ghost use Rattle.tree.specs.Forest.{Forest, Place};
+ghost use Rattle.tree.specs.Node.{Node};
+ghost use Rattle.tree.specs.Encoding.{encode-tree};
+ghost use Rattle.store.specs.Initial.{directory-of, home-name, homes, topped};
+ghost use Rattle.store.specs.InitialRows.{slot-in-range, Opens, Node-put, Home-put, Initial-written};
+use accounts::Gid;
+use accounts::Uid;
+use edits::Fresh;
+use edits::plant;
+use edits::put_child;
+use setup::Person;
+use tree::Child;
+use tree::Kind;
+use tree::find_child;
+
+// The mode of a home, 0755.
+const HOME: u16 = 0o755;
+
+// Puts a directory in below `/`, where its name is not used yet.
+fn put_directory(tree: &mut [u8], name: &[u8], owner: Uid, group: Gid, mode: u16)
+    requires { ⌜ ((t : Place Node) × Opens (now tree) (now name) t) ⌝ }
+    ensures { λ _. ⌜ Node-put (now (tree .entry)) (now (name .entry)) (directory-of owner group mode) (now (tree .exit)) ⌝ }
+{
+    let node = Fresh {
+        kind: Kind::Directory,
+        owner,
+        group,
+        mode,
+        revision: 0,
+    };
+    match find_child(tree, 0, name) {
+        Child::Found(_) => {}
+        Child::Missing(j) => put_child(tree, j, 1, name, node),
+    }
+}
+
+// Writes `/` and `/rep`, whatever stood there.
+fn write_top(tree: &mut [u8])
+    requires { ⌜ length (now tree) ≡ 59394 ⌝ }
+    ensures { λ _. ⌜ ((u : Setup) → now (tree .exit) ≡ encode-tree (topped (homes u 0))) ⌝ }
+{
+    let top = Fresh {
+        kind: Kind::Directory,
+        owner: Uid(0),
+        group: Gid(0),
+        mode: 0o755,
+        revision: 0,
+    };
+    plant(tree, top);
+    put_directory(tree, b"rep", Uid(16), Gid(24), 0o750);
+}
+
+// Puts the home of an account in, if it is a person's.
+fn put_home(tree: &mut [u8], uid: Uid, person: Person)
+    requires { ⌜ (uid .0 < 16) × ((f : Forest Node) × Opens (now tree) (home-name uid) (topped f)) ⌝ }
+    ensures { λ _. ⌜ Home-put (now (tree .entry)) uid (slot-value person) (now (tree .exit)) ⌝ }
+{
+    let group = person.primary;
+    if group.0 == 0 {
+        return;
+    }
+    if uid.0 < 10 {
+        let name = [b'u', b'0' + uid.0];
+        put_directory(tree, &name, uid, group, HOME);
+        return;
+    }
+    let name = [b'u', b'1', b'0' + (uid.0 - 10)];
+    put_directory(tree, &name, uid, group, HOME);
+}
+
+// Writes the initial tree: `/`, `/rep`, and a home for each person, whatever stood there.
+pub fn write_initial(tree: &mut [u8], persons: [Person; 16])
+    requires { ⌜ (length (now tree) ≡ 59394) × (every slot-in-range persons ≡ true) ⌝ }
+    ensures { λ _. ⌜ Initial-written (map slot-value persons) (now (tree .exit)) ⌝ }
+{
+    write_top(tree);
+    let mut k: u8 = 0;
+    while k < 16 {
+        let person = persons[k as usize];
+        put_home(tree, Uid(k), person);
+        k += 1;
+    }
+}
