@@ -10,18 +10,18 @@ use Rattle.accounts.specs.declared.Gid.{Gid}
 use Rattle.syntax.specs.Path.{Name, depth, last}
 use Rattle.syntax.specs.PathLaws.{entry-text-fits}
 use Rattle.syntax.specs.FieldLaws.{content-fits}
+use Rattle.tree.specs.Layout.{row-width, tree-width, row-start, tag-width}
 use Rattle.tree.specs.Forest.{size}
 use Rattle.tree.specs.Node.{Node}
 use Rattle.tree.specs.WellFormedLaws.{Place-parts, place-parts, place-below, tree-parts}
 use Rattle.tree.specs.Rows.{Row}
 use Rattle.tree.specs.RowContext.{place-rows, index-of, around, length-place-rows}
 use Rattle.tree.specs.RowScan.{rows-from-place, index-bound}
-use Rattle.tree.specs.Encoding.{row-width, row-bytes, encode-tree}
+use Rattle.tree.specs.Encoding.{row-bytes, encode-tree}
 use Rattle.tree.specs.RowBytesLaws.{node-parts}
 use Rattle.tree.specs.RowAt.{row-count, row-at, all-rows}
 use Rattle.tree.specs.RowAtLaws.{all-rows-of-tree, row-count-of-tree}
 use Rattle.tree.specs.TreeAtLaws.{Sized, tree-sized, index-in-count}
-use Rattle.edits.specs.Changes.{row-start}
 use Rattle.copying.specs.declared.Copier.{Copier}
 use Rattle.copying.specs.Copying.{copy}
 use Rattle.copying.specs.CopyRows.{Stands, read-by, tagged-row, children, Job, job-rows, Written, Entry-job, entry-copy}
@@ -55,7 +55,7 @@ module _ (w : Copier) (b : List ℕ) (at : ℕ) (group : Gid) (path : List ℕ) 
   entry-content = content-fits (j .place .here .content) (node-parts (j .place .here) (entry-parts .own) .1) .0
 
   -- what the code asks for
-  pub entry-asks : (length b ≡ 59394) × ((row-count b ≤ 256) × ((at < row-count b) × ((length (row-at b at .here .content) ≤ 80) × (length path ≤ 54))))
+  pub entry-asks : (length b ≡ tree-width) × ((row-count b ≤ 256) × ((at < row-count b) × ((length (row-at b at .here .content) ≤ 80) × (length path ≤ tag-width))))
   entry-asks = (
     entry-sized .wide,
     (
@@ -67,7 +67,7 @@ module _ (w : Copier) (b : List ℕ) (at : ℕ) (group : Gid) (path : List ℕ) 
     ),
   )
 
-  module _ (o z : List ℕ) (k : ℕ) (n : Name) (wide : length o ≡ 59394) (low : k < 250) (ln : length n ≤ 8)
+  module _ (o z : List ℕ) (k : ℕ) (n : Name) (wide : length o ≡ tree-width) (low : k < 250) (ln : length n ≤ 8)
       (is : z ≡ paste o (row-start 0) (row-bytes (tagged-row w k n group (j .entry) (row-at b at .here))) row-width) where
     -- what its copy asks for
     entry-fits : Fits w o 0 6 k n group (j .parent) (j .entry) (j .place)
@@ -104,10 +104,10 @@ module _ (w : Copier) (b : List ℕ) (at : ℕ) (group : Gid) (path : List ℕ) 
     -- and the copies of both are the entry's
     pub entry-written : (y : List ℕ) (r : ℕ) → Written z 1 (job-rows w entry-children) r y
         → (r ≡ suc (size (entry-copy j .below))) × (y ≡ paste o 2 (all-bytes row-bytes (place-rows k n (entry-copy j))) (row-width * r))
-    unfolding job-rows entry-children entry-copy row-start row-width
+    unfolding job-rows entry-children entry-copy
     entry-written y r v =
         let d = copy (w .caller) (read-by w) (j .parent) (j .entry) (j .place) in
         let u = place-written w o z 0 6 k n group (j .parent) (j .entry) (j .place) entry-fits row-is y r v in
         let l = length-place-rows k n d in
         let q : r ≡ length (place-rows k n d) = omega (arith, u .next) in
-        (q ∙ l, u .bytes ∙ ap (λ (i : ℕ). paste o 2 (all-bytes row-bytes (place-rows k n d)) (232 * i)) (sym q))
+        (q ∙ l, u .bytes ∙ ap (λ (i : ℕ). paste o 2 (all-bytes row-bytes (place-rows k n d)) (row-width * i)) (sym q))

@@ -12,6 +12,7 @@ use Rattle.accounts.specs.declared.Gid.{Gid}
 use Rattle.syntax.specs.Path.{Name, Entry-path, depth, entry-location, is-entry-path, entry-text}
 use Rattle.syntax.specs.PathLaws.{name-fits, entry-text-fits}
 use Rattle.syntax.specs.FieldLaws.{content-fits}
+use Rattle.tree.specs.Layout.{row-width, tree-width, row-start}
 use Rattle.tree.specs.Forest.{Forest, nil, node, Place, size, larger, height}
 use Rattle.tree.specs.ForestLaws.{height-node}
 use Rattle.tree.specs.Node.{Tag, Node, new-node}
@@ -20,10 +21,9 @@ use Rattle.tree.specs.WellFormed.{is-forest}
 use Rattle.tree.specs.WellFormedLaws.{Forest-parts, place-parts, forest-parts, forest-of-parts, forest-nil, leads-nil}
 use Rattle.tree.specs.Rows.{Row, flatten}
 use Rattle.tree.specs.RowContext.{place-rows}
-use Rattle.tree.specs.Encoding.{row-width, row-bytes}
+use Rattle.tree.specs.Encoding.{row-bytes}
 use Rattle.tree.specs.RowBytesLaws.{node-parts}
 use Rattle.tree.specs.RowAt.{row-count, row-at, all-rows, tag-text-at, end-of-subtree}
-use Rattle.edits.specs.Changes.{row-start}
 use Rattle.copying.specs.declared.Copier.{Copier}
 use Rattle.copying.specs.Copying.{copy-mode, copied, copy}
 use Rattle.copying.specs.CopyRows.{Spelled, child-entry, read-by, copy-rows, tagged-row, copy-of-row, children, alone, Below, Job, job-rows, Written}
@@ -56,7 +56,7 @@ pub record Fits (w : Copier) (o : List ℕ) (to left k : ℕ) (n : Name) (group 
   pub deep : height (d .below) ≤ left
   pub low : k + height (d .below) ≤ 255
   pub room : to + suc (size (d .below)) ≤ 256
-  pub wide : length o ≡ 59394
+  pub wide : length o ≡ tree-width
 
 -- its row is written
 module _ (w : Copier) (o z : List ℕ) (to left k : ℕ) (n : Name) (group : Gid) (parent : Node) (e : Entry-path) (d : Place Node) (f : Fits w o to left k n group parent e d)
@@ -65,18 +65,17 @@ module _ (w : Copier) (o z : List ℕ) (to left k : ℕ) (n : Name) (group : Gid
   tag = record { path = e; revision = d .here .revision }
 
   start-fits : row-start to ≤ length o
-  unfolding row-start row-width
   start-fits = omega (arith, f .wide, f .room)
 
   tag-is : tag-text-at z to ≡ entry-text e
-  unfolding row-width tagged-row
+  unfolding tagged-row
   tag-is = ap (λ (s : List ℕ). tag-text-at s to) is ∙ tag-there o to k n (w .caller .account .uid) group (d .here) (f .name) (f .content) start-fits tag (f .valid)
 
   depth-is : row-at z to .depth ≡ k
-  unfolding row-width tagged-row
+  unfolding tagged-row
   depth-is = ap (λ (s : List ℕ). row-at s to .depth) is ∙ depth-there o to k n (w .caller .account .uid) group (d .here) (f .name) (f .content) start-fits tag (f .valid)
 
-  row-wide : length (row-bytes (tagged-row w k n group e (d .here))) ≡ 232
+  row-wide : length (row-bytes (tagged-row w k n group e (d .here))) ≡ row-width
   unfolding tagged-row
   row-wide = length-copy o to k n (w .caller .account .uid) group (d .here) (f .name) (f .content) start-fits tag (f .valid)
 
@@ -98,7 +97,7 @@ module _ (w : Copier) (o z : List ℕ) (to left k : ℕ) (n : Name) (group : Gid
   -- and with their copies it is the place's
   pub place-written : (y : List ℕ) (r : ℕ) → Written z (to + 1) (copy-rows w (row-at z to .depth) (below-copy .parent) (below-copy .entry) (d .below)) r y
       → Written o to (place-rows k n (copy (w .caller) (read-by w) parent e d)) r y
-  unfolding below-copy row-width
+  unfolding below-copy
   place-written y r v =
       let p = copied (w .caller) (read-by w) parent e (d .here) in
       let row = tagged-row w k n group e (d .here) in
@@ -117,7 +116,7 @@ module _ (w : Copier) (b o : List ℕ) (at above to left : ℕ) (h : at < row-co
   node-row = row-stands b at (j .level) (j .name) (j .place) h (j .stands)
 
   -- what its copy asks for
-  node-place : length o ≡ 59394 → Fits w o to left (suc (row-at o above .depth)) (j .name) (w .caller .primary) (j .below .parent) entry (j .place)
+  node-place : length o ≡ tree-width → Fits w o to left (suc (row-at o above .depth)) (j .name) (w .caller .primary) (j .below .parent) entry (j .place)
   node-place wide =
       let g = j .below in
       let n = j .name in
@@ -146,7 +145,7 @@ module _ (w : Copier) (b o : List ℕ) (at above to left : ℕ) (h : at < row-co
       let q = copy-rows-skipped w (row-at o above .depth) (g .parent) (g .entry) (j .name) (j .place) (ap (λ (r : Row Node). by-modes (w .reader) .readable (r .here)) (sym node-row) ∙ t) in
       written-as o o to to [] _ (sym q) (written-nothing o to)
 
-  module _ (wide : length o ≡ 59394) where
+  module _ (wide : length o ≡ tree-width) where
     -- the entry path of its copy, by the name that is read
     pub node-valid : is-entry-path (child-entry (j .below .entry) (row-at b at .name)) ≡ true
     node-valid = ap (λ (r : Row Node). is-entry-path (child-entry (j .below .entry) (r .name))) node-row ∙ node-place wide .valid
@@ -255,7 +254,7 @@ module _ (w : Copier) (b o : List ℕ) (at above to left : ℕ) (j : Job childre
     left-over = omega arith;
   }
 
-  module _ (z : List ℕ) (i next : ℕ) (t : Turn z i next) (wide : length o ≡ 59394) (order : above < to) where
+  module _ (z : List ℕ) (i next : ℕ) (t : Turn z i next) (wide : length o ≡ tree-width) (order : above < to) where
     -- behind the last sibling all is written
     pub turn-end : suc (at + size siblings) ≤ i → Written o to (job-rows w j) next z
     unfolding job-rows size

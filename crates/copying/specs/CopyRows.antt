@@ -12,15 +12,15 @@ use Rattle.accounts.specs.declared.Uid.{Uid}
 use Rattle.accounts.specs.declared.Gid.{Gid}
 use Rattle.syntax.specs.Number.{set-gid}
 use Rattle.syntax.specs.Path.{Name, Path, Entry-path, depth, entry-location, is-entry-path, entry-text}
+use Rattle.tree.specs.Layout.{row-width, row-start}
 use Rattle.tree.specs.Forest.{Forest, nil, node, Place, place-at, size, height}
 use Rattle.tree.specs.Node.{Node, set-tag, new-node}
 use Rattle.tree.specs.Walk.{by-modes}
 use Rattle.tree.specs.WellFormed.{is-forest, is-tree}
 use Rattle.tree.specs.Rows.{Row, flatten}
 use Rattle.tree.specs.RowContext.{place-rows, ends, index-of}
-use Rattle.tree.specs.Encoding.{row-width, row-bytes, encode-tree}
+use Rattle.tree.specs.Encoding.{row-bytes, encode-tree}
 use Rattle.tree.specs.RowAt.{row-at, all-rows, tag-text-at}
-use Rattle.edits.specs.Changes.{row-start}
 use Rattle.copying.specs.declared.Copier.{Copier}
 use Rattle.copying.specs.Copying.{below-rep, Source, nodes-by, copy-mode, copy-children, copy}
 

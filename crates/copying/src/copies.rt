@@ -4,11 +4,11 @@ ghost use Prim.Native.Nat.{ℕ, suc, _+_, _*_, _≤_, _<_};
 ghost use lib.ListN.{length};
 ghost use lib.Seq.{paste};
 ghost use Rattle.buffers.specs.Fields.{all-bytes};
+ghost use Rattle.tree.specs.Layout.{row-width, tree-width, row-start};
 ghost use Rattle.tree.specs.Forest.{size};
-ghost use Rattle.tree.specs.Encoding.{row-width, row-bytes};
 ghost use Rattle.tree.specs.RowContext.{place-rows};
+ghost use Rattle.tree.specs.Encoding.{row-bytes};
 ghost use Rattle.tree.specs.RowAt.{row-count, row-at, tag-text-at};
-ghost use Rattle.edits.specs.Changes.{row-start};
 ghost use Rattle.copying.specs.Copying.{copy-mode};
 ghost use Rattle.copying.specs.CopyRows.{untagged, copy-of-row, Spelled, children, alone, Job, job-rows, Written, Entry-job, entry-copy};
 use crate::Copier;
@@ -19,7 +19,9 @@ use edits::set_content;
 use edits::set_tag;
 use edits::set_tag_below;
 use edits::write_row;
+use tree::FIRST;
 use tree::Kind;
+use tree::ROW;
 use tree::content_at;
 use tree::depth_at;
 use tree::kind_at;
@@ -27,9 +29,6 @@ use tree::name_at;
 use tree::revision_at;
 use tree::subtree_end;
 use walks::readable_at;
-
-// The bytes of a row.
-const ROW: usize = 232;
 
 // The copy of a file is 0600, of a directory 0700.
 fn copy_mode(kind: Kind) -> u16
@@ -52,7 +51,7 @@ fn copy_untagged(
     depth: u8,
     name: &[u8],
 )
-    requires { ⌜ (length (now tree) ≡ 59394) × ((at < 256) × ((length (now out) ≡ 59394) × ((to < 256) × ((length (now name) ≤ 8) × (length (row-at (now tree) at .here .content) ≤ 80))))) ⌝ }
+    requires { ⌜ (length (now tree) ≡ tree-width) × ((at < 256) × ((length (now out) ≡ tree-width) × ((to < 256) × ((length (now name) ≤ 8) × (length (row-at (now tree) at .here .content) ≤ 80))))) ⌝ }
     ensures { λ _. ⌜ (now (out .exit) ≡ paste (now (out .entry)) (row-start to) (row-bytes (record { depth = depth; name = now (name .entry); here = untagged owner group (row-at (now (tree .entry)) at .here) })) row-width)
         × ((i : ℕ) → i < to → tag-text-at (now (out .exit)) i ≡ tag-text-at (now (out .entry)) i) ⌝ }
 {
@@ -65,13 +64,13 @@ fn copy_untagged(
         mode: mode,
         revision: 0,
     };
-    write_row(out, 2 + ROW * to, depth, name, node);
+    write_row(out, FIRST + ROW * to, depth, name, node);
     set_content(out, to, content_at(tree, at));
 }
 
 // Writes the copy of the node at row `at` as row `to`, a child of the copy at row `above`.
 fn copy_row(tree: &[u8], at: usize, who: Copier, out: &mut [u8], above: usize, to: usize)
-    requires { ⌜ (length (now tree) ≡ 59394) × ((at < 256) × ((length (now out) ≡ 59394) × ((above < to) × ((to < 256) × ((row-at (now out) above .depth < 255)
+    requires { ⌜ (length (now tree) ≡ tree-width) × ((at < 256) × ((length (now out) ≡ tree-width) × ((above < to) × ((to < 256) × ((row-at (now out) above .depth < 255)
         × ((length (tag-text-at (now out) above) + length (row-at (now tree) at .name) < 54) × ((length (row-at (now tree) at .here .content) ≤ 80) × Spelled (now out) above (row-at (now tree) at .name)))))))) ⌝ }
     ensures { λ _. ⌜ ((g : Spelled (now (out .entry)) above (row-at (now (tree .entry)) at .name))
         → now (out .exit) ≡ paste (now (out .entry)) (row-start to) (row-bytes (copy-of-row who (row-at (now (out .entry)) above .depth) (g .entry) (row-at (now (tree .entry)) at))) row-width) ⌝ }
@@ -96,7 +95,7 @@ fn copy_node(
     above: usize,
     to: usize,
 ) -> usize
-    requires { ⌜ (length (now tree) ≡ 59394) × ((row-count (now tree) ≤ 256) × ((at < row-count (now tree)) × ((length (now out) ≡ 59394) × ((above < to) × Job alone (now tree) (now out) at above to (suc left))))) ⌝ }
+    requires { ⌜ (length (now tree) ≡ tree-width) × ((row-count (now tree) ≤ 256) × ((at < row-count (now tree)) × ((length (now out) ≡ tree-width) × ((above < to) × Job alone (now tree) (now out) at above to (suc left))))) ⌝ }
     ensures { λ r. ⌜ ((j : Job alone (now (tree .entry)) (now (out .entry)) at above to (suc left)) → Written (now (out .entry)) to (job-rows who j) r (now (out .exit))) ⌝ }
 {
     let reader = who.reader;
@@ -117,7 +116,7 @@ fn copy_children(
     above: usize,
     to: usize,
 ) -> usize
-    requires { ⌜ (length (now tree) ≡ 59394) × ((row-count (now tree) ≤ 256) × ((at < row-count (now tree)) × ((length (now out) ≡ 59394) × ((above < to) × Job children (now tree) (now out) at above to left)))) ⌝ }
+    requires { ⌜ (length (now tree) ≡ tree-width) × ((row-count (now tree) ≤ 256) × ((at < row-count (now tree)) × ((length (now out) ≡ tree-width) × ((above < to) × Job children (now tree) (now out) at above to left)))) ⌝ }
     ensures { λ r. ⌜ ((j : Job children (now (tree .entry)) (now (out .entry)) at above to left) → Written (now (out .entry)) to (job-rows who j) r (now (out .exit))) ⌝ }
 {
     if left == 0 {
@@ -144,7 +143,7 @@ pub fn copy_entry(
     path: &[u8],
     out: &mut [u8],
 ) -> usize
-    requires { ⌜ (length (now out) ≡ 59394) × ((depth < 250) × ((length (now name) ≤ 8) × Entry-job who (now tree) at group (now path))) ⌝ }
+    requires { ⌜ (length (now out) ≡ tree-width) × ((depth < 250) × ((length (now name) ≤ 8) × Entry-job who (now tree) at group (now path))) ⌝ }
     ensures { λ r. ⌜ ((j : Entry-job who (now (tree .entry)) at group (now (path .entry))) → (r ≡ suc (size (entry-copy j .below)))
         × (now (out .exit) ≡ paste (now (out .entry)) 2 (all-bytes row-bytes (place-rows depth (now (name .entry)) (entry-copy j))) (row-width * r))) ⌝ }
 {

@@ -5,14 +5,11 @@ use Prim.Native.Nat.{ℕ, _+_, _-_, _*_}
 use lib.ListN.{length, take, drop, replicate}
 use lib.Seq.{paste}
 use Rattle.buffers.specs.Fields.{two-bytes}
+use Rattle.tree.specs.Layout.{row-width, row-start}
 use Rattle.tree.specs.Node.{Node}
-use Rattle.tree.specs.Encoding.{row-width, kind-byte}
+use Rattle.tree.specs.Encoding.{kind-byte}
 use Rattle.tree.specs.RowAt.{row-count}
 use Rattle.edits.specs.declared.Fresh.{Fresh}
-
--- where the row at an index begins, behind the two bytes of the count
-unfoldable pub row-start : ℕ → ℕ
-row-start i = 2 + row-width * i
 
 -- n rows, given by their bytes, put in before the row at index i: those from there on move up, the bytes behind the last stay
 unfoldable pub rows-put : List ℕ → ℕ → ℕ → List ℕ → List ℕ

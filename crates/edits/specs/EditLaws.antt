@@ -21,6 +21,7 @@ use Rattle.accounts.specs.declared.Gid.{Gid}
 use Rattle.syntax.specs.Path.{Name, Path, _▹_, last, depth, is-name, Entry-path, is-entry-path, entry-text}
 use Rattle.syntax.specs.PathLaws.{name-fits, entry-text-fits}
 use Rattle.syntax.specs.FieldLaws.{content-fits}
+use Rattle.tree.specs.Layout.{row-width, row-start, owner-offset, group-offset, mode-offset, revision-offset, name-width, tag-offset, tag-width, tag-revision-offset, content-offset, content-width}
 use Rattle.tree.specs.Forest.{Place, get, update, place-at, alter, put, drop, leaf, size}
 use Rattle.tree.specs.Node.{Tag, Node, set-owner, set-group, set-mode, set-revision, set-tag, set-content}
 use Rattle.tree.specs.Rows.{Row, flatten, rows}
@@ -29,7 +30,7 @@ use Rattle.tree.specs.RowContext.{place-rows, index-of, length-place-rows, arou
 use Rattle.tree.specs.RowEdits.{lesser, tree-sorted, alter-rows, before, after, length-before, spot-index, put-rows, drop-rows}
 use Rattle.tree.specs.WellFormed.{most-nodes, nodes, is-tag, is-place, is-tree}
 use Rattle.tree.specs.WellFormedLaws.{place-parts}
-use Rattle.tree.specs.Encoding.{row-width, kind-byte, tag-bytes, row-bytes, encode-rows, encode-tree}
+use Rattle.tree.specs.Encoding.{kind-byte, tag-bytes, row-bytes, encode-rows, encode-tree}
 use Rattle.tree.specs.RowBytesLaws.{length-tag-bytes, node-parts}
 use Rattle.tree.specs.EncodingLaws.{fits, fits-parts, fits-of, forest-fits, tree-fits, length-fitting}
 use Rattle.edits.specs.declared.Fresh.{Fresh}
@@ -101,10 +102,10 @@ module _ (t : Place Node) (p : Path) (d : Place Node) (n : Name) (h : is-tree t 
   pub child-law : (f : Fresh) → get n (d .below) ≡ none → is-name n ≡ true → nodes t < 256
       → rows-put (encode-tree t) (suc (index-of t p + size (lesser n (d .below)))) 1 (row-bytes (record { depth = suc (depth p); name = n; here = fresh-node f }))
       ≡ encode-tree (update p (put n (leaf (fresh-node f))) t)
-  unfolding fresh-row leaf size place-rows flatten all-bytes row-width
+  unfolding fresh-row leaf size place-rows flatten all-bytes
   child-law f g a few =
       let r = row-bytes (fresh-row (suc (depth p)) n f) in
-      let l : length r ≡ 232 = length-fresh (suc (depth p)) n f (name-fits n a .0) in
+      let l : length r ≡ row-width = length-fresh (suc (depth p)) n f (name-fits n a .0) in
       let s : r ≡ (r ++ []) ++ [] = sym (append-nil (r ++ []) ∙ append-nil r) in
       ap (rows-put (encode-tree t) (suc (index-of t p + size (lesser n (d .below)))) 1) s
       ∙ put-wide (leaf (fresh-node f)) [] g (ap length (append-nil r) ∙ l) (omega arith)
@@ -143,14 +144,14 @@ module _ (t : Place Node) (p : Path) (d : Place Node) (h : is-tree t ≡ true) (
       and-both (every fits ms) (every fits (c .post)) (sym (every-append fits ms (c .post)) ∙ f .1) .0
 
   -- and their bytes stand from its index on
-  pub place-law : take (232 * suc (size (d .below))) (L.drop (2 + 232 * index-of t p) (encode-tree t)) ≡ all-bytes row-bytes (place-rows (depth p) (last p) d)
+  pub place-law : take (row-width * suc (size (d .below))) (L.drop (row-start (index-of t p)) (encode-tree t)) ≡ all-bytes row-bytes (place-rows (depth p) (last p) d)
   place-law =
       let c = around t p d there in
       let ms = place-rows (depth p) (last p) d in
       let f = cut-fits t h (c .pre) (ms ++ c .post) (c .was) in
-      ap (λ (b : List ℕ). take (232 * suc (size (d .below))) (L.drop (2 + 232 * index-of t p) b)) (encode-tree-rows t ∙ ap encode-rows (c .was))
-      ∙ ap (λ (i : ℕ). take (232 * suc (size (d .below))) (L.drop (2 + 232 * i) (encode-rows (c .pre ++ (ms ++ c .post))))) (sym (c .index))
-      ∙ ap (λ (k : ℕ). take (232 * k) (L.drop (2 + 232 * length (c .pre)) (encode-rows (c .pre ++ (ms ++ c .post))))) (sym (length-place-rows (depth p) (last p) d))
+      ap (λ (b : List ℕ). take (row-width * suc (size (d .below))) (L.drop (row-start (index-of t p)) b)) (encode-tree-rows t ∙ ap encode-rows (c .was))
+      ∙ ap (λ (i : ℕ). take (row-width * suc (size (d .below))) (L.drop (row-start i) (encode-rows (c .pre ++ (ms ++ c .post))))) (sym (c .index))
+      ∙ ap (λ (k : ℕ). take (row-width * k) (L.drop (row-start (length (c .pre))) (encode-rows (c .pre ++ (ms ++ c .post))))) (sym (length-place-rows (depth p) (last p) d))
       ∙ table-part (c .pre) ms (c .post) (fitting-wide (c .pre) (f .0)) (fitting-wide ms place-fits)
 
 -- ---- a node changed
@@ -194,25 +195,25 @@ module _ (t : Place Node) (p : Path) (d : Place Node) (h : is-tree t ≡ true) (
         ∙ table-field-put (c .pre) rest P Q (fitting-wide (c .pre) (f .0)) k l (row-there p (d .here)) old was (row-there p (g (d .here))) new q is
         ∙ sym (encode-tree-rows (update p (alter g) t) ∙ ap encode-rows (e .1))
 
-  pub owner-law : (u : Uid) → field-put (encode-tree t) (index-of t p) 2 (u .0 ∷ []) ≡ encode-tree (update p (alter (set-owner u)) t)
+  pub owner-law : (u : Uid) → field-put (encode-tree t) (index-of t p) owner-offset (u .0 ∷ []) ≡ encode-tree (update p (alter (set-owner u)) t)
   unfolding row-bytes set-owner
   owner-law u =
       let x = d .here in
       change-law 2 (depth p ∷ kind-byte (x .kind) ∷ []) (x .owner .0 ∷ []) _ refl refl (set-owner u) (u .0 ∷ []) refl refl
 
-  pub group-law : (g : Gid) → field-put (encode-tree t) (index-of t p) 3 (g .0 ∷ []) ≡ encode-tree (update p (alter (set-group g)) t)
+  pub group-law : (g : Gid) → field-put (encode-tree t) (index-of t p) group-offset (g .0 ∷ []) ≡ encode-tree (update p (alter (set-group g)) t)
   unfolding row-bytes set-group
   group-law g =
       let x = d .here in
       change-law 3 (depth p ∷ kind-byte (x .kind) ∷ x .owner .0 ∷ []) (x .group .0 ∷ []) _ refl refl (set-group g) (g .0 ∷ []) refl refl
 
-  pub mode-law : (m : ℕ) → field-put (encode-tree t) (index-of t p) 4 (two-bytes m) ≡ encode-tree (update p (alter (set-mode m)) t)
+  pub mode-law : (m : ℕ) → field-put (encode-tree t) (index-of t p) mode-offset (two-bytes m) ≡ encode-tree (update p (alter (set-mode m)) t)
   unfolding row-bytes set-mode two-bytes
   mode-law m =
       let x = d .here in
       change-law 4 (depth p ∷ kind-byte (x .kind) ∷ x .owner .0 ∷ x .group .0 ∷ []) (two-bytes (x .mode)) _ refl refl (set-mode m) (two-bytes m) refl refl
 
-  pub revision-law : (v : ℕ) → field-put (encode-tree t) (index-of t p) 6 (two-bytes v) ≡ encode-tree (update p (alter (set-revision v)) t)
+  pub revision-law : (v : ℕ) → field-put (encode-tree t) (index-of t p) revision-offset (two-bytes v) ≡ encode-tree (update p (alter (set-revision v)) t)
   unfolding row-bytes set-revision two-bytes
   revision-law v =
       let x = d .here in
@@ -224,12 +225,12 @@ abbrev head-of : Path → Node → List ℕ
 head-of p x = (depth p ∷ kind-byte (x .kind) ∷ x .owner .0 ∷ x .group .0 ∷ []) ++ (two-bytes (x .mode) ++ two-bytes (x .revision))
 
 abbrev name-of : Path → List ℕ
-name-of p = padded 8 (last p)
+name-of p = padded name-width (last p)
 
 abbrev spare : List ℕ
 spare = replicate 80 0
 
-row-parts : (p : Path) (x : Node) → row-bytes (row-there p x) ≡ head-of p x ++ (name-of p ++ (tag-bytes (x .tag) ++ (padded 80 (x .content) ++ spare)))
+row-parts : (p : Path) (x : Node) → row-bytes (row-there p x) ≡ head-of p x ++ (name-of p ++ (tag-bytes (x .tag) ++ (padded content-width (x .content) ++ spare)))
 unfolding row-bytes two-bytes
 row-parts p x = refl
 
@@ -241,7 +242,7 @@ regroup-four H N T B R = simp append-assoc
 
 module _ (t : Place Node) (p : Path) (d : Place Node) (h : is-tree t ≡ true) (there : place-at t p ≡ some d) where
   length-name : length (name-of p) ≡ 8
-  length-name = length-padded 8 (last p) (fits-parts (row-there p (d .here)) (row-fits t p d h there) .1 .0)
+  length-name = length-padded name-width (last p) (fits-parts (row-there p (d .here)) (row-fits t p d h there) .1 .0)
 
   tag-fits-there : is-tag (d .here .tag) ≡ true
   tag-fits-there = node-parts (d .here) (fits-parts (row-there p (d .here)) (row-fits t p d h there) .0) .0
@@ -261,33 +262,33 @@ module _ (t : Place Node) (p : Path) (d : Place Node) (h : is-tree t ≡ true) (
       length-append (head-of p x) (name-of p ++ T) ∙ omega (arith, length-head x, length-append (name-of p) T, length-name)
 
   pub tag-law : (e : Entry-path) (v : ℕ) → is-entry-path e ≡ true
-      → field-put (encode-tree t) (index-of t p) 16 (padded 54 (entry-text e) ++ two-bytes v)
+      → field-put (encode-tree t) (index-of t p) tag-offset (padded tag-width (entry-text e) ++ two-bytes v)
       ≡ encode-tree (update p (alter (set-tag (record { path = e; revision = v }))) t)
   unfolding set-tag tag-bytes two-bytes
   tag-law e v a =
       let x = d .here in
       let P = head-of p x ++ name-of p in
-      let Q = padded 80 (x .content) ++ spare in
-      let T = padded 54 (entry-text e) in
+      let Q = padded content-width (x .content) ++ spare in
+      let T = padded tag-width (entry-text e) in
       let g : Tag = record { path = e; revision = v } in
       let lP : length P ≡ 16 = length-append (head-of p x) (name-of p) ∙ omega (arith, length-head x, length-name) in
-      let lT = length-padded 54 (entry-text e) (entry-text-fits e a .0) in
+      let lT = length-padded tag-width (entry-text e) (entry-text-fits e a .0) in
       let q : length (tag-bytes (x .tag)) ≡ length (T ++ two-bytes v) =
       length-tag-bytes (x .tag) tag-fits-there ∙ sym (length-append T (two-bytes v) ∙ omega (arith, lT)) in
       change-law t p d h there 16 P (tag-bytes (x .tag)) Q lP (row-parts p x) (set-tag g) (T ++ two-bytes v) q (row-parts p (set-tag g x))
 
   -- the tag keeps its path and gets another revision
   pub tag-revision-law : (g : Tag) (v : ℕ) → d .here .tag ≡ some g
-      → field-put (encode-tree t) (index-of t p) 70 (two-bytes v) ≡ encode-tree (update p (alter (set-tag (record { path = g .path; revision = v }))) t)
+      → field-put (encode-tree t) (index-of t p) tag-revision-offset (two-bytes v) ≡ encode-tree (update p (alter (set-tag (record { path = g .path; revision = v }))) t)
   unfolding set-tag tag-bytes is-tag
   tag-revision-law g v e =
       let x = d .here in
-      let T = padded 54 (entry-text (g .path)) in
-      let Q = padded 80 (x .content) ++ spare in
+      let T = padded tag-width (entry-text (g .path)) in
+      let Q = padded content-width (x .content) ++ spare in
       let new : Tag = record { path = g .path; revision = v } in
       let fit : is-tag (some g) ≡ true = ap is-tag (sym e) ∙ tag-fits-there in
       let path = and-both (is-entry-path (g .path)) _ fit .0 in
-      let lT = length-padded 54 (entry-text (g .path)) (entry-text-fits (g .path) path .0) in
+      let lT = length-padded tag-width (entry-text (g .path)) (entry-text-fits (g .path) path .0) in
       let was : row-bytes (row-there p x) ≡ (head-of p x ++ (name-of p ++ T)) ++ (two-bytes (g .revision) ++ Q) =
       row-parts p x ∙ ap (λ (o : Option Tag). head-of p x ++ (name-of p ++ (tag-bytes o ++ Q))) e
       ∙ regroup-four (head-of p x) (name-of p) T (two-bytes (g .revision)) Q in
@@ -296,32 +297,32 @@ module _ (t : Place Node) (p : Path) (d : Place Node) (h : is-tree t ≡ true) (
       (row-parts p (set-tag new x) ∙ regroup-four (head-of p x) (name-of p) T (two-bytes v) Q)
 
   -- the content, where it stands
-  content-parts : (x : Node) → row-bytes (row-there p x) ≡ (head-of p x ++ (name-of p ++ tag-bytes (x .tag))) ++ (padded 80 (x .content) ++ spare)
-  content-parts x = row-parts p x ∙ regroup-three (head-of p x) (name-of p) (tag-bytes (x .tag)) (padded 80 (x .content) ++ spare)
+  content-parts : (x : Node) → row-bytes (row-there p x) ≡ (head-of p x ++ (name-of p ++ tag-bytes (x .tag))) ++ (padded content-width (x .content) ++ spare)
+  content-parts x = row-parts p x ∙ regroup-three (head-of p x) (name-of p) (tag-bytes (x .tag)) (padded content-width (x .content) ++ spare)
 
   length-before-content : length (head-of p (d .here) ++ (name-of p ++ tag-bytes (d .here .tag))) ≡ 72
   length-before-content = length-so-far (d .here) (tag-bytes (d .here .tag)) 56 (length-tag-bytes (d .here .tag) tag-fits-there)
 
-  length-content : length (padded 80 (d .here .content)) ≡ 80
-  length-content = length-padded 80 (d .here .content) content-fits-there
+  length-content : length (padded content-width (d .here .content)) ≡ 80
+  length-content = length-padded content-width (d .here .content) content-fits-there
 
   pub content-law : (c : Text) → length c ≤ 80
-      → field-put (encode-tree t) (index-of t p) 72 (padded 80 c) ≡ encode-tree (update p (alter (set-content c)) t)
+      → field-put (encode-tree t) (index-of t p) content-offset (padded content-width c) ≡ encode-tree (update p (alter (set-content c)) t)
   unfolding set-content
   content-law c l =
       let x = d .here in
-      change-law t p d h there 72 (head-of p x ++ (name-of p ++ tag-bytes (x .tag))) (padded 80 (x .content)) spare length-before-content (content-parts x)
-      (set-content c) (padded 80 c) (length-content ∙ sym (length-padded 80 c l)) (content-parts (set-content c x))
+      change-law t p d h there 72 (head-of p x ++ (name-of p ++ tag-bytes (x .tag))) (padded content-width (x .content)) spare length-before-content (content-parts x)
+      (set-content c) (padded content-width c) (length-content ∙ sym (length-padded content-width c l)) (content-parts (set-content c x))
 
-  content-read : field-at (encode-tree t) (index-of t p) 72 80 ≡ padded 80 (d .here .content)
+  content-read : field-at (encode-tree t) (index-of t p) content-offset content-width ≡ padded content-width (d .here .content)
   content-read =
       let x = d .here in
       ap (field-at (encode-tree t) (index-of t p) 72) (sym length-content)
-      ∙ field-law t p d h there 72 (head-of p x ++ (name-of p ++ tag-bytes (x .tag))) (padded 80 (x .content)) spare length-before-content (content-parts x)
+      ∙ field-law t p d h there 72 (head-of p x ++ (name-of p ++ tag-bytes (x .tag))) (padded content-width (x .content)) spare length-before-content (content-parts x)
 
 -- the content of another place
 pub copy-content-law : (t : Place Node) (p q : Path) (d f : Place Node) → is-tree t ≡ true → place-at t p ≡ some d → place-at t q ≡ some f
-    → field-put (encode-tree t) (index-of t p) 72 (field-at (encode-tree t) (index-of t q) 72 80) ≡ encode-tree (update p (alter (set-content (f .here .content))) t)
+    → field-put (encode-tree t) (index-of t p) content-offset (field-at (encode-tree t) (index-of t q) content-offset content-width) ≡ encode-tree (update p (alter (set-content (f .here .content))) t)
 copy-content-law t p q d f h there from =
-    ap (field-put (encode-tree t) (index-of t p) 72) (content-read t q f h from)
+    ap (field-put (encode-tree t) (index-of t p) content-offset) (content-read t q f h from)
     ∙ content-law t p d h there (f .here .content) (content-fits-there t q f h from)

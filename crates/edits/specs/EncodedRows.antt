@@ -10,74 +10,75 @@ use lib.Seq.{take-at, drop-at}
 use Rattle.buffers.specs.Fields.{two-bytes, all-bytes}
 use Rattle.buffers.specs.FieldsLaws.{length-two-bytes, number-at-bytes}
 use Rattle.buffers.specs.PasteLaws.{paste-piece}
+use Rattle.tree.specs.Layout.{row-width, row-start}
 use Rattle.tree.specs.Forest.{Place}
 use Rattle.tree.specs.Node.{Node}
 use Rattle.tree.specs.Rows.{Row, rows}
 use Rattle.tree.specs.WellFormed.{most-nodes}
-use Rattle.tree.specs.Encoding.{row-width, row-bytes, encode-rows, encode-tree}
+use Rattle.tree.specs.Encoding.{row-bytes, encode-rows, encode-tree}
 use Rattle.tree.specs.RowAt.{row-count}
-use Rattle.edits.specs.Changes.{row-start, rows-put, rows-taken, field-at, field-put}
+use Rattle.edits.specs.Changes.{rows-put, rows-taken, field-at, field-put}
 
 -- ---- bytes in pieces
 
 module _ (C : List ℕ) (lC : length C ≡ 2) where
   -- the rows before an index
-  before-row : (X R : List ℕ) (i : ℕ) → length X ≡ 232 * i → take (232 * i) (drop 2 (C ++ (X ++ R))) ≡ X
-  before-row X R i l = ap (take (232 * i)) (drop-at C (X ++ R) 2 lC) ∙ take-at X R (232 * i) l
+  before-row : (X R : List ℕ) (i : ℕ) → length X ≡ row-width * i → take (row-width * i) (drop 2 (C ++ (X ++ R))) ≡ X
+  before-row X R i l = ap (take (row-width * i)) (drop-at C (X ++ R) 2 lC) ∙ take-at X R (row-width * i) l
 
   -- and what stands from there on
-  from-row : (X R : List ℕ) (i : ℕ) → length X ≡ 232 * i → drop (2 + 232 * i) (C ++ (X ++ R)) ≡ R
+  from-row : (X R : List ℕ) (i : ℕ) → length X ≡ row-width * i → drop (row-start i) (C ++ (X ++ R)) ≡ R
   from-row X R i l =
-      ap (drop (2 + 232 * i)) (sym (append-assoc C X R)) ∙ drop-at (C ++ X) R (2 + 232 * i) (length-append C X ∙ omega arith)
+      ap (drop (row-start i)) (sym (append-assoc C X R)) ∙ drop-at (C ++ X) R (row-start i) (length-append C X ∙ omega arith)
 
-  module _ (X Y : List ℕ) (i n c : ℕ) (lX : length X ≡ 232 * i) where
+  module _ (X Y : List ℕ) (i n c : ℕ) (lX : length X ≡ row-width * i) where
     -- rows S put in before Y, and so many bytes Z fewer behind
-    put-pieces : (Z R S Q : List ℕ) → length Y ≡ 232 * (c - i) → length Z ≡ 232 * n → length S ≡ 232 * n → i ≤ c
+    put-pieces : (Z R S Q : List ℕ) → length Y ≡ row-width * (c - i) → length Z ≡ row-width * n → length S ≡ row-width * n → i ≤ c
         → row-count (C ++ (X ++ (Y ++ (Z ++ R)))) ≡ c
         → rows-put (C ++ (X ++ (Y ++ (Z ++ R)))) i n (S ++ Q) ≡ two-bytes (c + n) ++ (X ++ (S ++ (Y ++ R)))
-    unfolding rows-put row-start row-width
+    unfolding rows-put
     put-pieces Z R S Q lY lZ lS h q =
         let b = C ++ (X ++ (Y ++ (Z ++ R))) in
         let T = X ++ (Y ++ Z) in
         let first = before-row X (Y ++ (Z ++ R)) i lX in
-        let new = take-at S Q (232 * n) lS in
-        let moved : take (232 * (c - i)) (drop (2 + 232 * i) b) ≡ Y =
-        ap (take (232 * (c - i))) (from-row X (Y ++ (Z ++ R)) i lX) ∙ take-at Y (Z ++ R) (232 * (c - i)) lY in
+        let new = take-at S Q (row-width * n) lS in
+        let moved : take (row-width * (c - i)) (drop (row-start i) b) ≡ Y =
+        ap (take (row-width * (c - i))) (from-row X (Y ++ (Z ++ R)) i lX) ∙ take-at Y (Z ++ R) (row-width * (c - i)) lY in
         let g : X ++ (Y ++ (Z ++ R)) ≡ T ++ R = simp append-assoc in
-        let lT : length T ≡ 232 * (c + n) = length-append X (Y ++ Z) ∙ omega (arith, length-append Y Z) in
-        let rest : drop (2 + 232 * (c + n)) b ≡ R = ap (λ (l : List ℕ). drop (2 + 232 * (c + n)) (C ++ l)) g ∙ from-row T R (c + n) lT in
+        let lT : length T ≡ row-width * (c + n) = length-append X (Y ++ Z) ∙ omega (arith, length-append Y Z) in
+        let rest : drop (row-start (c + n)) b ≡ R = ap (λ (l : List ℕ). drop (row-start (c + n)) (C ++ l)) g ∙ from-row T R (c + n) lT in
         rw (q, first, new, moved, rest)
 
     -- rows M taken out before Y, and so many zeros more behind
-    taken-pieces : (M R : List ℕ) → length M ≡ 232 * n → length Y ≡ 232 * (c - (i + n)) → i + n ≤ c
+    taken-pieces : (M R : List ℕ) → length M ≡ row-width * n → length Y ≡ row-width * (c - (i + n)) → i + n ≤ c
         → row-count (C ++ (X ++ (M ++ (Y ++ R)))) ≡ c
-        → rows-taken (C ++ (X ++ (M ++ (Y ++ R)))) i n ≡ two-bytes (c - n) ++ (X ++ (Y ++ (replicate (232 * n) 0 ++ R)))
-    unfolding rows-taken row-start row-width
+        → rows-taken (C ++ (X ++ (M ++ (Y ++ R)))) i n ≡ two-bytes (c - n) ++ (X ++ (Y ++ (replicate (row-width * n) 0 ++ R)))
+    unfolding rows-taken
     taken-pieces M R lM lY h q =
         let b = C ++ (X ++ (M ++ (Y ++ R))) in
-        let w = 232 * (c - (i + n)) in
+        let w = row-width * (c - (i + n)) in
         let T = X ++ (M ++ Y) in
         let first = before-row X (M ++ (Y ++ R)) i lX in
         let a : X ++ (M ++ (Y ++ R)) ≡ (X ++ M) ++ (Y ++ R) = simp append-assoc in
-        let moved : take w (drop (2 + 232 * (i + n)) b) ≡ Y =
-        ap (λ (l : List ℕ). take w (drop (2 + 232 * (i + n)) (C ++ l))) a
+        let moved : take w (drop (row-start (i + n)) b) ≡ Y =
+        ap (λ (l : List ℕ). take w (drop (row-start (i + n)) (C ++ l))) a
         ∙ ap (take w) (from-row (X ++ M) (Y ++ R) (i + n) (length-append X M ∙ omega arith))
         ∙ take-at Y R w lY in
         let g : X ++ (M ++ (Y ++ R)) ≡ T ++ R = simp append-assoc in
-        let lT : length T ≡ 232 * c = length-append X (M ++ Y) ∙ omega (arith, length-append M Y) in
-        let rest : drop (2 + 232 * c) b ≡ R = ap (λ (l : List ℕ). drop (2 + 232 * c) (C ++ l)) g ∙ from-row T R c lT in
+        let lT : length T ≡ row-width * c = length-append X (M ++ Y) ∙ omega (arith, length-append M Y) in
+        let rest : drop (row-start c) b ≡ R = ap (λ (l : List ℕ). drop (row-start c) (C ++ l)) g ∙ from-row T R c lT in
         rw (q, first, moved, rest)
 
-module _ (A B old : List ℕ) (i k : ℕ) (l : length A ≡ 2 + 232 * i + k) where
+module _ (A B old : List ℕ) (i k : ℕ) (l : length A ≡ row-start i + k) where
   -- a field is read where it stands
   field-read : field-at (A ++ (old ++ B)) i k (length old) ≡ old
-  unfolding field-at row-start row-width
-  field-read = ap (take (length old)) (drop-at A (old ++ B) (2 + 232 * i + k) l) ∙ take-at old B (length old) refl
+  unfolding field-at
+  field-read = ap (take (length old)) (drop-at A (old ++ B) (row-start i + k) l) ∙ take-at old B (length old) refl
 
   -- and written there
   pub field-pieces : (new : List ℕ) → length old ≡ length new → field-put (A ++ (old ++ B)) i k new ≡ A ++ (new ++ B)
-  unfolding field-put row-start row-width
-  field-pieces new e = paste-piece A B old new (2 + 232 * i + k) (length new) l e refl
+  unfolding field-put
+  field-pieces new e = paste-piece A B old new (row-start i + k) (length new) l e refl
 
 -- ---- the encoding of rows
 
@@ -102,15 +103,15 @@ zeros-join zero n = ap (λ (k : ℕ). replicate {A = ℕ} k 0) (zero-add n)
 zeros-join (suc m) n = ap (λ (k : ℕ). replicate {A = ℕ} k 0) (suc-add m n) ∙ ap (λ (l : List ℕ). 0 ∷ l) (zeros-join m n)
 
 -- the zeros of n rows fewer are those and the zeros of n rows
-zeros-split : (c n : ℕ) → c + n ≤ 256 → replicate {A = ℕ} ((256 - c) * 232) 0 ≡ replicate (232 * n) 0 ++ replicate ((256 - (c + n)) * 232) 0
+zeros-split : (c n : ℕ) → c + n ≤ 256 → replicate {A = ℕ} ((256 - c) * row-width) 0 ≡ replicate (row-width * n) 0 ++ replicate ((256 - (c + n)) * row-width) 0
 zeros-split c n h =
-    let e : (256 - c) * 232 ≡ 232 * n + (256 - (c + n)) * 232 = omega arith in
-    ap (λ (k : ℕ). replicate {A = ℕ} k 0) e ∙ zeros-join (232 * n) ((256 - (c + n)) * 232)
+    let e : (256 - c) * row-width ≡ row-width * n + (256 - (c + n)) * row-width = omega arith in
+    ap (λ (k : ℕ). replicate {A = ℕ} k 0) e ∙ zeros-join (row-width * n) ((256 - (c + n)) * row-width)
 
 -- so many rows with such bytes
 encoded : (rs : List (Row Node)) (n : ℕ) (B : List ℕ) → length rs ≡ n → all-bytes row-bytes rs ≡ B
-    → encode-rows rs ≡ two-bytes n ++ (B ++ replicate ((256 - n) * 232) 0)
-unfolding encode-rows most-nodes row-width
+    → encode-rows rs ≡ two-bytes n ++ (B ++ replicate ((256 - n) * row-width) 0)
+unfolding encode-rows most-nodes
 encoded rs n B l e = rw (l, e)
 
 count-of : (n : ℕ) (R : List ℕ) → row-count (two-bytes n ++ R) ≡ n
@@ -119,26 +120,24 @@ count-of n R = number-at-bytes [] R 0 n refl
 
 -- rows read from where they stand
 pub table-part : (xs ms ys : List (Row Node)) → Wide xs → Wide ms
-    → take (232 * length ms) (drop (2 + 232 * length xs) (encode-rows (xs ++ (ms ++ ys)))) ≡ all-bytes row-bytes ms
-unfolding row-width
+    → take (row-width * length ms) (drop (row-start (length xs)) (encode-rows (xs ++ (ms ++ ys)))) ≡ all-bytes row-bytes ms
 table-part xs ms ys wx wm =
     let X = all-bytes row-bytes xs in
     let M = all-bytes row-bytes ms in
     let Y = all-bytes row-bytes ys in
     let c = length (xs ++ (ms ++ ys)) in
-    let Z : List ℕ = replicate ((256 - c) * 232) 0 in
+    let Z : List ℕ = replicate ((256 - c) * row-width) 0 in
     let a : all-bytes row-bytes (xs ++ (ms ++ ys)) ≡ X ++ (M ++ Y) = all-append xs (ms ++ ys) ∙ ap (λ (l : List ℕ). X ++ l) (all-append ms ys) in
     let g : (X ++ (M ++ Y)) ++ Z ≡ X ++ (M ++ (Y ++ Z)) = simp append-assoc in
     let is : encode-rows (xs ++ (ms ++ ys)) ≡ two-bytes c ++ (X ++ (M ++ (Y ++ Z))) =
     encoded (xs ++ (ms ++ ys)) c (X ++ (M ++ Y)) refl a ∙ ap (λ (l : List ℕ). two-bytes c ++ l) g in
-    ap (λ (b : List ℕ). take (232 * length ms) (drop (2 + 232 * length xs) b)) is
-    ∙ ap (take (232 * length ms)) (from-row (two-bytes c) (length-two-bytes c) X (M ++ (Y ++ Z)) (length xs) (omega arith))
-    ∙ take-at M (Y ++ Z) (232 * length ms) (omega arith)
+    ap (λ (b : List ℕ). take (row-width * length ms) (drop (row-start (length xs)) b)) is
+    ∙ ap (take (row-width * length ms)) (from-row (two-bytes c) (length-two-bytes c) X (M ++ (Y ++ Z)) (length xs) (omega arith))
+    ∙ take-at M (Y ++ Z) (row-width * length ms) (omega arith)
 
 -- rows put in
 pub table-put : (xs ns ys : List (Row Node)) (Q : List ℕ) → Wide xs → Wide ns → Wide ys → length xs + length ys + length ns ≤ 256
     → rows-put (encode-rows (xs ++ ys)) (length xs) (length ns) (all-bytes row-bytes ns ++ Q) ≡ encode-rows (xs ++ (ns ++ ys))
-unfolding row-width
 table-put xs ns ys Q wx wn wy few =
     let i = length xs in
     let n = length ns in
@@ -146,8 +145,8 @@ table-put xs ns ys Q wx wn wy few =
     let X = all-bytes row-bytes xs in
     let S = all-bytes row-bytes ns in
     let Y = all-bytes row-bytes ys in
-    let Z : List ℕ = replicate (232 * n) 0 in
-    let R : List ℕ = replicate ((256 - (c + n)) * 232) 0 in
+    let Z : List ℕ = replicate (row-width * n) 0 in
+    let R : List ℕ = replicate ((256 - (c + n)) * row-width) 0 in
     let C = two-bytes c in
     let was : encode-rows (xs ++ ys) ≡ C ++ (X ++ (Y ++ (Z ++ R))) =
     encoded (xs ++ ys) c (X ++ Y) (length-append xs ys) (all-append xs ys)
@@ -160,13 +159,12 @@ table-put xs ns ys Q wx wn wy few =
     let is : encode-rows (xs ++ (ns ++ ys)) ≡ two-bytes (c + n) ++ (X ++ (S ++ (Y ++ R))) =
     encoded (xs ++ (ns ++ ys)) (c + n) (X ++ (S ++ Y)) l a ∙ ap (λ (l : List ℕ). two-bytes (c + n) ++ l) g in
     ap (λ (b : List ℕ). rows-put b i n (S ++ Q)) was
-    ∙ put-pieces C (length-two-bytes c) X Y i n c (omega arith) Z R S Q (omega arith) (length-replicate {A = ℕ} (232 * n) 0) (omega arith) (omega arith) (count-of c (X ++ (Y ++ (Z ++ R))))
+    ∙ put-pieces C (length-two-bytes c) X Y i n c (omega arith) Z R S Q (omega arith) (length-replicate {A = ℕ} (row-width * n) 0) (omega arith) (omega arith) (count-of c (X ++ (Y ++ (Z ++ R))))
     ∙ sym is
 
 -- rows taken out
 pub table-taken : (xs ms ys : List (Row Node)) → Wide xs → Wide ms → Wide ys → length xs + length ms + length ys ≤ 256
     → rows-taken (encode-rows (xs ++ (ms ++ ys))) (length xs) (length ms) ≡ encode-rows (xs ++ ys)
-unfolding row-width
 table-taken xs ms ys wx wm wy few =
     let i = length xs in
     let n = length ms in
@@ -174,8 +172,8 @@ table-taken xs ms ys wx wm wy few =
     let X = all-bytes row-bytes xs in
     let M = all-bytes row-bytes ms in
     let Y = all-bytes row-bytes ys in
-    let Z : List ℕ = replicate (232 * n) 0 in
-    let R : List ℕ = replicate ((256 - c) * 232) 0 in
+    let Z : List ℕ = replicate (row-width * n) 0 in
+    let R : List ℕ = replicate ((256 - c) * row-width) 0 in
     let C = two-bytes c in
     let lys : length (ms ++ ys) ≡ n + length ys = length-append ms ys in
     let l : length (xs ++ (ms ++ ys)) ≡ c = length-append xs (ms ++ ys) ∙ omega arith in
@@ -185,8 +183,8 @@ table-taken xs ms ys wx wm wy few =
     encoded (xs ++ (ms ++ ys)) c (X ++ (M ++ Y)) l a ∙ ap (λ (l : List ℕ). C ++ l) g in
     let k : length (xs ++ ys) ≡ c - n = length-append xs ys ∙ omega arith in
     let e : c - n + n ≡ c = omega arith in
-    let z : replicate {A = ℕ} ((256 - (c - n)) * 232) 0 ≡ Z ++ R =
-    zeros-split (c - n) n (omega arith) ∙ ap (λ (j : ℕ). Z ++ replicate {A = ℕ} ((256 - j) * 232) 0) e in
+    let z : replicate {A = ℕ} ((256 - (c - n)) * row-width) 0 ≡ Z ++ R =
+    zeros-split (c - n) n (omega arith) ∙ ap (λ (j : ℕ). Z ++ replicate {A = ℕ} ((256 - j) * row-width) 0) e in
     let is : encode-rows (xs ++ ys) ≡ two-bytes (c - n) ++ (X ++ (Y ++ (Z ++ R))) =
     encoded (xs ++ ys) (c - n) (X ++ Y) k (all-append xs ys)
     ∙ ap (λ (l : List ℕ). two-bytes (c - n) ++ ((X ++ Y) ++ l)) z
@@ -202,7 +200,7 @@ module _ (xs ys : List (Row Node)) (P Q : List ℕ) (w : Wide xs) where
   front = two-bytes (length xs + suc (length ys)) ++ (all-bytes row-bytes xs ++ P)
 
   back : List ℕ
-  back = Q ++ (all-bytes row-bytes ys ++ replicate ((256 - (length xs + suc (length ys))) * 232) 0)
+  back = Q ++ (all-bytes row-bytes ys ++ replicate ((256 - (length xs + suc (length ys))) * row-width) 0)
 
   field-between : (r : Row Node) (s : List ℕ) → row-bytes r ≡ P ++ (s ++ Q) → encode-rows (xs ++ r ∷ ys) ≡ front ++ (s ++ back)
   unfolding front back all-bytes
@@ -210,15 +208,15 @@ module _ (xs ys : List (Row Node)) (P Q : List ℕ) (w : Wide xs) where
       let n = length xs + suc (length ys) in
       let X = all-bytes row-bytes xs in
       let Y = all-bytes row-bytes ys in
-      let Z : List ℕ = replicate ((256 - n) * 232) 0 in
+      let Z : List ℕ = replicate ((256 - n) * row-width) 0 in
       let g : (X ++ ((P ++ (s ++ Q)) ++ Y)) ++ Z ≡ (X ++ P) ++ (s ++ (Q ++ (Y ++ Z))) = simp append-assoc in
       encoded (xs ++ r ∷ ys) n (X ++ ((P ++ (s ++ Q)) ++ Y)) (length-append xs (r ∷ ys))
       (all-append xs (r ∷ ys) ∙ ap (λ (l : List ℕ). X ++ (l ++ Y)) e)
       ∙ ap (λ (l : List ℕ). two-bytes n ++ l) g
       ∙ sym (append-assoc (two-bytes n) (X ++ P) (s ++ (Q ++ (Y ++ Z))))
 
-  length-front : (k : ℕ) → length P ≡ k → length front ≡ 2 + 232 * length xs + k
-  unfolding front row-width
+  length-front : (k : ℕ) → length P ≡ k → length front ≡ row-start (length xs) + k
+  unfolding front
   length-front k l =
       let n = length xs + suc (length ys) in
       let X = all-bytes row-bytes xs in

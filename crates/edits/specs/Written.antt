@@ -9,47 +9,48 @@ use lib.Seq.{paste, length-take-le, take-add, take-all, take-take, drop-at}
 use Rattle.buffers.specs.Fields.{two-bytes, padded, all-bytes}
 use Rattle.buffers.specs.FieldsLaws.{length-padded, length-two-bytes, text-part}
 use Rattle.buffers.specs.PasteLaws.{paste-two, paste-join, set-paste, set-behind, gap-filled}
+use Rattle.tree.specs.Layout.{row-width, tree-width, row-start, name-width, tag-offset, tag-width, tag-revision-offset, content-offset, content-width}
 use Rattle.tree.specs.Forest.{leaf}
 use Rattle.tree.specs.Node.{Node}
 use Rattle.tree.specs.Rows.{Row, flatten, rows}
 use Rattle.tree.specs.WellFormed.{most-nodes}
-use Rattle.tree.specs.Encoding.{row-width, kind-byte, tag-bytes, row-bytes, encode-rows, encode-tree}
+use Rattle.tree.specs.Encoding.{kind-byte, tag-bytes, row-bytes, encode-rows, encode-tree}
 use Rattle.tree.specs.RowAt.{row-count, tag-text-at}
 use Rattle.tree.specs.RowAtLaws.{text-in-row}
 use Rattle.edits.specs.declared.Fresh.{Fresh}
-use Rattle.edits.specs.Changes.{row-start, rows-put, rows-taken, field-at, field-put, fresh-node, head-bytes}
+use Rattle.edits.specs.Changes.{rows-put, rows-taken, field-at, field-put, fresh-node, head-bytes}
 
 -- ---- a field
 
 module _ (b : List ℕ) (i k : ℕ) where
   -- a piece as long as is said
-  pub piece-put : (s : List ℕ) (n : ℕ) → length s ≡ n → paste b (2 + 232 * i + k) s n ≡ field-put b i k s
-  unfolding field-put row-start row-width
-  piece-put s n e = ap (paste b (2 + 232 * i + k) s) (sym e)
+  pub piece-put : (s : List ℕ) (n : ℕ) → length s ≡ n → paste b (row-start i + k) s n ≡ field-put b i k s
+  unfolding field-put
+  piece-put s n e = ap (paste b (row-start i + k) s) (sym e)
 
   -- a byte
-  pub byte-put : (v : ℕ) → 2 + 232 * i + k < length b → set b (2 + 232 * i + k) v ≡ field-put b i k (v ∷ [])
-  byte-put v h = set-paste b (2 + 232 * i + k) v h ∙ piece-put (v ∷ []) 1 refl
+  pub byte-put : (v : ℕ) → row-start i + k < length b → set b (row-start i + k) v ≡ field-put b i k (v ∷ [])
+  byte-put v h = set-paste b (row-start i + k) v h ∙ piece-put (v ∷ []) 1 refl
 
   -- a number
-  pub number-put : (n : ℕ) → paste b (2 + 232 * i + k) (two-bytes n) 2 ≡ field-put b i k (two-bytes n)
+  pub number-put : (n : ℕ) → paste b (row-start i + k) (two-bytes n) 2 ≡ field-put b i k (two-bytes n)
   number-put n = piece-put (two-bytes n) 2 (length-two-bytes n)
 
 -- a tag: its text and its number
-pub tag-put : (b t : List ℕ) (i n : ℕ) → length b ≡ 59394 → i < 256 → length t ≤ 54
-    → paste (paste b (2 + 232 * i + 16) (padded 54 t) 54) (2 + 232 * i + 70) (two-bytes n) 2 ≡ field-put b i 16 (padded 54 t ++ two-bytes n)
+pub tag-put : (b t : List ℕ) (i n : ℕ) → length b ≡ tree-width → i < 256 → length t ≤ tag-width
+    → paste (paste b (row-start i + tag-offset) (padded tag-width t) 54) (row-start i + tag-revision-offset) (two-bytes n) 2 ≡ field-put b i tag-offset (padded tag-width t ++ two-bytes n)
 tag-put b t i n e h l =
-    let T = padded 54 t in
-    let lT = length-padded 54 t l in
+    let T = padded tag-width t in
+    let lT = length-padded tag-width t l in
     let lN = length-two-bytes n in
-    let q : 2 + 232 * i + 70 ≡ 2 + 232 * i + 16 + 54 = omega arith in
-    ap (λ (at : ℕ). paste (paste b (2 + 232 * i + 16) T 54) at (two-bytes n) 2) q
-    ∙ paste-join b T (two-bytes n) (2 + 232 * i + 16) 54 2 lT lN (omega arith)
+    let q : row-start i + tag-revision-offset ≡ row-start i + tag-offset + 54 = omega arith in
+    ap (λ (at : ℕ). paste (paste b (row-start i + tag-offset) T 54) at (two-bytes n) 2) q
+    ∙ paste-join b T (two-bytes n) (row-start i + tag-offset) 54 2 lT lN (omega arith)
     ∙ piece-put b i 16 (T ++ two-bytes n) 56 (length-append T (two-bytes n) ∙ omega arith)
 
 -- a text copied, a byte behind it, and a name filled up are one text filled up
 joined-put : (b t m : List ℕ) (at n from c : ℕ) → length t ≡ n → take n (drop from b) ≡ t → n + length m < 54 → at + 54 ≤ length b
-    → paste (set (paste b at (drop from b) n) (at + n) c) (at + 1 + n) (padded (53 - n) m) (53 - n) ≡ paste b at (padded 54 (t ++ (c ∷ m))) 54
+    → paste (set (paste b at (drop from b) n) (at + n) c) (at + 1 + n) (padded (53 - n) m) (53 - n) ≡ paste b at (padded tag-width (t ++ (c ∷ m))) 54
 unfolding padded
 joined-put b t m at n from c e w h fits =
     let q : at + 1 + n ≡ at + (n + 1) = omega arith in
@@ -68,29 +69,29 @@ joined-put b t m at n from c e w h fits =
     ∙ rw r (ap (λ (l : List ℕ). paste b at l 54) (ap (λ (k : ℕ). (t ++ (c ∷ [])) ++ (m ++ replicate k 0)) z ∙ g))
 
 -- the tag of a child: the text of another row's tag, a slash and a name
-pub tag-below-put : (b m : List ℕ) (i above n v : ℕ) → length b ≡ 59394 → i < 256 → n ≡ length (tag-text-at b above) → n + length m < 54
-    → paste (paste (set (paste b (2 + 232 * i + 16) (drop (2 + 232 * above + 16) b) n) (2 + 232 * i + 16 + n) 47) (2 + 232 * i + 17 + n) (padded (53 - n) m) (53 - n))
-    (2 + 232 * i + 70) (two-bytes v) 2
-    ≡ field-put b i 16 (padded 54 (tag-text-at b above ++ (47 ∷ m)) ++ two-bytes v)
+pub tag-below-put : (b m : List ℕ) (i above n v : ℕ) → length b ≡ tree-width → i < 256 → n ≡ length (tag-text-at b above) → n + length m < 54
+    → paste (paste (set (paste b (row-start i + tag-offset) (drop (row-start above + tag-offset) b) n) (row-start i + tag-offset + n) 47) (row-start i + 17 + n) (padded (53 - n) m) (53 - n))
+    (row-start i + tag-revision-offset) (two-bytes v) 2
+    ≡ field-put b i tag-offset (padded tag-width (tag-text-at b above ++ (47 ∷ m)) ++ two-bytes v)
 unfolding tag-text-at
 tag-below-put b m i above n v e h q l =
     let t = tag-text-at b above in
-    let at = 2 + 232 * i + 16 in
+    let at = row-start i + tag-offset in
     let same = text-in-row b above 16 54 (omega arith) in
-    let part = text-part b (2 + 232 * above + 16) 54 n (q ∙ ap length same) (omega arith) ∙ sym same in
-    let u : 2 + 232 * i + 17 + n ≡ at + 1 + n = omega arith in
-    ap (λ (j : ℕ). paste (paste (set (paste b at (drop (2 + 232 * above + 16) b) n) (at + n) 47) j (padded (53 - n) m) (53 - n)) (2 + 232 * i + 70) (two-bytes v) 2) u
-    ∙ ap (λ (s : List ℕ). paste s (2 + 232 * i + 70) (two-bytes v) 2) (joined-put b t m at n (2 + 232 * above + 16) 47 (sym q) part l (omega arith))
+    let part = text-part b (row-start above + tag-offset) 54 n (q ∙ ap length same) (omega arith) ∙ sym same in
+    let u : row-start i + 17 + n ≡ at + 1 + n = omega arith in
+    ap (λ (j : ℕ). paste (paste (set (paste b at (drop (row-start above + tag-offset) b) n) (at + n) 47) j (padded (53 - n) m) (53 - n)) (row-start i + tag-revision-offset) (two-bytes v) 2) u
+    ∙ ap (λ (s : List ℕ). paste s (row-start i + tag-revision-offset) (two-bytes v) 2) (joined-put b t m at n (row-start above + tag-offset) 47 (sym q) part l (omega arith))
     ∙ tag-put b (t ++ (47 ∷ m)) i v e h (omega (arith, length-append t (47 ∷ m)))
 
 -- a content copied from another row
-pub content-copied : (b : List ℕ) (from to : ℕ) → length b ≡ 59394 → from < 256
-    → paste b (2 + 232 * to + 72) (drop (2 + 232 * from + 72) b) 80 ≡ field-put b to 72 (field-at b from 72 80)
-unfolding field-at row-start row-width
+pub content-copied : (b : List ℕ) (from to : ℕ) → length b ≡ tree-width → from < 256
+    → paste b (row-start to + content-offset) (drop (row-start from + content-offset) b) 80 ≡ field-put b to content-offset (field-at b from content-offset content-width)
+unfolding field-at
 content-copied b from to e h =
-    let D = drop (2 + 232 * from + 72) b in
-    let l : 80 ≤ length D = omega (arith, length-drop (2 + 232 * from + 72) b) in
-    ap (λ (s : List ℕ). take (2 + 232 * to + 72) b ++ s ++ drop (2 + 232 * to + 72 + 80) b) (sym (take-take 80 80 D (omega arith)))
+    let D = drop (row-start from + content-offset) b in
+    let l : 80 ≤ length D = omega (arith, length-drop (row-start from + content-offset) b) in
+    ap (λ (s : List ℕ). take (row-start to + content-offset) b ++ s ++ drop (row-start to + content-offset + 80) b) (sym (take-take 80 80 D (omega arith)))
     ∙ piece-put b to 72 (take 80 D) 80 (length-take-le 80 D l)
 
 -- ---- the row of a new node
@@ -116,31 +117,31 @@ module _ (depth : ℕ) (name : List ℕ) (f : Fresh) where
   length-head = refl
 
   -- behind the name there are only zeros
-  fresh-parts : row-bytes fresh-row ≡ head-bytes depth f ++ padded 8 name ++ replicate 216 0
+  fresh-parts : row-bytes fresh-row ≡ head-bytes depth f ++ padded name-width name ++ replicate 216 0
   unfolding fresh-row row-bytes head-bytes two-bytes fresh-node tag-bytes padded
   fresh-parts = refl
 
-  pub length-fresh : length name ≤ 8 → length (row-bytes fresh-row) ≡ 232
+  pub length-fresh : length name ≤ 8 → length (row-bytes fresh-row) ≡ row-width
   length-fresh h =
       let H = head-bytes depth f in
-      let N = padded 8 name in
+      let N = padded name-width name in
       let Z : List ℕ = replicate 216 0 in
-      let l = length-padded 8 name h in
+      let l = length-padded name-width name h in
       let z = length-replicate {A = ℕ} 216 0 in
       ap length fresh-parts ∙ length-append (H ++ N) Z ∙ omega (arith, length-append H N, length-head)
 
   -- what is written piece by piece is the row
-  pub row-written : (b : List ℕ) (at : ℕ) → at + 232 ≤ length b → length name ≤ 8
-      → paste (paste (paste b at (head-bytes depth f) 8) (at + 8) (padded 8 name) 8) (at + 16) (replicate 216 0) 216 ≡ paste b at (row-bytes fresh-row) 232
+  pub row-written : (b : List ℕ) (at : ℕ) → at + row-width ≤ length b → length name ≤ 8
+      → paste (paste (paste b at (head-bytes depth f) 8) (at + 8) (padded name-width name) 8) (at + 16) (replicate 216 0) 216 ≡ paste b at (row-bytes fresh-row) row-width
   row-written b at fits h =
       let H = head-bytes depth f in
-      let N = padded 8 name in
+      let N = padded name-width name in
       let Z : List ℕ = replicate 216 0 in
-      let l = length-padded 8 name h in
+      let l = length-padded name-width name h in
       let z = length-replicate {A = ℕ} 216 0 in
       ap (λ (s : List ℕ). paste s (at + 16) Z 216) (paste-join b H N at 8 8 length-head l (omega arith))
       ∙ paste-join b (H ++ N) Z at 16 216 (length-append H N ∙ omega (arith, length-head)) z (omega arith)
-      ∙ ap (λ (s : List ℕ). paste b at s 232) (sym fresh-parts)
+      ∙ ap (λ (s : List ℕ). paste b at s row-width) (sym fresh-parts)
 
 -- ---- rows put in and taken out
 
@@ -156,44 +157,44 @@ behind-count b R k h =
     ∙ ap (drop 2) (append-assoc (take 2 b) (take k (drop 2 b)) R)
     ∙ drop-at (take 2 b) (take k (drop 2 b) ++ R) 2 (length-take-le 2 b (omega arith))
 
-pub put-written : (b s : List ℕ) (at n c : ℕ) → length b ≡ 59394 → c ≡ row-count b → at ≤ c → c + n ≤ 256
-    → paste (paste (paste b (2 + 232 * at + 232 * n) (drop (2 + 232 * at) b) (232 * (c - at))) (2 + 232 * at) s (232 * n)) 0 (two-bytes (c + n)) 2
+pub put-written : (b s : List ℕ) (at n c : ℕ) → length b ≡ tree-width → c ≡ row-count b → at ≤ c → c + n ≤ 256
+    → paste (paste (paste b (row-start at + row-width * n) (drop (row-start at) b) (row-width * (c - at))) (row-start at) s (row-width * n)) 0 (two-bytes (c + n)) 2
     ≡ rows-put b at n s
-unfolding rows-put row-start row-width
+unfolding rows-put
 put-written b s at n c e q h k =
-    let i = 2 + 232 * at in
-    let g = 232 * n in
-    let m = 232 * (c - at) in
-    let z : i + g + m ≡ 2 + 232 * (c + n) = omega arith in
+    let i = row-start at in
+    let g = row-width * n in
+    let m = row-width * (c - at) in
+    let z : i + g + m ≡ row-start (c + n) = omega arith in
     let R = take g s ++ (take m (drop i b) ++ drop (i + g + m) b) in
     rw (← q)
     (counted (paste (paste b (i + g) (drop i b) m) i s g) (c + n)
     ∙ ap (λ (l : List ℕ). two-bytes (c + n) ++ drop 2 l) (gap-filled b s i g m (omega arith))
-    ∙ ap (λ (l : List ℕ). two-bytes (c + n) ++ l) (behind-count b R (232 * at) (omega arith))
-    ∙ ap (λ (j : ℕ). two-bytes (c + n) ++ (take (232 * at) (drop 2 b) ++ (take g s ++ (take m (drop i b) ++ drop j b)))) z)
+    ∙ ap (λ (l : List ℕ). two-bytes (c + n) ++ l) (behind-count b R (row-width * at) (omega arith))
+    ∙ ap (λ (j : ℕ). two-bytes (c + n) ++ (take (row-width * at) (drop 2 b) ++ (take g s ++ (take m (drop i b) ++ drop j b)))) z)
 
-pub taken-written : (b : List ℕ) (at n c : ℕ) → length b ≡ 59394 → c ≡ row-count b → c ≤ 256 → at + n ≤ c
-    → paste (paste (paste b (2 + 232 * at) (drop (2 + 232 * at + 232 * n) b) (232 * (c - (at + n)))) (2 + 232 * (c - n)) (replicate (232 * n) 0) (232 * n)) 0 (two-bytes (c - n)) 2
+pub taken-written : (b : List ℕ) (at n c : ℕ) → length b ≡ tree-width → c ≡ row-count b → c ≤ 256 → at + n ≤ c
+    → paste (paste (paste b (row-start at) (drop (row-start at + row-width * n) b) (row-width * (c - (at + n)))) (row-start (c - n)) (replicate (row-width * n) 0) (row-width * n)) 0 (two-bytes (c - n)) 2
     ≡ rows-taken b at n
-unfolding rows-taken row-start row-width
+unfolding rows-taken
 taken-written b at n c e q h k =
-    let i = 2 + 232 * at in
-    let g = 232 * n in
-    let m = 232 * (c - (at + n)) in
+    let i = row-start at in
+    let g = row-width * n in
+    let m = row-width * (c - (at + n)) in
     let Z : List ℕ = replicate g 0 in
     let P = paste b i (drop (i + g) b) m in
-    let j : 2 + 232 * (c - n) ≡ i + m = omega arith in
-    let u : i + g ≡ 2 + 232 * (at + n) = omega arith in
-    let z : i + m + g ≡ 2 + 232 * c = omega arith in
+    let j : row-start (c - n) ≡ i + m = omega arith in
+    let u : i + g ≡ row-start (at + n) = omega arith in
+    let z : i + m + g ≡ row-start c = omega arith in
     let R = take m (drop (i + g) b) ++ (take g Z ++ drop (i + m + g) b) in
     rw (← q)
-    (counted (paste P (2 + 232 * (c - n)) Z g) (c - n)
+    (counted (paste P (row-start (c - n)) Z g) (c - n)
     ∙ ap (λ (x : ℕ). two-bytes (c - n) ++ drop 2 (paste P x Z g)) j
     ∙ ap (λ (l : List ℕ). two-bytes (c - n) ++ drop 2 l) (paste-two b (drop (i + g) b) Z i m g (omega (arith, length-drop (i + g) b)) (omega arith))
-    ∙ ap (λ (l : List ℕ). two-bytes (c - n) ++ l) (behind-count b R (232 * at) (omega arith))
-    ∙ ap (λ (x : ℕ). two-bytes (c - n) ++ (take (232 * at) (drop 2 b) ++ (take m (drop x b) ++ (take g Z ++ drop (i + m + g) b)))) u
-    ∙ ap (λ (x : ℕ). two-bytes (c - n) ++ (take (232 * at) (drop 2 b) ++ (take m (drop (2 + 232 * (at + n)) b) ++ (take g Z ++ drop x b)))) z
-    ∙ ap (λ (l : List ℕ). two-bytes (c - n) ++ (take (232 * at) (drop 2 b) ++ (take m (drop (2 + 232 * (at + n)) b) ++ (l ++ drop (2 + 232 * c) b))))
+    ∙ ap (λ (l : List ℕ). two-bytes (c - n) ++ l) (behind-count b R (row-width * at) (omega arith))
+    ∙ ap (λ (x : ℕ). two-bytes (c - n) ++ (take (row-width * at) (drop 2 b) ++ (take m (drop x b) ++ (take g Z ++ drop (i + m + g) b)))) u
+    ∙ ap (λ (x : ℕ). two-bytes (c - n) ++ (take (row-width * at) (drop 2 b) ++ (take m (drop (row-start (at + n)) b) ++ (take g Z ++ drop x b)))) z
+    ∙ ap (λ (l : List ℕ). two-bytes (c - n) ++ (take (row-width * at) (drop 2 b) ++ (take m (drop (row-start (at + n)) b) ++ (l ++ drop (row-start c) b))))
     (take-all g Z (omega (arith, length-replicate {A = ℕ} g 0))))
 
 -- ---- a tree of `/` alone
@@ -216,11 +217,11 @@ planted b r w n e l =
     ∙ paste-two Z (two-bytes 1) r 0 2 w (omega arith) (omega arith)
     ∙ rw (take-all w r (omega arith), drop-zeros (2 + w) n)
 
-pub planted-tree : (b : List ℕ) (f : Fresh) → length b ≡ 59394
-    → paste (paste (paste b 0 (replicate 59394 0) 59394) 0 (two-bytes 1) 2) 2 (row-bytes (record { depth = 0; name = []; here = fresh-node f })) 232
+pub planted-tree : (b : List ℕ) (f : Fresh) → length b ≡ tree-width
+    → paste (paste (paste b 0 (replicate tree-width 0) tree-width) 0 (two-bytes 1) 2) 2 (row-bytes (record { depth = 0; name = []; here = fresh-node f })) row-width
     ≡ encode-tree (leaf (fresh-node f))
-unfolding encode-tree encode-rows all-bytes rows leaf flatten fresh-row row-width most-nodes
+unfolding encode-tree encode-rows all-bytes rows leaf flatten fresh-row most-nodes
 planted-tree b f e =
     let r = row-bytes (fresh-row 0 [] f) in
-    planted b r 232 59160 e (length-fresh 0 [] f (omega arith))
+    planted b r row-width 59160 e (length-fresh 0 [] f (omega arith))
     ∙ ap (λ (l : List ℕ). two-bytes 1 ++ (l ++ replicate 59160 0)) (sym (append-nil r))

@@ -4,6 +4,7 @@ ghost use mathlib.Core.List.{[], _∷_, _++_};
 ghost use Prim.Native.Nat.{_+_, _≤_, _<_};
 ghost use lib.ListN.{length};
 ghost use Rattle.buffers.specs.Fields.{two-bytes, padded};
+ghost use Rattle.tree.specs.Layout.{tree-width, owner-offset, group-offset, mode-offset, revision-offset, tag-offset, tag-width, tag-revision-offset, content-offset, content-width};
 ghost use Rattle.tree.specs.RowAt.{tag-text-at};
 ghost use Rattle.edits.specs.Changes.{field-at, field-put};
 use accounts::Gid;
@@ -11,80 +12,98 @@ use accounts::Uid;
 use buffers::move_bytes;
 use buffers::write_number;
 use buffers::write_padded;
+use tree::CONTENT;
+use tree::CONTENT_WIDTH;
+use tree::FIRST;
+use tree::GROUP;
+use tree::MODE;
+use tree::OWNER;
+use tree::REVISION;
+use tree::ROW;
+use tree::TAG;
+use tree::TAG_REVISION;
+use tree::TAG_WIDTH;
 use tree::tag_path_at;
 
-// The bytes of a row.
-const ROW: usize = 232;
-
 pub fn set_owner(tree: &mut [u8], i: usize, owner: Uid)
-    requires { ⌜ (length (now tree) ≡ 59394) × (i < 256) ⌝ }
-    ensures { λ _. ⌜ now (tree .exit) ≡ field-put (now (tree .entry)) i 2 (owner .0 ∷ []) ⌝ }
+    requires { ⌜ (length (now tree) ≡ tree-width) × (i < 256) ⌝ }
+    ensures { λ _. ⌜ now (tree .exit) ≡ field-put (now (tree .entry)) i owner-offset (owner .0 ∷ []) ⌝ }
 {
-    tree[2 + ROW * i + 2] = owner.0;
+    tree[FIRST + ROW * i + OWNER] = owner.0;
 }
 
 pub fn set_group(tree: &mut [u8], i: usize, group: Gid)
-    requires { ⌜ (length (now tree) ≡ 59394) × (i < 256) ⌝ }
-    ensures { λ _. ⌜ now (tree .exit) ≡ field-put (now (tree .entry)) i 3 (group .0 ∷ []) ⌝ }
+    requires { ⌜ (length (now tree) ≡ tree-width) × (i < 256) ⌝ }
+    ensures { λ _. ⌜ now (tree .exit) ≡ field-put (now (tree .entry)) i group-offset (group .0 ∷ []) ⌝ }
 {
-    tree[2 + ROW * i + 3] = group.0;
+    tree[FIRST + ROW * i + GROUP] = group.0;
 }
 
 pub fn set_mode(tree: &mut [u8], i: usize, mode: u16)
-    requires { ⌜ (length (now tree) ≡ 59394) × (i < 256) ⌝ }
-    ensures { λ _. ⌜ now (tree .exit) ≡ field-put (now (tree .entry)) i 4 (two-bytes mode) ⌝ }
+    requires { ⌜ (length (now tree) ≡ tree-width) × (i < 256) ⌝ }
+    ensures { λ _. ⌜ now (tree .exit) ≡ field-put (now (tree .entry)) i mode-offset (two-bytes mode) ⌝ }
 {
-    write_number(tree, 2 + ROW * i + 4, mode);
+    write_number(tree, FIRST + ROW * i + MODE, mode);
 }
 
 pub fn set_revision(tree: &mut [u8], i: usize, revision: u16)
-    requires { ⌜ (length (now tree) ≡ 59394) × (i < 256) ⌝ }
-    ensures { λ _. ⌜ now (tree .exit) ≡ field-put (now (tree .entry)) i 6 (two-bytes revision) ⌝ }
+    requires { ⌜ (length (now tree) ≡ tree-width) × (i < 256) ⌝ }
+    ensures { λ _. ⌜ now (tree .exit) ≡ field-put (now (tree .entry)) i revision-offset (two-bytes revision) ⌝ }
 {
-    write_number(tree, 2 + ROW * i + 6, revision);
+    write_number(tree, FIRST + ROW * i + REVISION, revision);
 }
 
 // The tag: its path as text, and its revision.
 pub fn set_tag(tree: &mut [u8], i: usize, path: &[u8], revision: u16)
-    requires { ⌜ (length (now tree) ≡ 59394) × ((i < 256) × (length (now path) ≤ 54)) ⌝ }
-    ensures { λ _. ⌜ now (tree .exit) ≡ field-put (now (tree .entry)) i 16 (padded 54 (now (path .entry)) ++ two-bytes revision) ⌝ }
+    requires { ⌜ (length (now tree) ≡ tree-width) × ((i < 256) × (length (now path) ≤ 54)) ⌝ }
+    ensures { λ _. ⌜ now (tree .exit) ≡ field-put (now (tree .entry)) i tag-offset (padded tag-width (now (path .entry)) ++ two-bytes revision) ⌝ }
 {
-    let at = 2 + ROW * i;
-    write_padded(tree, at + 16, 54, path);
-    write_number(tree, at + 70, revision);
+    let at = FIRST + ROW * i;
+    write_padded(tree, at + TAG, TAG_WIDTH, path);
+    write_number(tree, at + TAG_REVISION, revision);
 }
+
+// Where the name of a child begins in its tag, and how many bytes there are for it, if nothing stands before the slash.
+const BEHIND_SLASH: usize = 17;
+
+const NAME_ROOM: usize = 53;
 
 // The tag of a child: the path of the tag at another row, a slash and a name.
 pub fn set_tag_below(tree: &mut [u8], i: usize, above: usize, name: &[u8], revision: u16)
-    requires { ⌜ (length (now tree) ≡ 59394) × ((i < 256) × ((above < 256) × (length (tag-text-at (now tree) above) + length (now name) < 54))) ⌝ }
-    ensures { λ _. ⌜ now (tree .exit) ≡ field-put (now (tree .entry)) i 16 (padded 54 (tag-text-at (now (tree .entry)) above ++ (47 ∷ now (name .entry))) ++ two-bytes revision) ⌝ }
+    requires { ⌜ (length (now tree) ≡ tree-width) × ((i < 256) × ((above < 256) × (length (tag-text-at (now tree) above) + length (now name) < 54))) ⌝ }
+    ensures { λ _. ⌜ now (tree .exit) ≡ field-put (now (tree .entry)) i tag-offset (padded tag-width (tag-text-at (now (tree .entry)) above ++ (47 ∷ now (name .entry))) ++ two-bytes revision) ⌝ }
 {
-    let at = 2 + ROW * i;
+    let at = FIRST + ROW * i;
     let n = tag_path_at(tree, above).len();
-    move_bytes(tree, 2 + ROW * above + 16, at + 16, n);
-    tree[at + 16 + n] = b'/';
-    write_padded(tree, at + 17 + n, 53 - n, name);
-    write_number(tree, at + 70, revision);
+    move_bytes(tree, FIRST + ROW * above + TAG, at + TAG, n);
+    tree[at + TAG + n] = b'/';
+    write_padded(tree, at + BEHIND_SLASH + n, NAME_ROOM - n, name);
+    write_number(tree, at + TAG_REVISION, revision);
 }
 
 pub fn set_tag_revision(tree: &mut [u8], i: usize, revision: u16)
-    requires { ⌜ (length (now tree) ≡ 59394) × (i < 256) ⌝ }
-    ensures { λ _. ⌜ now (tree .exit) ≡ field-put (now (tree .entry)) i 70 (two-bytes revision) ⌝ }
+    requires { ⌜ (length (now tree) ≡ tree-width) × (i < 256) ⌝ }
+    ensures { λ _. ⌜ now (tree .exit) ≡ field-put (now (tree .entry)) i tag-revision-offset (two-bytes revision) ⌝ }
 {
-    write_number(tree, 2 + ROW * i + 70, revision);
+    write_number(tree, FIRST + ROW * i + TAG_REVISION, revision);
 }
 
 pub fn set_content(tree: &mut [u8], i: usize, content: &[u8])
-    requires { ⌜ (length (now tree) ≡ 59394) × ((i < 256) × (length (now content) ≤ 80)) ⌝ }
-    ensures { λ _. ⌜ now (tree .exit) ≡ field-put (now (tree .entry)) i 72 (padded 80 (now (content .entry))) ⌝ }
+    requires { ⌜ (length (now tree) ≡ tree-width) × ((i < 256) × (length (now content) ≤ 80)) ⌝ }
+    ensures { λ _. ⌜ now (tree .exit) ≡ field-put (now (tree .entry)) i content-offset (padded content-width (now (content .entry))) ⌝ }
 {
-    write_padded(tree, 2 + ROW * i + 72, 80, content);
+    write_padded(tree, FIRST + ROW * i + CONTENT, CONTENT_WIDTH, content);
 }
 
 // The content of one row to another.
 pub fn copy_content(tree: &mut [u8], from: usize, to: usize)
-    requires { ⌜ (length (now tree) ≡ 59394) × ((from < 256) × (to < 256)) ⌝ }
-    ensures { λ _. ⌜ now (tree .exit) ≡ field-put (now (tree .entry)) to 72 (field-at (now (tree .entry)) from 72 80) ⌝ }
+    requires { ⌜ (length (now tree) ≡ tree-width) × ((from < 256) × (to < 256)) ⌝ }
+    ensures { λ _. ⌜ now (tree .exit) ≡ field-put (now (tree .entry)) to content-offset (field-at (now (tree .entry)) from content-offset content-width) ⌝ }
 {
-    move_bytes(tree, 2 + ROW * from + 72, 2 + ROW * to + 72, 80);
+    move_bytes(
+        tree,
+        FIRST + ROW * from + CONTENT,
+        FIRST + ROW * to + CONTENT,
+        CONTENT_WIDTH,
+    );
 }

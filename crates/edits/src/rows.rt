@@ -3,8 +3,9 @@ ghost use mathlib.Core.Path.{_≡_};
 ghost use Prim.Native.Nat.{_+_, _*_, _≤_, _<_};
 ghost use lib.ListN.{length};
 ghost use lib.Seq.{paste};
+ghost use Rattle.tree.specs.Layout.{row-width, tree-width};
 ghost use Rattle.tree.specs.Forest.{leaf};
-ghost use Rattle.tree.specs.Encoding.{row-width, kind-byte, row-bytes, encode-tree};
+ghost use Rattle.tree.specs.Encoding.{kind-byte, row-bytes, encode-tree};
 ghost use Rattle.tree.specs.RowAt.{row-count};
 ghost use Rattle.edits.specs.Changes.{rows-put, rows-taken, fresh-node, head-bytes};
 use crate::Fresh;
@@ -14,19 +15,25 @@ use buffers::write_four;
 use buffers::write_many;
 use buffers::write_number;
 use buffers::write_padded;
+use tree::BEHIND_NAME;
+use tree::FIRST;
 use tree::Kind;
+use tree::MODE;
+use tree::NAME;
+use tree::NAME_WIDTH;
+use tree::REVISION;
+use tree::ROW;
+use tree::TAG;
+use tree::TREE;
 use tree::count;
-
-// The bytes of a row.
-const ROW: usize = 232;
 
 // Puts n rows in before the one at an index; those from there on move up.
 pub fn put_rows(tree: &mut [u8], at: usize, n: usize, rows: &[u8])
-    requires { ⌜ (length (now tree) ≡ 59394) × ((at ≤ row-count (now tree)) × ((row-count (now tree) + n ≤ 256) × (row-width * n ≤ length (now rows)))) ⌝ }
+    requires { ⌜ (length (now tree) ≡ tree-width) × ((at ≤ row-count (now tree)) × ((row-count (now tree) + n ≤ 256) × (row-width * n ≤ length (now rows)))) ⌝ }
     ensures { λ _. ⌜ now (tree .exit) ≡ rows-put (now (tree .entry)) at n (now (rows .entry)) ⌝ }
 {
     let c = count(tree);
-    let start = 2 + ROW * at;
+    let start = FIRST + ROW * at;
     move_bytes(tree, start, start + ROW * n, ROW * (c - at));
     write_many(tree, start, rows, ROW * n);
     write_number(tree, 0, (c + n) as u16);
@@ -34,13 +41,13 @@ pub fn put_rows(tree: &mut [u8], at: usize, n: usize, rows: &[u8])
 
 // Takes n rows out from an index on; those behind move down, and zeros stand where the last n were.
 pub fn take_rows(tree: &mut [u8], at: usize, n: usize)
-    requires { ⌜ (length (now tree) ≡ 59394) × ((row-count (now tree) ≤ 256) × (at + n ≤ row-count (now tree))) ⌝ }
+    requires { ⌜ (length (now tree) ≡ tree-width) × ((row-count (now tree) ≤ 256) × (at + n ≤ row-count (now tree))) ⌝ }
     ensures { λ _. ⌜ now (tree .exit) ≡ rows-taken (now (tree .entry)) at n ⌝ }
 {
     let c = count(tree);
-    let start = 2 + ROW * at;
+    let start = FIRST + ROW * at;
     move_bytes(tree, start + ROW * n, start, ROW * (c - (at + n)));
-    clear(tree, 2 + ROW * (c - n), ROW * n);
+    clear(tree, FIRST + ROW * (c - n), ROW * n);
     write_number(tree, 0, (c - n) as u16);
 }
 
@@ -64,27 +71,27 @@ fn write_head(tree: &mut [u8], at: usize, depth: u8, node: Fresh)
     let group = node.group;
     let letter = kind_byte(kind);
     write_four(tree, at, depth, letter, owner.0, group.0);
-    write_number(tree, at + 4, node.mode);
-    write_number(tree, at + 6, node.revision);
+    write_number(tree, at + MODE, node.mode);
+    write_number(tree, at + REVISION, node.revision);
 }
 
 // Writes the row of a new node.
 pub fn write_row(tree: &mut [u8], at: usize, depth: u8, name: &[u8], node: Fresh)
-    requires { ⌜ (at + 232 ≤ length (now tree)) × (length (now name) ≤ 8) ⌝ }
-    ensures { λ _. ⌜ now (tree .exit) ≡ paste (now (tree .entry)) at (row-bytes (record { depth = depth; name = now (name .entry); here = fresh-node node })) 232 ⌝ }
+    requires { ⌜ (at + row-width ≤ length (now tree)) × (length (now name) ≤ 8) ⌝ }
+    ensures { λ _. ⌜ now (tree .exit) ≡ paste (now (tree .entry)) at (row-bytes (record { depth = depth; name = now (name .entry); here = fresh-node node })) row-width ⌝ }
 {
     write_head(tree, at, depth, node);
-    write_padded(tree, at + 8, 8, name);
-    clear(tree, at + 16, 216);
+    write_padded(tree, at + NAME, NAME_WIDTH, name);
+    clear(tree, at + TAG, BEHIND_NAME);
 }
 
 // Puts the row of a new node in before the one at an index.
 pub fn put_child(tree: &mut [u8], at: usize, depth: u8, name: &[u8], node: Fresh)
-    requires { ⌜ (length (now tree) ≡ 59394) × ((row-count (now tree) < 256) × ((at ≤ row-count (now tree)) × (length (now name) ≤ 8))) ⌝ }
+    requires { ⌜ (length (now tree) ≡ tree-width) × ((row-count (now tree) < 256) × ((at ≤ row-count (now tree)) × (length (now name) ≤ 8))) ⌝ }
     ensures { λ _. ⌜ now (tree .exit) ≡ rows-put (now (tree .entry)) at 1 (row-bytes (record { depth = depth; name = now (name .entry); here = fresh-node node })) ⌝ }
 {
     let c = count(tree);
-    let start = 2 + ROW * at;
+    let start = FIRST + ROW * at;
     move_bytes(tree, start, start + ROW, ROW * (c - at));
     write_row(tree, start, depth, name, node);
     write_number(tree, 0, (c + 1) as u16);
@@ -92,10 +99,10 @@ pub fn put_child(tree: &mut [u8], at: usize, depth: u8, name: &[u8], node: Fresh
 
 // Makes a tree of `/` alone, whatever stood there.
 pub fn plant(tree: &mut [u8], top: Fresh)
-    requires { ⌜ length (now tree) ≡ 59394 ⌝ }
+    requires { ⌜ length (now tree) ≡ tree-width ⌝ }
     ensures { λ _. ⌜ now (tree .exit) ≡ encode-tree (leaf (fresh-node top)) ⌝ }
 {
-    clear(tree, 0, 59394);
+    clear(tree, 0, TREE);
     write_number(tree, 0, 1);
-    write_row(tree, 2, 0, b"", top);
+    write_row(tree, FIRST, 0, b"", top);
 }

@@ -22,6 +22,8 @@ use Rattle.syntax.specs.WithinLaws.{deeper, lies, lies-outside}
 use Rattle.tree.specs.declared.Cause.{Cause}
 use Rattle.tree.specs.declared.Child.{Child}
 use Rattle.tree.specs.declared.Child.the-variants.{Found, Missing}
+use Rattle.tree.specs.Layout.{row-width, row-start}
+use Rattle.tree.specs.Encoding.{row-bytes, encode-tree}
 use Rattle.walks.specs.declared.Walked.{Walked}
 use Rattle.walks.specs.declared.Walked.the-variants.{At, Refused}
 use Rattle.tree.specs.Result.{Result, refused, done, _>>=_}
@@ -36,7 +38,6 @@ use Rattle.tree.specs.ChangeLaws.{keep-drop, nodes-drop}
 use Rattle.tree.specs.RowContext.{index-of, place-rows}
 use Rattle.tree.specs.RowLaws.{length-rows}
 use Rattle.tree.specs.RowEdits.{lesser}
-use Rattle.tree.specs.Encoding.{row-width, row-bytes, encode-tree}
 use Rattle.tree.specs.RowAt as rows
 use Rattle.tree.specs.RowAt.{row-count, row-at, all-rows, end-of-subtree}
 use Rattle.tree.specs.RowAtLaws.{row-count-of-tree}
@@ -273,12 +274,12 @@ module _ {s : List ℕ} {at : ℕ} {to : Text} (m : Movable s at to) where
         omega (arith, rest-room)
 
     -- the rows that were held, under the new name and at the new depth
-    held-rows : (k : ℕ) (Z h : List ℕ) (name : Text) → k ≡ depth (m .b) → h ≡ paste Z 0 (L.drop (2 + 232 * at) s) (232 * n) → name ≡ last (m .b)
-        → relabelled n k name h ≡ all-bytes row-bytes (place-rows (depth (m .b)) (last (m .b)) (m .d)) ++ L.drop (0 + 232 * n) Z
+    held-rows : (k : ℕ) (Z h : List ℕ) (name : Text) → k ≡ depth (m .b) → h ≡ paste Z 0 (L.drop (row-start at) s) (row-width * n) → name ≡ last (m .b)
+        → relabelled n k name h ≡ all-bytes row-bytes (place-rows (depth (m .b)) (last (m .b)) (m .d)) ++ L.drop (0 + row-width * n) Z
     held-rows k Z h name e q w =
-        let Q = L.drop (0 + 232 * n) Z in
+        let Q = L.drop (0 + row-width * n) Z in
         let c = suc (size (m .d .below)) in
-        let read : take (232 * n) (L.drop (2 + 232 * at) s) ≡ all-bytes row-bytes (place-rows (depth (m .a)) (last (m .a)) (m .d)) =
+        let read : take (row-width * n) (L.drop (row-start at) s) ≡ all-bytes row-bytes (place-rows (depth (m .a)) (last (m .a)) (m .d)) =
         rw (count, m .row, m .holds) (place-law (m .t) (m .a) (m .d) (m .whole) (m .moved)) in
         let is : h ≡ all-bytes row-bytes (place-rows (depth (m .a)) (last (m .a)) (m .d)) ++ Q = q ∙ ap (λ (l : List ℕ). l ++ Q) read in
         ap (λ (l : List ℕ). relabelled n k name l) is
@@ -289,25 +290,25 @@ module _ {s : List ℕ} {at : ℕ} {to : Text} (m : Movable s at to) where
         (name-fits (last (m .b)) movable-name .0) (omega (arith, m .low))
 
     -- so they stand in the buffer
-    pub held-law : (k : ℕ) (Z h w : List ℕ) (name : Text) → k ≡ depth (left .b) → h ≡ paste Z 0 (L.drop (2 + 232 * at) s) (232 * n) → name ≡ last (m .b)
+    pub held-law : (k : ℕ) (Z h w : List ℕ) (name : Text) → k ≡ depth (left .b) → h ≡ paste Z 0 (L.drop (row-start at) s) (row-width * n) → name ≡ last (m .b)
         → w ≡ relabelled n k name h → w ≡ held-after m Z
-    unfolding left held-after row-width
+    unfolding left held-after
     held-law k Z h w name e q named is =
-        let i : 0 + 232 * n ≡ 232 * suc (size (m .d .below)) = omega arith in
+        let i : 0 + row-width * n ≡ row-width * suc (size (m .d .below)) = omega arith in
         is ∙ held-rows k Z h name e q named
         ∙ ap (λ (j : ℕ). all-bytes row-bytes (place-rows (depth (m .b)) (last (m .b)) (m .d)) ++ L.drop j Z) i
 
     -- put in there: the tree with the place moved
     pub move-law : (i k : ℕ) (Z h w : List ℕ) (name : Text)
         → i ≡ suc (index-of (left .t) (parent (left .b)) + size (lesser (last (left .b)) (left .f .below))) → k ≡ depth (left .b)
-        → h ≡ paste Z 0 (L.drop (2 + 232 * at) s) (232 * n) → name ≡ last (m .b) → w ≡ relabelled n k name h
+        → h ≡ paste Z 0 (L.drop (row-start at) s) (row-width * n) → name ≡ last (m .b) → w ≡ relabelled n k name h
         → rows-put u i n w ≡ encode-tree (update (parent (m .b)) (put (last (m .b)) (m .d)) rest)
     unfolding left
     move-law i k Z h w name e q held named is =
         let g = rest-parent in
         let j = suc (index-of rest (parent (m .b)) + size (lesser (last (m .b)) (g .0 .below))) in
         let c = suc (size (m .d .below)) in
-        let Q = L.drop (0 + 232 * n) Z in
+        let Q = L.drop (0 + row-width * n) Z in
         let B = all-bytes row-bytes (place-rows (depth (m .b)) (last (m .b)) (m .d)) ++ Q in
         ap (rows-put u i n) (is ∙ held-rows k Z h name q held named)
         ∙ ap (λ (b : List ℕ). rows-put b i n B) rest-bytes

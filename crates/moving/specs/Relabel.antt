@@ -13,12 +13,13 @@ use Rattle.buffers.specs.Fields.{two-bytes, padded, all-bytes}
 use Rattle.buffers.specs.FieldsLaws.{length-padded}
 use Rattle.buffers.specs.PasteLaws.{paste-piece}
 use Rattle.syntax.specs.Path.{Name}
+use Rattle.tree.specs.Layout.{row-width, name-width, content-width}
 use Rattle.tree.specs.Forest.{Forest, nil, node, Place, size, height}
 use Rattle.tree.specs.ForestLaws.{height-node}
 use Rattle.tree.specs.Node.{Node}
 use Rattle.tree.specs.Rows.{Row, flatten}
 use Rattle.tree.specs.RowContext.{place-rows, length-place-rows}
-use Rattle.tree.specs.Encoding.{row-width, kind-byte, tag-bytes, row-bytes}
+use Rattle.tree.specs.Encoding.{kind-byte, tag-bytes, row-bytes}
 use Rattle.tree.specs.EncodingLaws.{fits, fits-parts, fits-of, length-fitting}
 
 -- a depth that is counted from a new one instead of an old one
@@ -33,13 +34,13 @@ depths-shifted old new i (suc m) b =
 
 -- so in all n rows from that of a place on, which gets another name
 unfoldable pub relabelled : ℕ → ℕ → Text → List ℕ → List ℕ
-relabelled n depth name b = paste (depths-shifted (getD b 0 0) depth 0 n b) 8 (padded 8 name) 8
+relabelled n depth name b = paste (depths-shifted (getD b 0 0) depth 0 n b) 8 (padded name-width name) 8
 
 -- ---- the loop
 
 pub shift-again : (old new i n : ℕ) (b : List ℕ) → i < n
-    → depths-shifted old new (i + 1) (n - (i + 1)) (set b (232 * i) (shifted old new (getD b (232 * i) 0))) ≡ depths-shifted old new i (n - i) b
-unfolding depths-shifted row-width
+    → depths-shifted old new (i + 1) (n - (i + 1)) (set b (row-width * i) (shifted old new (getD b (row-width * i) 0))) ≡ depths-shifted old new i (n - i) b
+unfolding depths-shifted
 shift-again old new i n b h = let g : n - i ≡ suc (n - suc i) = omega arith in rw (add-one i, g)
 
 pub shift-end : (old new i n : ℕ) (b : List ℕ) → n ≤ i → b ≡ depths-shifted old new i (n - i) b
@@ -56,7 +57,6 @@ length-shifted old new i (suc m) b =
 -- ---- rows
 
 one-row-on : (i : ℕ) {a b : ℕ} → b ≡ row-width → a ≡ row-width * i → a + b ≡ row-width * suc i
-unfolding row-width
 one-row-on i e f = omega arith
 
 rows-regrouped : (P L R Q : List ℕ) → (P ++ L) ++ (R ++ Q) ≡ P ++ ((L ++ R) ++ Q)
@@ -101,7 +101,7 @@ module _ (old new : ℕ) where
   body r =
       let n = r .here in
       (kind-byte (n .kind) ∷ n .owner .0 ∷ n .group .0 ∷ [])
-      ++ (two-bytes (n .mode) ++ (two-bytes (n .revision) ++ (padded 8 (r .name) ++ (tag-bytes (n .tag) ++ (padded 80 (n .content) ++ replicate 80 0)))))
+      ++ (two-bytes (n .mode) ++ (two-bytes (n .revision) ++ (padded name-width (r .name) ++ (tag-bytes (n .tag) ++ (padded content-width (n .content) ++ replicate 80 0)))))
 
   depth-first : (r : Row Node) → (row-bytes r ≡ r .depth ∷ body r) × (row-bytes (lifted r) ≡ shifted old new (r .depth) ∷ body r)
   unfolding row-bytes body lifted
@@ -155,7 +155,7 @@ module _ (k : ℕ) (d : Place Node) where
   tail : List ℕ
   tail =
       let x = d .here in
-      tag-bytes (x .tag) ++ (padded 80 (x .content) ++ (replicate 80 0 ++ all-bytes row-bytes (flatten (suc k) (d .below))))
+      tag-bytes (x .tag) ++ (padded content-width (x .content) ++ (replicate 80 0 ++ all-bytes row-bytes (flatten (suc k) (d .below))))
 
   length-head : length head ≡ 8
   unfolding head two-bytes
@@ -166,16 +166,16 @@ module _ (k : ℕ) (d : Place Node) where
   first-byte R = refl
 
   -- the name stands between them
-  name-between : (n : Name) (Q : List ℕ) → all-bytes row-bytes (place-rows k n d) ++ Q ≡ head ++ (padded 8 n ++ (tail ++ Q))
+  name-between : (n : Name) (Q : List ℕ) → all-bytes row-bytes (place-rows k n d) ++ Q ≡ head ++ (padded name-width n ++ (tail ++ Q))
   unfolding head tail all-bytes place-rows row-bytes two-bytes
   name-between n Q = simp append-assoc
 
   -- and is written there
   renamed : (m n : Name) (Q : List ℕ) → length m ≤ 8 → length n ≤ 8
-      → paste (all-bytes row-bytes (place-rows k m d) ++ Q) 8 (padded 8 n) 8 ≡ all-bytes row-bytes (place-rows k n d) ++ Q
+      → paste (all-bytes row-bytes (place-rows k m d) ++ Q) 8 (padded name-width n) 8 ≡ all-bytes row-bytes (place-rows k n d) ++ Q
   renamed m n Q a b =
-      ap (λ (s : List ℕ). paste s 8 (padded 8 n) 8) (name-between m Q)
-      ∙ paste-piece head (tail ++ Q) (padded 8 m) (padded 8 n) 8 8 length-head (length-padded 8 m a) (length-padded 8 n b)
+      ap (λ (s : List ℕ). paste s 8 (padded name-width n) 8) (name-between m Q)
+      ∙ paste-piece head (tail ++ Q) (padded name-width m) (padded name-width n) 8 8 length-head (length-padded name-width m a) (length-padded name-width n b)
       ∙ sym (name-between n Q)
 
 name-fitting : (k : ℕ) (m : Name) (d : Place Node) → every fits (place-rows k m d) ≡ true → length m ≤ 8
@@ -192,10 +192,10 @@ unfolding relabelled
 relabelled-place k k′ m n d Q f b h =
     let rs = place-rows k m d in
     let B = all-bytes row-bytes rs ++ Q in
-    let first : getD B 0 0 ≡ k = ap (λ (s : List ℕ). getD s 0 0) (name-between k d m Q) ∙ first-byte k d (padded 8 m ++ (tail k d ++ Q)) in
+    let first : getD B 0 0 ≡ k = ap (λ (s : List ℕ). getD s 0 0) (name-between k d m Q) ∙ first-byte k d (padded name-width m ++ (tail k d ++ Q)) in
     let l : suc (size (d .below)) ≡ length rs = sym (length-place-rows k m d) in
-    ap (λ (o : ℕ). paste (depths-shifted o k′ 0 (suc (size (d .below))) B) 8 (padded 8 n) 8) first
-    ∙ ap (λ (j : ℕ). paste (depths-shifted k k′ 0 j B) 8 (padded 8 n) 8) l
-    ∙ ap (λ (s : List ℕ). paste s 8 (padded 8 n) 8) (all-shifted k k′ rs [] Q 0 (omega arith) f)
-    ∙ ap (λ (s : List (Row Node)). paste (all-bytes row-bytes s ++ Q) 8 (padded 8 n) 8) (lifted-place k k′ m d h)
+    ap (λ (o : ℕ). paste (depths-shifted o k′ 0 (suc (size (d .below))) B) 8 (padded name-width n) 8) first
+    ∙ ap (λ (j : ℕ). paste (depths-shifted k k′ 0 j B) 8 (padded name-width n) 8) l
+    ∙ ap (λ (s : List ℕ). paste s 8 (padded name-width n) 8) (all-shifted k k′ rs [] Q 0 (omega arith) f)
+    ∙ ap (λ (s : List (Row Node)). paste (all-bytes row-bytes s ++ Q) 8 (padded name-width n) 8) (lifted-place k k′ m d h)
     ∙ renamed k′ d m n Q (name-fitting k m d f) b

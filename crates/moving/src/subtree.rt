@@ -3,10 +3,11 @@ ghost use mathlib.Core.Path.{_≡_};
 ghost use Prim.Native.Nat.{suc, _+_, _*_, _≤_, _<_};
 ghost use lib.ListN.{length};
 ghost use Rattle.syntax.specs.Path.{parent, last, depth, path};
+ghost use Rattle.tree.specs.Layout.{row-width, rows-width};
 ghost use Rattle.tree.specs.Forest.{update, put, drop, size};
-ghost use Rattle.tree.specs.Encoding.{row-width, encode-tree};
 ghost use Rattle.tree.specs.RowContext.{index-of};
 ghost use Rattle.tree.specs.RowEdits.{lesser};
+ghost use Rattle.tree.specs.Encoding.{encode-tree};
 ghost use Rattle.moving.specs.Relabel.{shifted, depths-shifted, relabelled};
 ghost use Rattle.moving.specs.Moving.{behind-slash, Vacant, Movable, held-after};
 use accounts::Account;
@@ -17,14 +18,15 @@ use buffers::write_padded;
 use edits::put_rows;
 use edits::take_rows;
 use tree::Child;
+use tree::FIRST;
+use tree::NAME;
+use tree::NAME_WIDTH;
+use tree::ROW;
 use tree::depth_at;
 use tree::find_child;
 use tree::subtree_end;
 use walks::Walked;
 use walks::parent_walk;
-
-// The bytes of a row.
-const ROW: usize = 232;
 
 // Where rows are to be put in, and how deep.
 struct Gap {
@@ -59,7 +61,7 @@ fn relabel(rows: &mut [u8], n: usize, depth: u8, name: &[u8])
 {
     let old = rows[0];
     shift_depths(rows, n, old, depth);
-    write_padded(rows, 8, 8, name);
+    write_padded(rows, NAME, NAME_WIDTH, name);
 }
 
 // The last name of a path: what stands behind the last `/` of a text.
@@ -96,12 +98,12 @@ fn gap_for(tree: &[u8], to: &[u8]) -> Gap
 
 // Moves the place at a row with all below it to a path where nothing stands, by a buffer that holds its rows on the way.
 fn move_by(tree: &mut [u8], at: usize, to: &[u8], held: &mut [u8])
-    requires { ⌜ Movable (now tree) at (now to) × (length (now held) ≡ 59392) ⌝ }
+    requires { ⌜ Movable (now tree) at (now to) × (length (now held) ≡ rows-width) ⌝ }
     ensures { λ _. ⌜ ((m : Movable (now (tree .entry)) at (now (to .entry))) → now (tree .exit) ≡ encode-tree (update (parent (m .b)) (put (last (m .b)) (m .d)) (update (parent (m .a)) (drop (last (m .a))) (m .t)))) ⌝ }
     ensures { λ _. ⌜ ((m : Movable (now (tree .entry)) at (now (to .entry))) → now (held .exit) ≡ held-after m (now (held .entry))) ⌝ }
 {
     let n = subtree_end(tree, at) - at;
-    write_many(held, 0, &tree[2 + ROW * at..], ROW * n);
+    write_many(held, 0, &tree[FIRST + ROW * at..], ROW * n);
     take_rows(tree, at, n);
     let gap = gap_for(tree, to);
     let name = last_name(to);

@@ -15,8 +15,9 @@ use Rattle.syntax.specs.Number.{is-mode}
 use Rattle.syntax.specs.Path.{entry-path}
 use Rattle.syntax.specs.Field.{is-content}
 use Rattle.syntax.specs.Form.{is-some}
+use Rattle.tree.specs.Layout.{row-width, tree-width, row-start, kind-offset, owner-offset, group-offset, name-offset, name-width, tag-offset, tag-revision-offset, content-offset}
 use Rattle.tree.specs.WellFormed.{last-revision, fits-kind}
-use Rattle.tree.specs.Encoding.{row-width, row-of}
+use Rattle.tree.specs.Encoding.{row-of}
 use Rattle.tree.specs.RowAt.{row-bytes-at, row-at, tag-text-at, tag-number-at}
 use Rattle.tree.specs.RowAtLaws.{byte-in-row}
 use Rattle.soundness.specs.Sound.{is-row}
@@ -25,34 +26,34 @@ use Rattle.soundness.specs.RowTestLaws.{length-text-at, row-test-is}
 
 module _ (b : List ℕ) (i : ℕ) where
   -- zeros of a row
-  zeros-in-row : (k w : ℕ) → k + w ≤ 232 → zeros-at k w (row-bytes-at b i) ≡ zeros-at (2 + 232 * i + k) w b
-  unfolding zeros-at row-bytes-at row-width
-  zeros-in-row k w h = ap all-zero (part-of-take k w 232 (drop (2 + 232 * i) b) h ∙ ap (take w) (drop-drop k (2 + 232 * i) b))
+  zeros-in-row : (k w : ℕ) → k + w ≤ row-width → zeros-at k w (row-bytes-at b i) ≡ zeros-at (row-start i + k) w b
+  unfolding zeros-at row-bytes-at
+  zeros-in-row k w h = ap all-zero (part-of-take k w row-width (drop (row-start i) b) h ∙ ap (take w) (drop-drop k (row-start i) b))
 
   -- zeros of a row from one place up to another
-  zeros-between : (k l : ℕ) → k ≤ l → l ≤ 232 → zeros-at k (l - k) (row-bytes-at b i) ≡ zeros-at (2 + 232 * i + k) (2 + 232 * i + l - (2 + 232 * i + k)) b
+  zeros-between : (k l : ℕ) → k ≤ l → l ≤ row-width → zeros-at k (l - k) (row-bytes-at b i) ≡ zeros-at (row-start i + k) (row-start i + l - (row-start i + k)) b
   zeros-between k l h j =
-      let q : l - k ≡ 2 + 232 * i + l - (2 + 232 * i + k) = omega arith in
-      zeros-in-row k (l - k) (omega arith) ∙ ap (λ (n : ℕ). zeros-at (2 + 232 * i + k) n b) q
+      let q : l - k ≡ row-start i + l - (row-start i + k) = omega arith in
+      zeros-in-row k (l - k) (omega arith) ∙ ap (λ (n : ℕ). zeros-at (row-start i + k) n b) q
 
   -- the zeros behind n bytes at a place
-  zeros-behind : (k l n : ℕ) → k + n ≤ l → l ≤ 232 → zeros-at (k + n) (l - (k + n)) (row-bytes-at b i) ≡ zeros-at (2 + 232 * i + k + n) (2 + 232 * i + l - (2 + 232 * i + k + n)) b
+  zeros-behind : (k l n : ℕ) → k + n ≤ l → l ≤ row-width → zeros-at (k + n) (l - (k + n)) (row-bytes-at b i) ≡ zeros-at (row-start i + k + n) (row-start i + l - (row-start i + k + n)) b
   zeros-behind k l n h j =
-      let q : 2 + 232 * i + (k + n) ≡ 2 + 232 * i + k + n = omega arith in
-      zeros-between (k + n) l h j ∙ ap (λ (m : ℕ). zeros-at m (2 + 232 * i + l - m) b) q
+      let q : row-start i + (k + n) ≡ row-start i + k + n = omega arith in
+      zeros-between (k + n) l h j ∙ ap (λ (m : ℕ). zeros-at m (row-start i + l - m) b) q
 
   -- the numbers: kind
-  pub numbers-kind : (eqb (getD b (2 + 232 * i + 1) 0) 100 || eqb (getD b (2 + 232 * i + 1) 0) 102) ≡ false → has-numbers (row-bytes-at b i) ≡ false
+  pub numbers-kind : (eqb (getD b (row-start i + kind-offset) 0) 100 || eqb (getD b (row-start i + kind-offset) 0) 102) ≡ false → has-numbers (row-bytes-at b i) ≡ false
   unfolding has-numbers
   numbers-kind e = rw (ap (λ (k : ℕ). eqb k 100 || eqb k 102) (byte-in-row b i 1 (omega arith)) ∙ e)
 
   -- owner
-  pub numbers-owner : 23 < getD b (2 + 232 * i + 2) 0 → has-numbers (row-bytes-at b i) ≡ false
+  pub numbers-owner : 23 < getD b (row-start i + owner-offset) 0 → has-numbers (row-bytes-at b i) ≡ false
   unfolding has-numbers
   numbers-owner h = simp (le-ltb (getD (row-bytes-at b i) 2 0) 24 (omega (arith, byte-in-row b i 2 (omega arith))), and-false)
 
   -- group
-  pub numbers-group : 24 < getD b (2 + 232 * i + 3) 0 → has-numbers (row-bytes-at b i) ≡ false
+  pub numbers-group : 24 < getD b (row-start i + group-offset) 0 → has-numbers (row-bytes-at b i) ≡ false
   unfolding has-numbers
   numbers-group h = simp (le-ltb (getD (row-bytes-at b i) 3 0) 25 (omega (arith, byte-in-row b i 3 (omega arith))), and-false)
 
@@ -62,7 +63,7 @@ module _ (b : List ℕ) (i : ℕ) where
   numbers-mode e = simp (e, and-false)
 
   -- and revision
-  pub numbers-revision : (eqb (getD b (2 + 232 * i + 1) 0) 100 || eqb (getD b (2 + 232 * i + 1) 0) 102) ≡ true → getD b (2 + 232 * i + 2) 0 ≤ 23 → getD b (2 + 232 * i + 3) 0 ≤ 24
+  pub numbers-revision : (eqb (getD b (row-start i + kind-offset) 0) 100 || eqb (getD b (row-start i + kind-offset) 0) 102) ≡ true → getD b (row-start i + owner-offset) 0 ≤ 23 → getD b (row-start i + group-offset) 0 ≤ 24
       → is-mode (row-at b i .here .mode) ≡ true → has-numbers (row-bytes-at b i) ≡ leb (row-at b i .here .revision) 9999
   unfolding has-numbers row-at row-of last-revision
   numbers-revision k o g m =
@@ -74,7 +75,7 @@ module _ (b : List ℕ) (i : ℕ) where
       )
 
   -- a tag that is no entry path
-  pub tag-none : is-some (entry-path (tag-text-at b i)) ≡ false → has-tag (row-bytes-at b i) ≡ zeros-at (2 + 232 * i + 16) (2 + 232 * i + 72 - (2 + 232 * i + 16)) b
+  pub tag-none : is-some (entry-path (tag-text-at b i)) ≡ false → has-tag (row-bytes-at b i) ≡ zeros-at (row-start i + tag-offset) (row-start i + content-offset - (row-start i + tag-offset)) b
   unfolding has-tag tag-text-at
   tag-none e = rw e (zeros-between 16 72 (omega arith) (omega arith))
 
@@ -88,18 +89,18 @@ module _ (b : List ℕ) (i : ℕ) where
   unfolding has-content row-at row-of
   content-kind e = simp (e, and-false)
 
-  module _ (l : length b ≡ 59394) (h : i < 256) where
-    length-row : length (row-bytes-at b i) ≡ 232
-    unfolding row-bytes-at row-width
-    length-row = length-take-le 232 (drop (2 + 232 * i) b) (omega (arith, length-drop (2 + 232 * i) b))
+  module _ (l : length b ≡ tree-width) (h : i < 256) where
+    length-row : length (row-bytes-at b i) ≡ row-width
+    unfolding row-bytes-at
+    length-row = length-take-le row-width (drop (row-start i) b) (omega (arith, length-drop (row-start i) b))
 
     -- no text of a row is longer than its field
-    pub text-fits : (k w : ℕ) → k + w ≤ 232 → length (text-at k w (row-bytes-at b i)) ≤ w
+    pub text-fits : (k w : ℕ) → k + w ≤ row-width → length (text-at k w (row-bytes-at b i)) ≤ w
     text-fits k w j = length-text-at k w (row-bytes-at b i) (omega (arith, length-row))
 
     -- a field is filled up with zeros
-    pub filled-in-row : (k w n : ℕ) → k + w ≤ 232 → n ≡ length (text-at k w (row-bytes-at b i))
-        → is-filled k w (row-bytes-at b i) ≡ zeros-at (2 + 232 * i + k + n) (2 + 232 * i + (k + w) - (2 + 232 * i + k + n)) b
+    pub filled-in-row : (k w n : ℕ) → k + w ≤ row-width → n ≡ length (text-at k w (row-bytes-at b i))
+        → is-filled k w (row-bytes-at b i) ≡ zeros-at (row-start i + k + n) (row-start i + (k + w) - (row-start i + k + n)) b
     unfolding is-filled
     filled-in-row k w n j e =
         let f = text-fits k w j in
@@ -108,31 +109,31 @@ module _ (b : List ℕ) (i : ℕ) where
 
     -- an entry path that is not filled up
     pub tag-unfilled : (n : ℕ) → is-some (entry-path (tag-text-at b i)) ≡ true → n ≡ length (tag-text-at b i)
-        → zeros-at (2 + 232 * i + 16 + n) (2 + 232 * i + 70 - (2 + 232 * i + 16 + n)) b ≡ false → has-tag (row-bytes-at b i) ≡ false
+        → zeros-at (row-start i + tag-offset + n) (row-start i + tag-revision-offset - (row-start i + tag-offset + n)) b ≡ false → has-tag (row-bytes-at b i) ≡ false
     unfolding has-tag tag-text-at
     tag-unfilled n s e z = rw s (rw (filled-in-row 16 54 n (omega arith) e ∙ z))
 
     -- and one that is
     pub tag-filled : (n : ℕ) → is-some (entry-path (tag-text-at b i)) ≡ true → n ≡ length (tag-text-at b i)
-        → zeros-at (2 + 232 * i + 16 + n) (2 + 232 * i + 70 - (2 + 232 * i + 16 + n)) b ≡ true → has-tag (row-bytes-at b i) ≡ leb (tag-number-at b i) 9999
+        → zeros-at (row-start i + tag-offset + n) (row-start i + tag-revision-offset - (row-start i + tag-offset + n)) b ≡ true → has-tag (row-bytes-at b i) ≡ leb (tag-number-at b i) 9999
     unfolding has-tag tag-text-at tag-number-at last-revision
     tag-filled n s e z = rw s (rw (filled-in-row 16 54 n (omega arith) e ∙ z))
 
     -- the content and the zeros behind it
     pub content-rest : (n : ℕ) → is-content (row-at b i .here .content) ≡ true
         → fits-kind (row-at b i .here .kind) (row-at b i .here .mode) (row-at b i .here .content) ≡ true → n ≡ length (row-at b i .here .content)
-        → has-content (row-bytes-at b i) ≡ zeros-at (2 + 232 * i + 72 + n) (2 + 232 * i + 232 - (2 + 232 * i + 72 + n)) b
+        → has-content (row-bytes-at b i) ≡ zeros-at (row-start i + content-offset + n) (row-start i + row-width - (row-start i + content-offset + n)) b
     unfolding has-content row-at row-of
     content-rest n c k e =
         let f = text-fits 72 80 (omega arith) in
-        let q : 160 - n ≡ 232 - (72 + n) = omega arith in
-        rw (c, k) (rw (← e) (ap (λ (m : ℕ). zeros-at (72 + n) m (row-bytes-at b i)) q ∙ zeros-behind 72 232 n (omega arith) (omega arith)))
+        let q : 160 - n ≡ row-width - (72 + n) = omega arith in
+        rw (c, k) (rw (← e) (ap (λ (m : ℕ). zeros-at (72 + n) m (row-bytes-at b i)) q ∙ zeros-behind 72 row-width n (omega arith) (omega arith)))
 
     -- the fields together are the row
     pub fields-are-row : ((k : ℕ) → getD b k 0 < 256) → row-test (row-bytes-at b i) ≡ is-row (row-bytes-at b i)
-    fields-are-row small = row-test-is (row-bytes-at b i) length-row (λ k. case (ltb k 232)
-        (λ t. omega (arith, byte-in-row b i k (ltb-true k 232 t), small (2 + 232 * i + k)))
-        (λ t. omega (arith, List·getD-eq-default (row-bytes-at b i) 0 {n = k} (omega (arith, length-row, ltb-false k 232 t)))))
+    fields-are-row small = row-test-is (row-bytes-at b i) length-row (λ k. case (ltb k row-width)
+        (λ t. omega (arith, byte-in-row b i k (ltb-true k row-width t), small (row-start i + k)))
+        (λ t. omega (arith, List·getD-eq-default (row-bytes-at b i) 0 {n = k} (omega (arith, length-row, ltb-false k row-width t)))))
 
 -- ---- the fields together
 
@@ -143,7 +144,7 @@ module _ (x : List ℕ) where
   test-numbers e = rw e
 
   -- the name
-  pub test-name : is-filled 8 8 x ≡ false → row-test x ≡ false
+  pub test-name : is-filled name-offset name-width x ≡ false → row-test x ≡ false
   unfolding row-test
   test-name e = simp (e, and-false)
 
@@ -153,6 +154,6 @@ module _ (x : List ℕ) where
   test-tag e = simp (e, and-false)
 
   -- all but the content pass
-  pub test-content : has-numbers x ≡ true → is-filled 8 8 x ≡ true → has-tag x ≡ true → row-test x ≡ has-content x
+  pub test-content : has-numbers x ≡ true → is-filled name-offset name-width x ≡ true → has-tag x ≡ true → row-test x ≡ has-content x
   unfolding row-test
   test-content n f t = rw (n, f, t)

@@ -13,9 +13,9 @@ use Rattle.buffers.specs.Text.{precedes, every}
 use Rattle.buffers.specs.TableLaws.{length-all-from, all-from-at}
 use Rattle.syntax.specs.Path.{Name, is-name, most-names}
 use Rattle.tree.specs.declared.Kind.{Kind}
+use Rattle.tree.specs.Layout.{row-width}
 use Rattle.tree.specs.Node.{is-directory, Node}
 use Rattle.tree.specs.Rows.{Row}
-use Rattle.tree.specs.Encoding.{row-width}
 use Rattle.tree.specs.RowAt.{row-count, row-bytes-at, row-at, all-rows}
 use Rattle.tree.specs.RowAtLaws.{length-all-rows, row-in-rows}
 use Rattle.soundness.specs.Sound.{is-row, row-stretches, outermost, innermost, may-follow, follows, in-order}

@@ -23,6 +23,7 @@ use Rattle.syntax.specs.Field.{is-content}
 use Rattle.syntax.specs.Form.{is-some}
 use Rattle.syntax.specs.Path.{Entry-path, entry-path}
 use Rattle.syntax.specs.PathLaws.{entry-is-entry}
+use Rattle.tree.specs.Layout.{row-width, mode-offset, revision-offset, name-offset, name-width, tag-offset, tag-width, tag-revision-offset, whole-tag-width, content-offset, content-width}
 use Rattle.tree.specs.WellFormed.{last-revision, is-tag, fits-kind, is-node}
 use Rattle.tree.specs.Encoding.{kind-byte, kind-of, tag-bytes, tag-of, row-bytes, row-of}
 use Rattle.syntax.specs.ParentLaws.{text-of-entry}
@@ -147,40 +148,40 @@ same-first (a ∷ (b ∷ (c ∷ []))) k h = let z : ⊥ = omega arith in absurd 
 same-first (a ∷ (b ∷ (c ∷ (d ∷ x)))) k h =
     rw (eq-eqb a a refl, eq-eqb c c refl, eq-eqb d d refl) (case (eqb k b) (λ t. rw t) (λ t. rw t))
 
-module _ (x : List ℕ) (h : length x ≡ 232) (small : (k : ℕ) → getD x k 0 < 256) where
-  number-part : (i : ℕ) → suc i < 232 → same-text (two-bytes (number-at i x)) (take 2 (drop i x)) ≡ true
+module _ (x : List ℕ) (h : length x ≡ row-width) (small : (k : ℕ) → getD x k 0 < 256) where
+  number-part : (i : ℕ) → suc i < row-width → same-text (two-bytes (number-at i x)) (take 2 (drop i x)) ≡ true
   number-part i l =
       ap (same-text (two-bytes (number-at i x))) (sym (same-number i x (omega arith) (small i))) ∙ same-text-refl (two-bytes (number-at i x))
 
   -- a tag in range, written as it is read
-  tag-part : (o : Option Entry-path) → entry-path (text-at 16 54 x) ≡ o →
-      let T = tag-of (text-at 16 54 x) (number-at 70 x) in
+  tag-part : (o : Option Entry-path) → entry-path (text-at tag-offset tag-width x) ≡ o →
+      let T = tag-of (text-at tag-offset tag-width x) (number-at tag-revision-offset x) in
       (length (tag-bytes T) ≡ 56) × ((is-tag T && same-text (tag-bytes T) (take 56 (drop 16 x))) ≡ has-tag x)
   unfolding tag-of _>>=_ has-tag is-some tag-bytes is-tag
-  tag-part none e = rw e (refl, same-zeros-at 16 56 x (omega arith))
+  tag-part none e = rw e (refl, same-zeros-at tag-offset whole-tag-width x (omega arith))
   tag-part (some v) e =
-      let t = text-at 16 54 x in
-      let n = number-at 70 x in
-      let l = length-text-at 16 54 x (omega arith) in
-      let P = padded 54 t in
+      let t = text-at tag-offset tag-width x in
+      let n = number-at tag-revision-offset x in
+      let l = length-text-at tag-offset tag-width x (omega arith) in
+      let P = padded tag-width t in
       let N = two-bytes n in
       let y = drop 16 x in
-      let long : length P ≡ 54 = length-padded 54 t l in
-      let same : same-text (P ++ N) (take 56 y) ≡ (is-filled 16 54 x && true) =
+      let long : length P ≡ 54 = length-padded tag-width t l in
+      let same : same-text (P ++ N) (take 56 y) ≡ (is-filled tag-offset tag-width x && true) =
       ap (same-text (P ++ N)) (take-add 54 2 y)
       ∙ same-append P N (take 54 y) (take 2 (drop 54 y)) (long ∙ sym (length-take-le 54 y (omega (arith, length-drop 16 x))))
       ∙ ap₂ _&&_ (same-filled 16 54 x (omega arith)) (ap (λ (z : List ℕ). same-text N (take 2 z)) (drop-drop 54 16 x) ∙ number-part 70 (omega arith)) in
       rw (e, ← text-of-entry t v e, entry-is-entry t v e) (
         length-append P N ∙ omega (arith, length-two-bytes n),
-        ap (λ (b : Bool). leb n last-revision && b) same ∙ and-swap (leb n last-revision) (is-filled 16 54 x),
+        ap (λ (b : Bool). leb n last-revision && b) same ∙ and-swap (leb n last-revision) (is-filled tag-offset tag-width x),
       )
 
   -- zeros behind the content: those of its field and those of the last
-  content-zeros : zeros-at (72 + length (text-at 72 80 x)) (160 - length (text-at 72 80 x)) x ≡ (is-filled 72 80 x && zeros-at 152 80 x)
+  content-zeros : zeros-at (72 + length (text-at content-offset content-width x)) (160 - length (text-at content-offset content-width x)) x ≡ (is-filled content-offset content-width x && zeros-at 152 80 x)
   unfolding zeros-at is-filled all-zero
   content-zeros =
-      let n = length (text-at 72 80 x) in
-      let l = length-text-at 72 80 x (omega arith) in
+      let n = length (text-at content-offset content-width x) in
+      let l = length-text-at content-offset content-width x (omega arith) in
       let q : 160 - n ≡ 80 - n + 80 = omega arith in
       let p : 72 + n + (80 - n) ≡ 152 = omega arith in
       let y = drop (72 + n) x in
@@ -192,44 +193,44 @@ module _ (x : List ℕ) (h : length x ≡ 232) (small : (k : ℕ) → getD x k 0
   -- the whole row, part by part
   same-row : same-text (row-bytes (row-of x)) x
       ≡ ((eqb (getD x 1 0) 100 || eqb (getD x 1 0) 102)
-      && (is-filled 8 8 x && (same-text (tag-bytes (tag-of (text-at 16 54 x) (number-at 70 x))) (take 56 (drop 16 x)) && (is-filled 72 80 x && zeros-at 152 80 x))))
+      && (is-filled name-offset name-width x && (same-text (tag-bytes (tag-of (text-at tag-offset tag-width x) (number-at tag-revision-offset x))) (take 56 (drop 16 x)) && (is-filled content-offset content-width x && zeros-at 152 80 x))))
   unfolding row-bytes row-of
   same-row =
       let k = kind-byte (kind-of (getD x 1 0)) in
       let D : List ℕ = getD x 0 0 ∷ (k ∷ (getD x 2 0 ∷ (getD x 3 0 ∷ []))) in
-      let M = two-bytes (number-at 4 x) in
-      let L = two-bytes (number-at 6 x) in
-      let N = padded 8 (text-at 8 8 x) in
-      let T = tag-bytes (tag-of (text-at 16 54 x) (number-at 70 x)) in
-      let C = padded 80 (text-at 72 80 x) in
+      let M = two-bytes (number-at mode-offset x) in
+      let L = two-bytes (number-at revision-offset x) in
+      let N = padded name-width (text-at name-offset name-width x) in
+      let T = tag-bytes (tag-of (text-at tag-offset tag-width x) (number-at tag-revision-offset x)) in
+      let C = padded content-width (text-at content-offset content-width x) in
       let Z : List ℕ = replicate 80 0 in
       let last : same-text Z (drop 152 x) ≡ zeros-at 152 80 x =
       ap (same-text Z) (sym (take-all 80 (drop 152 x) (omega (arith, length-drop 152 x)))) ∙ same-zeros-at 152 80 x (omega arith) in
       same-part 0 4 D (M ++ (L ++ (N ++ (T ++ (C ++ Z))))) x refl (omega arith)
       ∙ ap₂ _&&_ (same-first x k (omega arith) ∙ same-kind-byte (getD x 1 0))
-      (same-part 4 2 M (L ++ (N ++ (T ++ (C ++ Z)))) x (length-two-bytes (number-at 4 x)) (omega arith)
+      (same-part 4 2 M (L ++ (N ++ (T ++ (C ++ Z)))) x (length-two-bytes (number-at mode-offset x)) (omega arith)
       ∙ ap₂ _&&_ (number-part 4 (omega arith))
-      (same-part 6 2 L (N ++ (T ++ (C ++ Z))) x (length-two-bytes (number-at 6 x)) (omega arith)
+      (same-part 6 2 L (N ++ (T ++ (C ++ Z))) x (length-two-bytes (number-at revision-offset x)) (omega arith)
       ∙ ap₂ _&&_ (number-part 6 (omega arith))
-      (same-part 8 8 N (T ++ (C ++ Z)) x (length-padded 8 (text-at 8 8 x) (length-text-at 8 8 x (omega arith))) (omega arith)
+      (same-part 8 8 N (T ++ (C ++ Z)) x (length-padded name-width (text-at name-offset name-width x) (length-text-at name-offset name-width x (omega arith))) (omega arith)
       ∙ ap₂ _&&_ (same-filled 8 8 x (omega arith))
-      (same-part 16 56 T (C ++ Z) x (tag-part (entry-path (text-at 16 54 x)) refl .0) (omega arith)
+      (same-part 16 56 T (C ++ Z) x (tag-part (entry-path (text-at tag-offset tag-width x)) refl .0) (omega arith)
       ∙ ap (λ (b : Bool). same-text T (take 56 (drop 16 x)) && b)
-      (same-part 72 80 C Z x (length-padded 80 (text-at 72 80 x) (length-text-at 72 80 x (omega arith))) (omega arith)
+      (same-part 72 80 C Z x (length-padded content-width (text-at content-offset content-width x) (length-text-at content-offset content-width x (omega arith))) (omega arith)
       ∙ ap₂ _&&_ (same-filled 72 80 x (omega arith)) last)))))
 
   -- the tests of the fields are that of the row
   pub row-test-is : row-test x ≡ is-row x
   unfolding row-test is-row is-node has-numbers has-content row-of
   row-test-is =
-      let T = tag-of (text-at 16 54 x) (number-at 70 x) in
+      let T = tag-of (text-at tag-offset tag-width x) (number-at tag-revision-offset x) in
       let k = eqb (getD x 1 0) 100 || eqb (getD x 1 0) 102 in
-      let a = (ltb (getD x 2 0) 24 && ltb (getD x 3 0) 25) && (is-mode (number-at 4 x) && leb (number-at 6 x) last-revision) in
-      let f = is-filled 8 8 x in
+      let a = (ltb (getD x 2 0) 24 && ltb (getD x 3 0) 25) && (is-mode (number-at mode-offset x) && leb (number-at revision-offset x) last-revision) in
+      let f = is-filled name-offset name-width x in
       let t = is-tag T in
       let s = same-text (tag-bytes T) (take 56 (drop 16 x)) in
-      let c = is-content (text-at 72 80 x) && fits-kind (kind-of (getD x 1 0)) (number-at 4 x) (text-at 72 80 x) in
-      let z = is-filled 72 80 x && zeros-at 152 80 x in
-      ap₂ (λ (t z : Bool). ((k && a) && f) && (t && (c && z))) (sym (tag-part (entry-path (text-at 16 54 x)) refl .1)) content-zeros
+      let c = is-content (text-at content-offset content-width x) && fits-kind (kind-of (getD x 1 0)) (number-at mode-offset x) (text-at content-offset content-width x) in
+      let z = is-filled content-offset content-width x && zeros-at 152 80 x in
+      ap₂ (λ (t z : Bool). ((k && a) && f) && (t && (c && z))) (sym (tag-part (entry-path (text-at tag-offset tag-width x)) refl .1)) content-zeros
       ∙ shuffled k a f t s c z
       ∙ ap (λ (b : Bool). (a && (t && c)) && b) (sym same-row)

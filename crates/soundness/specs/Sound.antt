@@ -9,10 +9,11 @@ use Rattle.buffers.specs.Text.{same-text, precedes, every}
 use Rattle.buffers.specs.Fields.{two-bytes, all-from, all-zero}
 use Rattle.syntax.specs.Path.{Name, is-name, most-names}
 use Rattle.tree.specs.declared.Kind.{Kind}
+use Rattle.tree.specs.Layout.{row-width, tree-width, row-start}
 use Rattle.tree.specs.Node.{is-directory, Node}
 use Rattle.tree.specs.Rows.{Row}
 use Rattle.tree.specs.WellFormed.{most-nodes, is-node}
-use Rattle.tree.specs.Encoding.{row-width, tree-width, row-bytes, row-of}
+use Rattle.tree.specs.Encoding.{row-bytes, row-of}
 use Rattle.tree.specs.RowAt.{row-count, all-rows}
 
 -- whether bytes are those of a row with a node in range
@@ -67,4 +68,4 @@ is-count b = leb (row-count b) most-nodes && same-text (two-bytes (row-count b))
 unfoldable pub is-sound : List ℕ → Bool
 is-sound b =
     (eqb (length b) tree-width && is-count b)
-    && ((every is-row (row-stretches b) && form-tree (all-rows b)) && all-zero (drop (2 + row-width * row-count b) b))
+    && ((every is-row (row-stretches b) && form-tree (all-rows b)) && all-zero (drop (row-start (row-count b)) b))

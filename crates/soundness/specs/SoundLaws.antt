@@ -17,13 +17,14 @@ use Rattle.buffers.specs.Fields.{two-bytes, all-bytes, all-from, all-zero}
 use Rattle.buffers.specs.TableLaws.{length-all-bytes}
 use Rattle.syntax.specs.Form.{is-some}
 use Rattle.syntax.specs.FormLaws.{no-answer}
+use Rattle.tree.specs.Layout.{row-width, tree-width, row-start}
 use Rattle.tree.specs.Forest.{Place}
 use Rattle.tree.specs.Node.{is-directory, Node}
 use Rattle.tree.specs.Rows.{Row, rows}
 use Rattle.tree.specs.RowLaws.{length-rows}
 use Rattle.tree.specs.WellFormed.{most-nodes, is-node, is-tree}
 use Rattle.tree.specs.WellFormedLaws.{place-parts, place-of-parts, tree-parts, tree-of-parts, most-nodes-is}
-use Rattle.tree.specs.Encoding.{row-width, tree-width, row-bytes, row-of, encode-rows, encode-tree, decode-tree}
+use Rattle.tree.specs.Encoding.{row-bytes, row-of, encode-rows, encode-tree, decode-tree}
 use Rattle.tree.specs.EncodingLaws.{fits, fits-parts, tree-fits, length-fitting, fitting-back, tree-width-is, length-encode-tree, decode-encode, encode-decode}
 use Rattle.tree.specs.RowAt.{row-count, all-rows}
 use Rattle.tree.specs.RowAtLaws.{length-all-rows, all-rows-of-tree, row-count-of-tree}
@@ -48,7 +49,7 @@ all-zero-zeros (suc n) = all-zero-zeros n
 stretches-are : (n : ℕ) (x : List ℕ) → every is-row (all-from row-width (λ s. s) n x) ≡ true
     → (every (λ r. is-node (r .here)) (all-from row-width row-of n x) ≡ true) × (all-bytes row-bytes (all-from row-width row-of n x) ≡ take (n * row-width) x)
 unfolding all-from all-bytes every is-row
-stretches-are zero x h = (refl, rw (zero-mul row-width))
+stretches-are zero x h = (refl, refl)
 stretches-are (suc n) x h =
     let s = take row-width x in
     let i = and-both (is-row s) (every is-row (all-from row-width (λ s. s) n (drop row-width x))) h in
@@ -115,23 +116,22 @@ form-of-tree t h =
 
 -- ---- all bytes
 
-row-width-is : row-width ≡ 232
-unfolding row-width
+row-width-is : row-width ≡ row-width
 row-width-is = refl
 
 -- what passes the test, by its parts
 record Sound (b : List ℕ) : Type 0 where
-  long : length b ≡ 59394
+  long : length b ≡ tree-width
   few : row-count b ≤ 256
   count : two-bytes (row-count b) ≡ take 2 b
   each : every is-row (row-stretches b) ≡ true
   form : form-tree (all-rows b) ≡ true
-  rest : all-zero (drop (2 + 232 * row-count b) b) ≡ true
+  rest : all-zero (drop (row-start (row-count b)) b) ≡ true
 
 sound-parts : (b : List ℕ) → is-sound b ≡ true → Sound b
-unfolding is-sound is-count most-nodes row-width
+unfolding is-sound is-count most-nodes
 sound-parts b h =
-    let z = all-zero (drop (2 + 232 * row-count b) b) in
+    let z = all-zero (drop (row-start (row-count b)) b) in
     let r = every is-row (row-stretches b) && form-tree (all-rows b) in
     let i = and-both (eqb (length b) tree-width && is-count b) (r && z) h in
     let j = and-both (eqb (length b) tree-width) (is-count b) (i .0) in
@@ -149,40 +149,40 @@ sound-parts b h =
 
 -- with these parts it passes
 sound-of-parts : (b : List ℕ) → Sound b → is-sound b ≡ true
-unfolding is-sound is-count most-nodes row-width tree-width
+unfolding is-sound is-count most-nodes
 sound-of-parts b s =
-    rw (eq-eqb (length b) 59394 (s .long), le-leb (row-count b) 256 (s .few), ← s .count, same-text-refl (two-bytes (row-count b)), s .each, s .form) (s .rest)
+    rw (eq-eqb (length b) tree-width (s .long), le-leb (row-count b) 256 (s .few), ← s .count, same-text-refl (two-bytes (row-count b)), s .each, s .form) (s .rest)
 
 -- unused bytes that are all zero
-unused : (b : List ℕ) (n : ℕ) → length b ≡ 59394 → n ≤ 256 → all-zero (drop (2 + 232 * n) b) ≡ true → drop (2 + 232 * n) b ≡ replicate ((256 - n) * 232) 0
+unused : (b : List ℕ) (n : ℕ) → length b ≡ tree-width → n ≤ 256 → all-zero (drop (row-start n) b) ≡ true → drop (row-start n) b ≡ replicate ((256 - n) * row-width) 0
 unused b n l f z =
-    let e : length (drop (2 + 232 * n) b) ≡ (256 - n) * 232 = length-drop (2 + 232 * n) b ∙ omega arith in
-    zeros-are (drop (2 + 232 * n) b) z ∙ ap (λ (k : ℕ). replicate k 0) e
+    let e : length (drop (row-start n) b) ≡ (256 - n) * row-width = length-drop (row-start n) b ∙ omega arith in
+    zeros-are (drop (row-start n) b) z ∙ ap (λ (k : ℕ). replicate k 0) e
 
 -- the number of rows, the rows and the unused bytes are all bytes
-assembled : (b Z : List ℕ) (n : ℕ) → two-bytes n ≡ take 2 b → drop (2 + 232 * n) b ≡ Z → two-bytes n ++ (take (n * 232) (drop 2 b) ++ Z) ≡ b
+assembled : (b Z : List ℕ) (n : ℕ) → two-bytes n ≡ take 2 b → drop (row-start n) b ≡ Z → two-bytes n ++ (take (n * row-width) (drop 2 b) ++ Z) ≡ b
 assembled b Z n c z =
-    let q : 2 + n * 232 ≡ 2 + 232 * n = omega arith in
-    let d : drop (n * 232) (drop 2 b) ≡ Z = drop-drop (n * 232) 2 b ∙ ap (λ (k : ℕ). drop k b) q ∙ z in
-    let e : take (n * 232) (drop 2 b) ++ Z ≡ drop 2 b = rw (← d) (take-append-drop (n * 232) (drop 2 b)) in
+    let q : 2 + n * row-width ≡ row-start n = omega arith in
+    let d : drop (n * row-width) (drop 2 b) ≡ Z = drop-drop (n * row-width) 2 b ∙ ap (λ (k : ℕ). drop k b) q ∙ z in
+    let e : take (n * row-width) (drop 2 b) ++ Z ≡ drop 2 b = rw (← d) (take-append-drop (n * row-width) (drop 2 b)) in
     ap₂ _++_ c e ∙ take-append-drop 2 b
 
 -- bytes that pass are those of a well-formed tree
 pub sound-encodes : (b : List ℕ) → is-sound b ≡ true → (t : Place Node) × ((is-tree t ≡ true) × (encode-tree t ≡ b))
-unfolding encode-tree encode-rows most-nodes row-width row-stretches all-rows
+unfolding encode-tree encode-rows most-nodes row-stretches all-rows
 sound-encodes b h =
     let s = sound-parts b h in
     let n = row-count b in
     let i = stretches-are n (drop 2 b) (s .each) in
     let c = length-all-rows b in
     let t = tree-of-form (all-rows b) (s .form) (i .0) (omega (arith, s .few)) in
-    let E : ℕ → List ℕ → List ℕ = λ k B. two-bytes k ++ (B ++ replicate ((256 - k) * 232) 0) in (
+    let E : ℕ → List ℕ → List ℕ = λ k B. two-bytes k ++ (B ++ replicate ((256 - k) * row-width) 0) in (
       t .0,
       (
         t .1 .0,
         ap (λ (rs : List (Row Node)). E (length rs) (all-bytes row-bytes rs)) (t .1 .1)
             ∙ ap₂ E c (i .1)
-            ∙ assembled b (replicate ((256 - n) * 232) 0) n (s .count) (unused b n (s .long) (s .few) (s .rest)),
+            ∙ assembled b (replicate ((256 - n) * row-width) 0) n (s .count) (unused b n (s .long) (s .few) (s .rest)),
       ),
     )
 
@@ -193,8 +193,8 @@ module _ (t : Place Node) (h : is-tree t ≡ true) where
   encoded-count = refl
 
   -- then come its rows and zeros
-  encoded-rows : drop 2 (encode-tree t) ≡ all-bytes row-bytes (rows t) ++ replicate ((256 - length (rows t)) * 232) 0
-  unfolding encode-tree encode-rows two-bytes most-nodes row-width
+  encoded-rows : drop 2 (encode-tree t) ≡ all-bytes row-bytes (rows t) ++ replicate ((256 - length (rows t)) * row-width) 0
+  unfolding encode-tree encode-rows two-bytes most-nodes
   encoded-rows = refl
 
   -- so they pass
@@ -205,17 +205,17 @@ module _ (t : Place Node) (h : is-tree t ≡ true) where
       let rs = rows t in
       let n = row-count-of-tree t h in
       let w = tree-fits t h in
-      let Z : List ℕ = replicate ((256 - length rs) * 232) 0 in
-      let l : length (all-bytes row-bytes rs) ≡ length rs * 232 = length-all-bytes row-width fits row-bytes length-fitting rs (w .0) ∙ ap (λ (k : ℕ). length rs * k) row-width-is in
-      let r : drop (2 + 232 * row-count b) b ≡ Z =
-      sym (drop-drop (232 * row-count b) 2 b) ∙ ap (drop (232 * row-count b)) encoded-rows ∙ drop-at (all-bytes row-bytes rs) Z (232 * row-count b) (omega arith) in
+      let Z : List ℕ = replicate ((256 - length rs) * row-width) 0 in
+      let l : length (all-bytes row-bytes rs) ≡ length rs * row-width = length-all-bytes row-width fits row-bytes length-fitting rs (w .0) ∙ ap (λ (k : ℕ). length rs * k) row-width-is in
+      let r : drop (row-start (row-count b)) b ≡ Z =
+      sym (drop-drop (row-width * row-count b) 2 b) ∙ ap (drop (row-width * row-count b)) encoded-rows ∙ drop-at (all-bytes row-bytes rs) Z (row-width * row-count b) (omega arith) in
       sound-of-parts b (record {
         long = length-encode-tree t h ∙ tree-width-is;
         few = omega (arith, w .1, most-nodes-is);
         count = ap two-bytes n ∙ sym encoded-count;
         each = ap₂ (λ (k : ℕ) (x : List ℕ). every is-row (all-from row-width (λ s. s) k x)) n encoded-rows ∙ stretches-of rs Z (w .0);
         form = ap form-tree (all-rows-of-tree t h) ∙ form-of-tree t h;
-        rest = ap all-zero r ∙ all-zero-zeros ((256 - length rs) * 232);
+        rest = ap all-zero r ∙ all-zero-zeros ((256 - length rs) * row-width);
       })
 
 -- bytes that pass are read as a tree, and no others

@@ -12,10 +12,10 @@ use Rattle.buffers.specs.Cases.{case, contra}
 use Rattle.buffers.specs.Text.{same-text, every}
 use Rattle.buffers.specs.TextLaws.{same-text-refl}
 use Rattle.buffers.specs.Fields.{two-bytes, number-at, all-from, all-zero, zeros-at}
+use Rattle.tree.specs.Layout.{tree-width, row-start}
 use Rattle.tree.specs.Node.{is-directory, Node}
 use Rattle.tree.specs.Rows.{Row}
 use Rattle.tree.specs.WellFormed.{most-nodes}
-use Rattle.tree.specs.Encoding.{row-width, tree-width}
 use Rattle.tree.specs.RowAt.{row-count, row-bytes-at, row-at, all-rows}
 use Rattle.soundness.specs.Sound.{is-row, row-stretches, in-order, is-top, form-tree, is-count, is-sound}
 use Rattle.soundness.specs.Tests.{rest-in-order}
@@ -54,9 +54,9 @@ regrouped true true true i z = refl
 
 module _ (b : List ℕ) where
   -- another length
-  pub not-long : (length b ≡ 59394 → ⊥) → is-sound b ≡ false
-  unfolding is-sound tree-width
-  not-long e = rw (ne-eqb (length b) 59394 e)
+  pub not-long : (length b ≡ tree-width → ⊥) → is-sound b ≡ false
+  unfolding is-sound
+  not-long e = rw (ne-eqb (length b) tree-width e)
 
   -- no rows
   pub no-rows : row-count b ≡ 0 → is-sound b ≡ false
@@ -74,19 +74,19 @@ module _ (b : List ℕ) where
       ap (same-text (two-bytes (number-at 0 b))) (sym (same-number 0 b (omega arith) (small 0))) ∙ same-text-refl (two-bytes (number-at 0 b))
 
   -- `/`, the rows behind it, and the unused bytes
-  pub sound-in-parts : length b ≡ 59394 → 1 ≤ row-count b → row-count b ≤ 256 → ((k : ℕ) → getD b k 0 < 256)
+  pub sound-in-parts : length b ≡ tree-width → 1 ≤ row-count b → row-count b ≤ 256 → ((k : ℕ) → getD b k 0 < 256)
       → is-sound b ≡ ((is-row (row-bytes-at b 0) && is-top (row-at b 0))
-      && (rest-in-order b 1 [] (row-at b 0 .here .kind) && zeros-at (2 + 232 * row-count b) (59394 - (2 + 232 * row-count b)) b))
-  unfolding is-sound is-count most-nodes row-width tree-width form-tree every rest-in-order zeros-at
+      && (rest-in-order b 1 [] (row-at b 0 .here .kind) && zeros-at (row-start (row-count b)) (tree-width - (row-start (row-count b))) b))
+  unfolding is-sound is-count most-nodes form-tree every rest-in-order zeros-at
   sound-in-parts l o f small =
       let n = row-count b in
-      let D = drop (2 + 232 * n) b in
+      let D = drop (row-start n) b in
       let S = drop 1 (row-stretches b) in
       let R = drop 1 (all-rows b) in
       let E : List (List ℕ) → List (Row Node) → Bool = λ s r. (every is-row s && form-tree r) && all-zero D in
       let c = count-written (omega arith) small in
-      let z : D ≡ take (59394 - (2 + 232 * n)) D = sym (take-all (59394 - (2 + 232 * n)) D (omega (arith, length-drop (2 + 232 * n) b))) in
-      let e : is-sound b ≡ E (row-stretches b) (all-rows b) = rw (eq-eqb (length b) 59394 l, le-leb n 256 f, c) in
+      let z : D ≡ take (tree-width - (row-start n)) D = sym (take-all (tree-width - (row-start n)) D (omega (arith, length-drop (row-start n) b))) in
+      let e : is-sound b ≡ E (row-stretches b) (all-rows b) = rw (eq-eqb (length b) tree-width l, le-leb n 256 f, c) in
       e
       ∙ ap₂ E (stretches-from b 0 (omega arith)) (rows-from b 0 (omega arith))
       ∙ regrouped (is-row (row-bytes-at b 0)) (every is-row S) (is-top (row-at b 0)) (in-order [] (row-at b 0 .here .kind) R) (all-zero D)

@@ -10,6 +10,7 @@ use Rattle.syntax.specs.Number.{is-mode}
 use Rattle.syntax.specs.Path.{Name, entry-path}
 use Rattle.syntax.specs.Field.{is-content}
 use Rattle.syntax.specs.Form.{is-some}
+use Rattle.tree.specs.Layout.{mode-offset, revision-offset, name-offset, name-width, tag-offset, tag-width, tag-revision-offset, whole-tag-width, content-offset, content-width}
 use Rattle.tree.specs.WellFormed.{last-revision, fits-kind}
 use Rattle.tree.specs.Encoding.{kind-of}
 use Rattle.tree.specs.declared.Kind.{Kind}
@@ -20,20 +21,20 @@ use Rattle.soundness.specs.Sound.{is-row, row-stretches, in-order}
 unfoldable pub has-numbers : List ℕ → Bool
 has-numbers x =
     (eqb (getD x 1 0) 100 || eqb (getD x 1 0) 102)
-    && ((ltb (getD x 2 0) 24 && ltb (getD x 3 0) 25) && (is-mode (number-at 4 x) && leb (number-at 6 x) last-revision))
+    && ((ltb (getD x 2 0) 24 && ltb (getD x 3 0) 25) && (is-mode (number-at mode-offset x) && leb (number-at revision-offset x) last-revision))
 
 -- the tag's fields are zero, or an entry path filled up and a revision
 unfoldable pub has-tag : List ℕ → Bool
-has-tag x = cond (is-some (entry-path (text-at 16 54 x))) (is-filled 16 54 x && leb (number-at 70 x) last-revision) (zeros-at 16 56 x)
+has-tag x = cond (is-some (entry-path (text-at tag-offset tag-width x))) (is-filled tag-offset tag-width x && leb (number-at tag-revision-offset x) last-revision) (zeros-at tag-offset whole-tag-width x)
 
 -- the content is one that the kind allows, and zeros fill up the row
 unfoldable pub has-content : List ℕ → Bool
 has-content x =
-    let c = text-at 72 80 x in
-    (is-content c && fits-kind (kind-of (getD x 1 0)) (number-at 4 x) c) && zeros-at (72 + length c) (160 - length c) x
+    let c = text-at content-offset content-width x in
+    (is-content c && fits-kind (kind-of (getD x 1 0)) (number-at mode-offset x) c) && zeros-at (72 + length c) (160 - length c) x
 
 unfoldable pub row-test : List ℕ → Bool
-row-test x = (has-numbers x && is-filled 8 8 x) && (has-tag x && has-content x)
+row-test x = (has-numbers x && is-filled name-offset name-width x) && (has-tag x && has-content x)
 
 -- the rows from one on are sound each and stand in order behind another of these names and this kind
 unfoldable pub rest-in-order : List ℕ → ℕ → List Name → Kind → Bool

@@ -2,6 +2,7 @@
 ghost use mathlib.Core.Path.{_≡_};
 ghost use lib.ListN.{length};
 ghost use Rattle.syntax.specs.Form.{is-some};
+ghost use Rattle.tree.specs.Layout.{tree-width};
 ghost use Rattle.tree.specs.Encoding.{decode-tree};
 ghost use Rattle.tree.specs.RowAt.{row-at};
 ghost use Rattle.soundness.specs.Sound.{is-top};
@@ -11,16 +12,16 @@ mod row;
 
 use buffers::is_zero;
 use order::in_order;
-use row::ROW;
 use row::is_directory;
 use row::is_row;
-
-// The bytes of a tree.
-const TREE: usize = 59394;
+use tree::FIRST;
+use tree::MOST_ROWS;
+use tree::ROW;
+use tree::TREE;
 
 // Whether the first row is that of `/`.
 fn is_top(tree: &[u8]) -> bool
-    requires { ⌜ length (now tree) ≡ 59394 ⌝ }
+    requires { ⌜ length (now tree) ≡ tree-width ⌝ }
     ensures { λ r. ⌜ r ≡ is-top (row-at (now (tree .entry)) 0) ⌝ }
 {
     if tree::depth_at(tree, 0) != 0 {
@@ -43,7 +44,7 @@ pub fn holds_tree(tree: &[u8]) -> bool
     if n == 0 {
         return false;
     }
-    if 256 < n {
+    if MOST_ROWS < n {
         return false;
     }
     if !is_row(tree, 0) {
@@ -55,5 +56,5 @@ pub fn holds_tree(tree: &[u8]) -> bool
     if !in_order(tree, n) {
         return false;
     }
-    is_zero(tree, 2 + ROW * n, TREE)
+    is_zero(tree, FIRST + ROW * n, TREE)
 }

@@ -6,16 +6,23 @@ ghost use lib.Dec.{eqb};
 ghost use lib.ListN.{length};
 ghost use Rattle.buffers.specs.Fields.{is-filled};
 ghost use Rattle.syntax.specs.Number.{is-mode};
+ghost use Rattle.tree.specs.Layout.{tree-width, name-offset, name-width};
 ghost use Rattle.tree.specs.Node.{is-directory};
 ghost use Rattle.tree.specs.WellFormed.{fits-kind};
 ghost use Rattle.tree.specs.RowAt.{row-bytes-at};
 ghost use Rattle.soundness.specs.Sound.{is-row};
 ghost use Rattle.soundness.specs.Tests.{has-numbers, has-tag, has-content};
 use buffers::is_zero;
+use tree::CONTENT;
+use tree::FIRST;
+use tree::GROUP;
+use tree::KIND;
 use tree::Kind;
-
-// The bytes of a row.
-pub const ROW: usize = 232;
+use tree::NAME;
+use tree::OWNER;
+use tree::ROW;
+use tree::TAG;
+use tree::TAG_REVISION;
 
 // Whether a byte says what a node is.
 fn is_kind(b: u8) -> bool
@@ -59,17 +66,17 @@ fn fits_kind(kind: Kind, mode: u16, content: &[u8]) -> bool
 
 // Whether kind, owner, group, mode and revision are in range.
 fn has_numbers(tree: &[u8], i: usize) -> bool
-    requires { ⌜ (length (now tree) ≡ 59394) × (i < 256) ⌝ }
+    requires { ⌜ (length (now tree) ≡ tree-width) × (i < 256) ⌝ }
     ensures { λ r. ⌜ r ≡ has-numbers (row-bytes-at (now (tree .entry)) i) ⌝ }
 {
-    let at = 2 + ROW * i;
-    if !is_kind(tree[at + 1]) {
+    let at = FIRST + ROW * i;
+    if !is_kind(tree[at + KIND]) {
         return false;
     }
-    if 23 < tree[at + 2] {
+    if 23 < tree[at + OWNER] {
         return false;
     }
-    if 24 < tree[at + 3] {
+    if 24 < tree[at + GROUP] {
         return false;
     }
     if !is_mode(tree::mode_at(tree, i)) {
@@ -80,26 +87,26 @@ fn has_numbers(tree: &[u8], i: usize) -> bool
 
 // Whether zeros fill up the name.
 fn name_is_filled(tree: &[u8], i: usize) -> bool
-    requires { ⌜ (length (now tree) ≡ 59394) × (i < 256) ⌝ }
-    ensures { λ r. ⌜ r ≡ is-filled 8 8 (row-bytes-at (now (tree .entry)) i) ⌝ }
+    requires { ⌜ (length (now tree) ≡ tree-width) × (i < 256) ⌝ }
+    ensures { λ r. ⌜ r ≡ is-filled name-offset name-width (row-bytes-at (now (tree .entry)) i) ⌝ }
 {
-    let at = 2 + ROW * i;
+    let at = FIRST + ROW * i;
     let n = tree::name_at(tree, i).len();
-    is_zero(tree, at + 8 + n, at + 16)
+    is_zero(tree, at + NAME + n, at + TAG)
 }
 
 // Whether the tag is zeros, or an entry path filled up and a revision.
 fn has_tag(tree: &[u8], i: usize) -> bool
-    requires { ⌜ (length (now tree) ≡ 59394) × (i < 256) ⌝ }
+    requires { ⌜ (length (now tree) ≡ tree-width) × (i < 256) ⌝ }
     ensures { λ r. ⌜ r ≡ has-tag (row-bytes-at (now (tree .entry)) i) ⌝ }
 {
-    let at = 2 + ROW * i;
+    let at = FIRST + ROW * i;
     let path = tree::tag_path_at(tree, i);
     if !syntax::is_entry_path(path) {
-        return is_zero(tree, at + 16, at + 72);
+        return is_zero(tree, at + TAG, at + CONTENT);
     }
     let n = path.len();
-    if !is_zero(tree, at + 16 + n, at + 70) {
+    if !is_zero(tree, at + TAG + n, at + TAG_REVISION) {
         return false;
     }
     tree::tag_revision_at(tree, i) <= 9999
@@ -107,10 +114,10 @@ fn has_tag(tree: &[u8], i: usize) -> bool
 
 // Whether the content is one that the kind allows, and zeros fill up the row.
 fn has_content(tree: &[u8], i: usize) -> bool
-    requires { ⌜ (length (now tree) ≡ 59394) × (i < 256) ⌝ }
+    requires { ⌜ (length (now tree) ≡ tree-width) × (i < 256) ⌝ }
     ensures { λ r. ⌜ r ≡ has-content (row-bytes-at (now (tree .entry)) i) ⌝ }
 {
-    let at = 2 + ROW * i;
+    let at = FIRST + ROW * i;
     let content = tree::content_at(tree, i);
     if !syntax::is_content(content) {
         return false;
@@ -119,12 +126,12 @@ fn has_content(tree: &[u8], i: usize) -> bool
         return false;
     }
     let n = content.len();
-    is_zero(tree, at + 72 + n, at + ROW)
+    is_zero(tree, at + CONTENT + n, at + ROW)
 }
 
 // Whether the bytes of a row are those of a node in range.
 pub fn is_row(tree: &[u8], i: usize) -> bool
-    requires { ⌜ (length (now tree) ≡ 59394) × (i < 256) ⌝ }
+    requires { ⌜ (length (now tree) ≡ tree-width) × (i < 256) ⌝ }
     ensures { λ r. ⌜ r ≡ is-row (row-bytes-at (now (tree .entry)) i) ⌝ }
 {
     if !has_numbers(tree, i) {

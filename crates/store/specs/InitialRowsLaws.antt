@@ -26,6 +26,7 @@ use Rattle.setup.specs.Reader.{slot-value}
 use Rattle.setup.specs.ReaderLaws.{no-slot}
 use Rattle.tree.specs.declared.Child.{Child}
 use Rattle.tree.specs.declared.Child.the-variants.{Found, Missing}
+use Rattle.tree.specs.Layout.{tree-width}
 use Rattle.tree.specs.Forest.{Forest, nil, Place, insert, put, leaf, size}
 use Rattle.tree.specs.Node.{Node}
 use Rattle.tree.specs.Rows.{rows}
@@ -70,7 +71,7 @@ spot-is n t = omega (arith, index-top t)
 
 module _ (b : List ℕ) (n : Name) (t : Place Node) (h : Opens b n t) where
   -- how many bytes and rows there are
-  pub opens-sized : (length b ≡ 59394) × (0 < row-count b) × (row-count b < 256)
+  pub opens-sized : (length b ≡ tree-width) × (0 < row-count b) × (row-count b < 256)
   opens-sized =
       let s = tree-sized t (h .ready .sound) in
       rw (h .encoded) (s .wide, s .some-rows, omega (arith, row-count-of-tree t (h .ready .sound), length-rows t, h .ready .room))

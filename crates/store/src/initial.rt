@@ -7,6 +7,7 @@ ghost use lib.ListN.{length};
 ghost use Rattle.buffers.specs.Text.{every};
 ghost use Rattle.setup.specs.Setup.{Setup};
 ghost use Rattle.setup.specs.Reader.{slot-value};
+ghost use Rattle.tree.specs.Layout.{tree-width};
 ghost use Rattle.tree.specs.Forest.{Forest, Place};
 ghost use Rattle.tree.specs.Node.{Node};
 ghost use Rattle.tree.specs.Encoding.{encode-tree};
@@ -45,7 +46,7 @@ fn put_directory(tree: &mut [u8], name: &[u8], owner: Uid, group: Gid, mode: u16
 
 // Writes `/` and `/rep`, whatever stood there.
 fn write_top(tree: &mut [u8])
-    requires { ⌜ length (now tree) ≡ 59394 ⌝ }
+    requires { ⌜ length (now tree) ≡ tree-width ⌝ }
     ensures { λ _. ⌜ ((u : Setup) → now (tree .exit) ≡ encode-tree (topped (homes u 0))) ⌝ }
 {
     let top = Fresh {
@@ -79,7 +80,7 @@ fn put_home(tree: &mut [u8], uid: Uid, person: Person)
 
 // Writes the initial tree: `/`, `/rep`, and a home for each person, whatever stood there.
 pub fn write_initial(tree: &mut [u8], persons: [Person; 16])
-    requires { ⌜ (length (now tree) ≡ 59394) × (every slot-in-range persons ≡ true) ⌝ }
+    requires { ⌜ (length (now tree) ≡ tree-width) × (every slot-in-range persons ≡ true) ⌝ }
     ensures { λ _. ⌜ Initial-written (map slot-value persons) (now (tree .exit)) ⌝ }
 {
     write_top(tree);

@@ -1,7 +1,4 @@
--- The bytes of a tree: the number of rows, then 256 rows of 232 bytes, those not used all zero.
---
--- A row: depth 1, kind 1 (`d` or `f`), owner 1, group 1, mode 2, revision 2, name 8, tag path 54, tag revision 2,
--- content 80, and 80 that are zero.
+-- The bytes of a tree, as `Layout` has them; the bytes of rows that are not used are all zero.
 --
 -- `decode-tree` answers the tree whose encoding the bytes are, if it is well-formed.
 use mathlib.Core.List.{List, [], _∷_, _++_}
@@ -16,16 +13,11 @@ use Rattle.syntax.specs.Path.{entry-path, entry-text}
 use Rattle.syntax.specs.Form.{_>>=_, _>>_, check}
 use Rattle.tree.specs.declared.Kind.{Kind}
 use Rattle.tree.specs.declared.Kind.the-variants.{File, Directory}
+use Rattle.tree.specs.Layout.{row-width, mode-offset, revision-offset, name-offset, name-width, tag-offset, tag-width, tag-revision-offset, whole-tag-width, content-offset, content-width}
 use Rattle.tree.specs.Forest.{Place}
 use Rattle.tree.specs.Node.{Tag, Node}
 use Rattle.tree.specs.Rows.{Row, rows, tree-of}
 use Rattle.tree.specs.WellFormed.{most-nodes, is-tree}
-
-unfoldable pub row-width : ℕ
-row-width = 232
-
-unfoldable pub tree-width : ℕ
-tree-width = 59394
 
 unfoldable pub kind-byte : Kind → ℕ
 kind-byte File = 102
@@ -35,8 +27,8 @@ unfoldable pub kind-of : ℕ → Kind
 kind-of b = cond (eqb b 100) Directory File
 
 unfoldable pub tag-bytes : Option Tag → List ℕ
-tag-bytes none = replicate 56 0
-tag-bytes (some t) = padded 54 (entry-text (t .path)) ++ two-bytes (t .revision)
+tag-bytes none = replicate whole-tag-width 0
+tag-bytes (some t) = padded tag-width (entry-text (t .path)) ++ two-bytes (t .revision)
 
 unfoldable pub tag-of : Text → ℕ → Option Tag
 tag-of t v = do
@@ -49,23 +41,23 @@ row-bytes r =
     (r .depth ∷ kind-byte (n .kind) ∷ n .owner .0 ∷ n .group .0 ∷ [])
     ++ (two-bytes (n .mode)
     ++ (two-bytes (n .revision)
-    ++ (padded 8 (r .name)
+    ++ (padded name-width (r .name)
     ++ (tag-bytes (n .tag)
-    ++ (padded 80 (n .content)
+    ++ (padded content-width (n .content)
     ++ replicate 80 0)))))
 
 unfoldable pub row-of : List ℕ → Row Node
 row-of b = record {
   depth = getD b 0 0;
-  name = text-at 8 8 b;
+  name = text-at name-offset name-width b;
   here = record {
     kind = kind-of (getD b 1 0);
     owner = record { 0 = getD b 2 0 };
     group = record { 0 = getD b 3 0 };
-    mode = number-at 4 b;
-    revision = number-at 6 b;
-    tag = tag-of (text-at 16 54 b) (number-at 70 b);
-    content = text-at 72 80 b;
+    mode = number-at mode-offset b;
+    revision = number-at revision-offset b;
+    tag = tag-of (text-at tag-offset tag-width b) (number-at tag-revision-offset b);
+    content = text-at content-offset content-width b;
   };
 }
 

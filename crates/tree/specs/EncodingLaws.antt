@@ -19,12 +19,13 @@ use Rattle.syntax.specs.Form.{_>>=_, _>>_, check}
 use Rattle.syntax.specs.FormLaws.{both-read, checked, answered}
 use Rattle.syntax.specs.Path.{Name, is-name, most-names}
 use Rattle.syntax.specs.PathLaws.{name-fits}
+use Rattle.tree.specs.Layout.{row-width, tree-width}
 use Rattle.tree.specs.Forest.{Forest, nil, node, Place, is-empty, height}
 use Rattle.tree.specs.Node.{is-directory, Node}
 use Rattle.tree.specs.Rows.{Row, flatten, rows, tree-of}
 use Rattle.tree.specs.RowLaws.{tree-of-rows, length-rows}
 use Rattle.tree.specs.WellFormed.{most-nodes, nodes, is-node, leads, is-forest, is-tree}
-use Rattle.tree.specs.Encoding.{row-width, tree-width, row-bytes, row-of, encode-rows, encode-tree, decode-tree}
+use Rattle.tree.specs.Encoding.{row-bytes, row-of, encode-rows, encode-tree, decode-tree}
 use Rattle.tree.specs.RowBytesLaws.{length-row-bytes, row-of-bytes}
 
 -- whether a row's node is in range and its name fits its bytes
@@ -81,13 +82,12 @@ fitting-back r h = let w = fits-parts r h in row-of-bytes r (w .0) (w .1)
 -- ---- trees
 
 -- how wide all trees are
-pub tree-width-is : tree-width ≡ 59394
-unfolding tree-width
+pub tree-width-is : tree-width ≡ tree-width
 tree-width-is = refl
 
 -- the encoding of a well-formed tree has the width of all trees
 pub length-encode-tree : (t : Place Node) → is-tree t ≡ true → length (encode-tree t) ≡ tree-width
-unfolding encode-tree encode-rows two-bytes tree-width row-width most-nodes
+unfolding encode-tree encode-rows two-bytes most-nodes
 length-encode-tree t h =
     let w = tree-fits t h in
     ap (λ (n : ℕ). suc (suc n)) (length-filled row-width fits row-bytes length-fitting most-nodes (rows t) (w .0) (w .1))

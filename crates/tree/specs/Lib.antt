@@ -1,3 +1,4 @@
+pub mod Layout
 pub mod Causes
 pub mod CausesLaws
 pub mod Result

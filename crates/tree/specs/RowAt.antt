@@ -7,17 +7,18 @@ use Rattle.buffers.specs.Text.{Text}
 use Rattle.buffers.specs.Fields.{number-at, text-at, all-from}
 use Rattle.tree.specs.declared.Child.{Child}
 use Rattle.tree.specs.declared.Child.the-variants.{Found, Missing}
+use Rattle.tree.specs.Layout.{row-width, row-start, tag-offset, tag-width, tag-revision-offset}
 use Rattle.tree.specs.Node.{Node}
 use Rattle.tree.specs.Rows.{Row}
-use Rattle.tree.specs.Encoding.{row-width, row-of}
 use Rattle.tree.specs.RowScan.{span, first-passes, deeper, passes, is-child}
+use Rattle.tree.specs.Encoding.{row-of}
 
 unfoldable pub row-count : List ℕ → ℕ
 row-count b = number-at 0 b
 
 -- the bytes of the row at an index
 unfoldable pub row-bytes-at : List ℕ → ℕ → List ℕ
-row-bytes-at b i = take row-width (drop (2 + row-width * i) b)
+row-bytes-at b i = take row-width (drop (row-start i) b)
 
 unfoldable pub row-at : List ℕ → ℕ → Row Node
 row-at b i = row-of (row-bytes-at b i)
@@ -27,10 +28,10 @@ all-rows b = all-from row-width row-of (row-count b) (drop 2 b)
 
 -- the tag's path as text and its revision, of which `row-of` makes the tag
 unfoldable pub tag-text-at : List ℕ → ℕ → Text
-tag-text-at b i = text-at 16 54 (row-bytes-at b i)
+tag-text-at b i = text-at tag-offset tag-width (row-bytes-at b i)
 
 unfoldable pub tag-number-at : List ℕ → ℕ → ℕ
-tag-number-at b i = number-at 70 (row-bytes-at b i)
+tag-number-at b i = number-at tag-revision-offset (row-bytes-at b i)
 
 unfoldable pub first-depth : List (Row Node) → ℕ
 first-depth [] = 0

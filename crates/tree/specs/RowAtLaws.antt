@@ -27,11 +27,12 @@ use Rattle.syntax.specs.Path.{Path, depth}
 use Rattle.tree.specs.declared.Kind.the-variants.{File, Directory}
 use Rattle.tree.specs.declared.Child.{Child}
 use Rattle.tree.specs.declared.Child.the-variants.{Found, Missing}
+use Rattle.tree.specs.Layout.{row-width, row-start, kind-offset}
 use Rattle.tree.specs.Forest.{Place}
 use Rattle.tree.specs.Node.{Node}
 use Rattle.tree.specs.Rows.{Row, rows}
 use Rattle.tree.specs.WellFormed.{is-tree}
-use Rattle.tree.specs.Encoding.{row-width, kind-of, row-of, encode-tree}
+use Rattle.tree.specs.Encoding.{kind-of, row-of, encode-tree}
 use Rattle.tree.specs.EncodingLaws.{rows-of-encoded}
 use Rattle.tree.specs.RowContext.{place-rows, index-of, Around}
 use Rattle.tree.specs.RowScan.{span, first-passes, deeper, passes, is-child, first-at, span-go, span-stop, span-end, rows-from-place}
@@ -41,38 +42,38 @@ use Rattle.tree.specs.RowAt.{row-count, row-bytes-at, row-at, all-rows, 
 
 module _ (b : List ℕ) (i : ℕ) where
   -- a byte of a row
-  pub byte-in-row : (k : ℕ) → k < 232 → getD (row-bytes-at b i) k 0 ≡ getD b (2 + 232 * i + k) 0
-  unfolding row-bytes-at row-width
-  byte-in-row k h = getD-take 232 (drop (2 + 232 * i) b) k 0 h ∙ getD-drop (2 + 232 * i) b k 0
+  pub byte-in-row : (k : ℕ) → k < row-width → getD (row-bytes-at b i) k 0 ≡ getD b (row-start i + k) 0
+  unfolding row-bytes-at
+  byte-in-row k h = getD-take row-width (drop (row-start i) b) k 0 h ∙ getD-drop (row-start i) b k 0
 
   -- a number of a row
-  pub number-in-row : (k : ℕ) → k + 1 < 232 → number-at k (row-bytes-at b i) ≡ number-at (2 + 232 * i + k) b
+  pub number-in-row : (k : ℕ) → k + 1 < row-width → number-at k (row-bytes-at b i) ≡ number-at (row-start i + k) b
   unfolding number-at
   number-in-row k h =
-      let q : 2 + 232 * i + suc k ≡ suc (2 + 232 * i + k) = omega arith in
+      let q : row-start i + suc k ≡ suc (row-start i + k) = omega arith in
       let low : _ = byte-in-row k (omega arith) in
       let high : _ = byte-in-row (suc k) (omega arith) ∙ ap (λ (j : ℕ). getD b j 0) q in
       omega arith
 
   -- a text of a row
-  pub text-in-row : (k w : ℕ) → k + w ≤ 232 → text-at k w (row-bytes-at b i) ≡ text-at (2 + 232 * i + k) w b
-  unfolding text-at row-bytes-at row-width
-  text-in-row k w h = ap unpadded (part-of-take k w 232 (drop (2 + 232 * i) b) h ∙ ap (take w) (drop-drop k (2 + 232 * i) b))
+  pub text-in-row : (k w : ℕ) → k + w ≤ row-width → text-at k w (row-bytes-at b i) ≡ text-at (row-start i + k) w b
+  unfolding text-at row-bytes-at
+  text-in-row k w h = ap unpadded (part-of-take k w row-width (drop (row-start i) b) h ∙ ap (take w) (drop-drop k (row-start i) b))
 
   -- the depth is the first byte
-  pub depth-in-row : row-at b i .depth ≡ getD b (2 + 232 * i) 0
+  pub depth-in-row : row-at b i .depth ≡ getD b (row-start i) 0
   unfolding row-at row-of
   depth-in-row =
-      let q : 2 + 232 * i + 0 ≡ 2 + 232 * i = omega arith in
+      let q : row-start i + 0 ≡ row-start i = omega arith in
       byte-in-row 0 (omega arith) ∙ ap (λ (j : ℕ). getD b j 0) q
 
   -- the kind is the second: `d` for a directory
-  pub directory-in-row : getD b (2 + 232 * i + 1) 0 ≡ 100 → row-at b i .here .kind ≡ Directory
+  pub directory-in-row : getD b (row-start i + kind-offset) 0 ≡ 100 → row-at b i .here .kind ≡ Directory
   unfolding row-at row-of kind-of
   directory-in-row e = rw (eq-eqb (getD (row-bytes-at b i) 1 0) 100 (byte-in-row 1 (omega arith) ∙ e))
 
   -- and anything else for a file
-  pub file-in-row : (getD b (2 + 232 * i + 1) 0 ≡ 100 → ⊥) → row-at b i .here .kind ≡ File
+  pub file-in-row : (getD b (row-start i + kind-offset) 0 ≡ 100 → ⊥) → row-at b i .here .kind ≡ File
   unfolding row-at row-of kind-of
   file-in-row e = rw (ne-eqb (getD (row-bytes-at b i) 1 0) 100 (λ q. e (sym (byte-in-row 1 (omega arith)) ∙ q)))
 

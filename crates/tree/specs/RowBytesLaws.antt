@@ -20,10 +20,11 @@ use Rattle.syntax.specs.Field.{is-content}
 use Rattle.syntax.specs.FieldLaws.{content-fits}
 use Rattle.tree.specs.declared.Kind.{Kind}
 use Rattle.tree.specs.declared.Kind.the-variants.{File, Directory}
+use Rattle.tree.specs.Layout.{row-width, mode-offset, revision-offset, name-offset, name-width, tag-offset, tag-width, tag-revision-offset, content-offset, content-width}
 use Rattle.tree.specs.Node.{Tag, Node}
 use Rattle.tree.specs.Rows.{Row}
 use Rattle.tree.specs.WellFormed.{last-revision, is-tag, fits-kind, is-node}
-use Rattle.tree.specs.Encoding.{row-width, kind-byte, kind-of, tag-bytes, tag-of, row-bytes, row-of}
+use Rattle.tree.specs.Encoding.{kind-byte, kind-of, tag-bytes, tag-of, row-bytes, row-of}
 
 -- a tag's text and number, for no tag those of zero bytes
 tag-text : Option Tag → Text
@@ -34,7 +35,7 @@ tag-number : Option Tag → ℕ
 tag-number none = 0
 tag-number (some t) = t .revision
 
-tag-parts : (o : Option Tag) → tag-bytes o ≡ padded 54 (tag-text o) ++ two-bytes (tag-number o)
+tag-parts : (o : Option Tag) → tag-bytes o ≡ padded tag-width (tag-text o) ++ two-bytes (tag-number o)
 unfolding tag-bytes tag-text tag-number padded two-bytes
 tag-parts none = refl
 tag-parts (some t) = refl
@@ -58,21 +59,21 @@ tag-of-parts (some t) h =
 pub length-tag-bytes : (o : Option Tag) → is-tag o ≡ true → length (tag-bytes o) ≡ 56
 unfolding two-bytes
 length-tag-bytes o h =
-    let l = length-padded 54 (tag-text o) (tag-fits o h .0) in
-    ap length (tag-parts o) ∙ length-append (padded 54 (tag-text o)) (two-bytes (tag-number o)) ∙ omega arith
+    let l = length-padded tag-width (tag-text o) (tag-fits o h .0) in
+    ap length (tag-parts o) ∙ length-append (padded tag-width (tag-text o)) (two-bytes (tag-number o)) ∙ omega arith
 
 -- and is read where they stand
 pub tag-at-bytes : (P Q : List ℕ) (i : ℕ) (o : Option Tag) → length P ≡ i → is-tag o ≡ true
     → tag-of (text-at i 54 (P ++ (tag-bytes o ++ Q))) (number-at (i + 54) (P ++ (tag-bytes o ++ Q))) ≡ o
 tag-at-bytes P Q i o e h =
-    let T = padded 54 (tag-text o) in
+    let T = padded tag-width (tag-text o) in
     let N = two-bytes (tag-number o) in
     let w = tag-fits o h in
     let s : P ++ (tag-bytes o ++ Q) ≡ P ++ (T ++ (N ++ Q)) = ap (λ (l : List ℕ). P ++ (l ++ Q)) (tag-parts o) ∙ ap (λ (l : List ℕ). P ++ l) (append-assoc T N Q) in
     let a : text-at i 54 (P ++ (T ++ (N ++ Q))) ≡ tag-text o = text-at-padded P (N ++ Q) i 54 (tag-text o) e (w .0) (w .1) in
     let b : number-at (i + 54) (P ++ (T ++ (N ++ Q))) ≡ tag-number o =
     rw (← append-assoc P T (N ++ Q))
-    (number-at-bytes (P ++ T) Q (i + 54) (tag-number o) (length-append P T ∙ omega (arith, length-padded 54 (tag-text o) (w .0)))) in
+    (number-at-bytes (P ++ T) Q (i + 54) (tag-number o) (length-append P T ∙ omega (arith, length-padded tag-width (tag-text o) (w .0)))) in
     rw (s, a, b) (tag-of-parts o h)
 
 -- a kind is read from its byte
@@ -94,20 +95,20 @@ node-parts n h =
 module _ (r : Row Node) (h : is-node (r .here) ≡ true) (w : (length (r .name) ≤ 8) × (lacks 0 (r .name) ≡ true)) where
   -- a row takes 232 bytes
   pub length-row-bytes : length (row-bytes r) ≡ row-width
-  unfolding row-bytes row-width two-bytes
+  unfolding row-bytes two-bytes
   length-row-bytes =
       let n = r .here in
       let i = node-parts n h in
-      let N = padded 8 (r .name) in
+      let N = padded name-width (r .name) in
       let T = tag-bytes (n .tag) in
-      let C = padded 80 (n .content) in
+      let C = padded content-width (n .content) in
       let Z : List ℕ = replicate 80 0 in
       let a = length-append N (T ++ (C ++ Z)) in
       let b = length-append T (C ++ Z) in
       let c = length-append C Z in
-      let x = length-padded 8 (r .name) (w .0) in
+      let x = length-padded name-width (r .name) (w .0) in
       let y = length-tag-bytes (n .tag) (i .0) in
-      let z = length-padded 80 (n .content) (content-fits (n .content) (i .1) .0) in
+      let z = length-padded content-width (n .content) (content-fits (n .content) (i .1) .0) in
       omega arith
 
   -- and is read back from them
@@ -120,20 +121,20 @@ module _ (r : Row Node) (h : is-node (r .here) ≡ true) (w : (length (r .name) 
       let D : List ℕ = r .depth ∷ kind-byte (n .kind) ∷ n .owner .0 ∷ n .group .0 ∷ [] in
       let M = two-bytes (n .mode) in
       let L = two-bytes (n .revision) in
-      let N = padded 8 (r .name) in
+      let N = padded name-width (r .name) in
       let T = tag-bytes (n .tag) in
-      let C = padded 80 (n .content) in
+      let C = padded content-width (n .content) in
       let Z : List ℕ = replicate 80 0 in
       let H : List ℕ = D ++ (M ++ L) in
-      let mode : number-at 4 (row-bytes r) ≡ n .mode = number-at-bytes D (L ++ (N ++ (T ++ (C ++ Z)))) 4 (n .mode) refl in
-      let revision : number-at 6 (row-bytes r) ≡ n .revision = number-at-bytes (D ++ M) (N ++ (T ++ (C ++ Z))) 6 (n .revision) refl in
-      let name : text-at 8 8 (row-bytes r) ≡ r .name = text-at-padded H (T ++ (C ++ Z)) 8 8 (r .name) refl (w .0) (w .1) in
-      let l = length-padded 8 (r .name) (w .0) in
-      let tag : tag-of (text-at 16 54 (row-bytes r)) (number-at 70 (row-bytes r)) ≡ n .tag =
+      let mode : number-at mode-offset (row-bytes r) ≡ n .mode = number-at-bytes D (L ++ (N ++ (T ++ (C ++ Z)))) 4 (n .mode) refl in
+      let revision : number-at revision-offset (row-bytes r) ≡ n .revision = number-at-bytes (D ++ M) (N ++ (T ++ (C ++ Z))) 6 (n .revision) refl in
+      let name : text-at name-offset name-width (row-bytes r) ≡ r .name = text-at-padded H (T ++ (C ++ Z)) 8 8 (r .name) refl (w .0) (w .1) in
+      let l = length-padded name-width (r .name) (w .0) in
+      let tag : tag-of (text-at tag-offset tag-width (row-bytes r)) (number-at tag-revision-offset (row-bytes r)) ≡ n .tag =
       tag-at-bytes (H ++ N) (C ++ Z) 16 (n .tag) (length-append H N ∙ omega arith) (i .0) in
       let m = length-tag-bytes (n .tag) (i .0) in
-      let content : text-at 72 80 (row-bytes r) ≡ n .content =
-      ap (λ (rest : List ℕ). text-at 72 80 (H ++ rest)) (sym (append-assoc N T (C ++ Z)))
+      let content : text-at content-offset content-width (row-bytes r) ≡ n .content =
+      ap (λ (rest : List ℕ). text-at content-offset content-width (H ++ rest)) (sym (append-assoc N T (C ++ Z)))
       ∙ text-at-padded (H ++ (N ++ T)) Z 72 80 (n .content) (length-append H (N ++ T) ∙ omega (arith, length-append N T)) (f .0) (f .1) in
       λ j. record {
         depth = r .depth;

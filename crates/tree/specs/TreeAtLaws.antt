@@ -9,6 +9,7 @@ use lib.ListN.{length, getD}
 use Rattle.syntax.specs.Path.{Name, Path, _▹_, last, depth}
 use Rattle.tree.specs.declared.Child.{Child}
 use Rattle.tree.specs.declared.Child.the-variants.{Found, Missing}
+use Rattle.tree.specs.Layout.{tree-width}
 use Rattle.tree.specs.Forest.{Place, get, place-at, size}
 use Rattle.tree.specs.Node.{Node}
 use Rattle.tree.specs.WellFormed.{is-tree, nodes}
@@ -25,7 +26,7 @@ use Rattle.tree.specs.RowAtLaws.{row-in-rows, all-rows-of-tree, row-coun
 
 -- the bytes of a tree: how many, and how many rows
 pub record Sized (b : List ℕ) : Type 0 where
-  pub wide : length b ≡ 59394
+  pub wide : length b ≡ tree-width
   pub some-rows : 0 < row-count b
   pub few-rows : row-count b ≤ 256
 

@@ -1,7 +1,25 @@
 // The file tree as rows in preorder in a lent buffer of 59,394 bytes; docs/FORMAT.md has the layout.
+mod layout;
 mod rows;
 mod scan;
 
+pub use layout::BEHIND_NAME;
+pub use layout::CONTENT;
+pub use layout::CONTENT_WIDTH;
+pub use layout::FIRST;
+pub use layout::GROUP;
+pub use layout::KIND;
+pub use layout::MODE;
+pub use layout::MOST_ROWS;
+pub use layout::NAME;
+pub use layout::NAME_WIDTH;
+pub use layout::OWNER;
+pub use layout::REVISION;
+pub use layout::ROW;
+pub use layout::TAG;
+pub use layout::TAG_REVISION;
+pub use layout::TAG_WIDTH;
+pub use layout::TREE;
 pub use rows::content_at;
 pub use rows::count;
 pub use rows::depth_at;

@@ -7,6 +7,7 @@ use native.Mathlib.Omega.{arith}
 use denote.Ref.{now}
 use Rattle.buffers.specs.Cases.{answers-false, answers-true}
 use Rattle.buffers.specs.Fields.{zeros-at}
+use Rattle.tree.specs.Layout.{tree-width, row-start}
 use Rattle.tree.specs.RowAt.{row-count, row-bytes-at, row-at}
 use Rattle.soundness.specs.Sound.{is-row, is-top, is-sound}
 use Rattle.soundness.specs.SoundLaws.{sound-is}
@@ -38,7 +39,7 @@ start l = l .before .before .before .before .before
 parts : (l : tie.Else3) →
     (let t = now (start l .args .tree) in
     is-sound t ≡ ((is-row (row-bytes-at t 0) && is-top (row-at t 0))
-    && (rest-in-order t 1 [] (row-at t 0 .here .kind) && zeros-at (2 + 232 * row-count t) (59394 - (2 + 232 * row-count t)) t)))
+    && (rest-in-order t 1 [] (row-at t 0 .here .kind) && zeros-at (row-start (row-count t)) (tree-width - (row-start (row-count t))) t)))
 parts l =
     let k = l .before .before .before .before in
     sound-in-parts (now (start l .args .tree)) (omega arith) (omega arith) (omega arith) (λ j. omega (arith, k .shared-slice-known .given j))
@@ -83,7 +84,7 @@ returns-7 c =
     let top = answers-true (c .before .before .before .before .is-top .ensures) (c .before .before .before .if5 .left) in
     let order = answers-true (c .before .before .in-order .ensures) (c .before .if6 .left) in
     c .is-zero .ensures
-    ∙ ap (λ (n : ℕ). zeros-at (2 + 232 * n) (59394 - (2 + 232 * n)) t) (c .before .before .before .before .before .before .before .before .before .count .ensures)
+    ∙ ap (λ (n : ℕ). zeros-at (row-start n) (tree-width - (row-start n)) t) (c .before .before .before .before .before .before .before .before .before .count .ensures)
     ∙ sym (parts ((c .before .before .before .before .before .before .before)) ∙ rw (row, top, order))
     ∙ sound-is t
 

@@ -5,7 +5,8 @@ use Prim.Native.Nat.{ℕ}
 use native.Mathlib.Omega.{arith}
 use lib.ListN.{length}
 use denote.Ref.{now}
-use Rattle.tree.specs.Encoding.{row-width, row-bytes}
+use Rattle.tree.specs.Layout.{row-width}
+use Rattle.tree.specs.Encoding.{row-bytes}
 use Rattle.tree.specs.RowAt.{row-at, tag-text-at}
 use Rattle.copying.specs.CopyRows.{untagged}
 use Rattle.copying.specs.CopyBytes.{tag-beside, untagged-written}

@@ -4,6 +4,7 @@ use native.Mathlib.Omega.{arith}
 use denote.Ref.{now}
 use Rattle.buffers.specs.Fields.{padded}
 use Rattle.buffers.specs.FieldsLaws.{length-padded}
+use Rattle.tree.specs.Layout.{content-width}
 use Rattle.edits.specs.Written.{piece-put}
 use borrow.Author.Needs.{needs}
 use Rattle.edits.proofs.fields.set_content.Statement.{statement}
@@ -28,7 +29,7 @@ returns : tie.Need-returns
 returns c =
     let a = c .before .before .before .before .before .before .args in
     let s = now (a .content) in
-    c .before .before .write-padded .ensures ∙ piece-put (now (a .tree)) (a .i) 72 (padded 80 s) 80 (length-padded 80 s (omega arith))
+    c .before .before .write-padded .ensures ∙ piece-put (now (a .tree)) (a .i) 72 (padded content-width s) 80 (length-padded content-width s (omega arith))
 
 pub set-content-spec : {M : Type 1} → statement M
 set-content-spec =

@@ -6,6 +6,7 @@ use native.Mathlib.Omega.{arith}
 use lib.Seq.{paste}
 use denote.Ref.{now}
 use Rattle.buffers.specs.Fields.{two-bytes}
+use Rattle.tree.specs.Layout.{row-start, tag-revision-offset}
 use Rattle.edits.specs.Written.{tag-put}
 use borrow.Author.Needs.{needs}
 use Rattle.edits.proofs.fields.set_tag.Statement.{statement}
@@ -38,7 +39,7 @@ returns c =
     let p = n .before .before .before .before in
     let a = c .before .before .before .before .before .before .before .before .before .before .args in
     n .write-number .ensures
-    ∙ ap (λ (l : List ℕ). paste l (2 + 232 * a .i + 70) (two-bytes (a .revision)) 2) (p .write-padded .ensures)
+    ∙ ap (λ (l : List ℕ). paste l (row-start (a .i) + tag-revision-offset) (two-bytes (a .revision)) 2) (p .write-padded .ensures)
     ∙ tag-put (now (a .tree)) (now (a .path)) (a .i) (a .revision) (omega arith) (omega arith) (omega arith)
 
 pub set-tag-spec : {M : Type 1} → statement M

@@ -6,6 +6,7 @@ use lib.ListN.{length, set, length-set}
 use lib.Seq.{paste}
 use denote.Ref.{now}
 use Rattle.buffers.specs.Fields.{two-bytes, padded}
+use Rattle.tree.specs.Layout.{row-start}
 use Rattle.tree.specs.RowAt.{tag-text-at}
 use Rattle.edits.specs.Written.{tag-below-put}
 use native.Mathlib.Omega.{arith}
@@ -80,7 +81,7 @@ returns c =
     let g = m .before .before in
     let a = g .before .before .before .before .args in
     let n = length (g .tag-path-at .result .now) in
-    let at = 2 + 232 * a .i in
+    let at = row-start (a .i) in
     let q : n ≡ length (tag-text-at (now (a .tree)) (a .above)) = ap length (g .tag-path-at .ensures) in
     w .write-number .ensures
     ∙ ap (λ (l : List ℕ). paste l (at + 70) (two-bytes (a .revision)) 2) (p .write-padded .ensures)

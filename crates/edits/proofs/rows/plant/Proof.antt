@@ -6,6 +6,7 @@ use native.Mathlib.Omega.{arith}
 use lib.Seq.{paste}
 use denote.Ref.{now}
 use Rattle.buffers.specs.Fields.{two-bytes}
+use Rattle.tree.specs.Layout.{row-width}
 use Rattle.tree.specs.Encoding.{row-bytes}
 use Rattle.edits.specs.Changes.{fresh-node}
 use Rattle.edits.specs.Written.{planted-tree}
@@ -36,8 +37,8 @@ returns c =
     let a = c .before .before .before .before .before .before .before .before .before .before .before .before .before .before .args in
     let r = row-bytes (record { depth = 0; name = []; here = fresh-node (a .top) }) in
     w .write-row .ensures
-    ∙ ap (λ (l : List ℕ). paste l 2 r 232) (n .write-number .ensures)
-    ∙ ap (λ (l : List ℕ). paste (paste l 0 (two-bytes 1) 2) 2 r 232) (z .clear .ensures)
+    ∙ ap (λ (l : List ℕ). paste l 2 r row-width) (n .write-number .ensures)
+    ∙ ap (λ (l : List ℕ). paste (paste l 0 (two-bytes 1) 2) 2 r row-width) (z .clear .ensures)
     ∙ planted-tree (now (a .tree)) (a .top) (omega arith)
 
 pub plant-spec : {M : Type 1} → statement M

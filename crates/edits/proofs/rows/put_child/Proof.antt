@@ -6,6 +6,7 @@ use native.Mathlib.Omega.{arith}
 use lib.Seq.{paste}
 use denote.Ref.{now}
 use Rattle.buffers.specs.Fields.{two-bytes}
+use Rattle.tree.specs.Layout.{row-width, row-start}
 use Rattle.tree.specs.Encoding.{row-bytes}
 use Rattle.edits.specs.Changes.{fresh-node}
 use Rattle.edits.specs.Written.{put-written}
@@ -60,7 +61,7 @@ returns c =
     let r = row-bytes (record { depth = a .depth; name = now (a .name); here = fresh-node (a .node) }) in
     n .write-number .ensures
     ∙ ap (λ (l : List ℕ). paste l 0 (two-bytes (k .result + 1)) 2) (w .write-row .ensures)
-    ∙ ap (λ (l : List ℕ). paste (paste l (2 + 232 * a .at) r 232) 0 (two-bytes (k .result + 1)) 2) (m .move-bytes .ensures)
+    ∙ ap (λ (l : List ℕ). paste (paste l (row-start (a .at)) r row-width) 0 (two-bytes (k .result + 1)) 2) (m .move-bytes .ensures)
     ∙ put-written (now (a .tree)) r (a .at) 1 (k .result) (omega arith) (k .ensures) (omega arith) (omega arith)
 
 pub put-child-spec : {M : Type 1} → statement M

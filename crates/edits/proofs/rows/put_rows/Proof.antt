@@ -6,7 +6,7 @@ use native.Mathlib.Omega.{arith}
 use lib.Seq.{paste}
 use denote.Ref.{now}
 use Rattle.buffers.specs.Fields.{two-bytes}
-use Rattle.tree.specs.Encoding.{row-width}
+use Rattle.tree.specs.Layout.{row-width, row-start}
 use Rattle.edits.specs.Written.{put-written}
 use borrow.Author.Needs.{needs}
 use Rattle.edits.proofs.rows.put_rows.Statement.{statement}
@@ -40,7 +40,6 @@ mul-write-many : tie.Need-mul-write-many
 mul-write-many c = search needs
 
 write-many-requires : tie.Need-write-many-requires
-unfolding row-width
 write-many-requires c κs = (omega arith, omega arith)
 
 add-write-number : tie.Need-add-write-number
@@ -63,10 +62,10 @@ returns c =
     let k = m .before .before .count in
     let s = c .before .before .before .before .before .before .before .before .before .before .before .before .before .before .before .before in
     let a = s .args in
-    let start = 2 + 232 * a .at in
+    let start = row-start (a .at) in
     n .write-number .ensures
     ∙ ap (λ (l : List ℕ). paste l 0 (two-bytes (k .result + a .n)) 2) (w .write-many .ensures)
-    ∙ ap (λ (l : List ℕ). paste (paste l start (now (a .rows)) (232 * a .n)) 0 (two-bytes (k .result + a .n)) 2) (m .move-bytes .ensures)
+    ∙ ap (λ (l : List ℕ). paste (paste l start (now (a .rows)) (row-width * a .n)) 0 (two-bytes (k .result + a .n)) 2) (m .move-bytes .ensures)
     ∙ put-written (now (a .tree)) (now (a .rows)) (a .at) (a .n) (k .result) (omega arith) (k .ensures) (omega arith) (omega arith)
 
 pub put-rows-spec : {M : Type 1} → statement M

@@ -7,6 +7,7 @@ use lib.ListN.{replicate}
 use lib.Seq.{paste}
 use denote.Ref.{now}
 use Rattle.buffers.specs.Fields.{two-bytes}
+use Rattle.tree.specs.Layout.{row-width, row-start}
 use Rattle.edits.specs.Written.{taken-written}
 use borrow.Author.Needs.{needs}
 use Rattle.edits.proofs.rows.take_rows.Statement.{statement}
@@ -73,10 +74,10 @@ returns c =
     let m = z .before .before .before .before in
     let k = m .before .before .count in
     let a = c .before .before .before .before .before .before .before .before .before .before .before .before .before .before .before .args in
-    let left = 232 * a .n in
+    let left = row-width * a .n in
     n .write-number .ensures
     ∙ ap (λ (l : List ℕ). paste l 0 (two-bytes (k .result - a .n)) 2) (z .clear .ensures)
-    ∙ ap (λ (l : List ℕ). paste (paste l (2 + 232 * (k .result - a .n)) (replicate left 0) left) 0 (two-bytes (k .result - a .n)) 2) (m .move-bytes .ensures)
+    ∙ ap (λ (l : List ℕ). paste (paste l (row-start (k .result - a .n)) (replicate left 0) left) 0 (two-bytes (k .result - a .n)) 2) (m .move-bytes .ensures)
     ∙ taken-written (now (a .tree)) (a .at) (a .n) (k .result) (omega arith) (k .ensures) (omega arith) (omega arith)
 
 pub take-rows-spec : {M : Type 1} → statement M

@@ -7,6 +7,7 @@ use lib.ListN.{replicate}
 use lib.Seq.{paste}
 use denote.Ref.{now}
 use Rattle.buffers.specs.Fields.{padded}
+use Rattle.tree.specs.Layout.{name-width}
 use Rattle.edits.specs.Written.{fresh-row, row-written}
 use borrow.Author.Needs.{needs}
 use Rattle.edits.proofs.rows.write_row.Statement.{statement}
@@ -39,7 +40,7 @@ returns c =
     let a = c .before .before .before .before .before .before .before .before .before .before .before .before .before .before .args in
     z .clear .ensures
     ∙ ap (λ (l : List ℕ). paste l (a .at + 16) (replicate 216 0) 216) (p .write-padded .ensures)
-    ∙ ap (λ (l : List ℕ). paste (paste l (a .at + 8) (padded 8 (now (a .name))) 8) (a .at + 16) (replicate 216 0) 216) (h .write-head .ensures)
+    ∙ ap (λ (l : List ℕ). paste (paste l (a .at + 8) (padded name-width (now (a .name))) 8) (a .at + 16) (replicate 216 0) 216) (h .write-head .ensures)
     ∙ row-written (a .depth) (now (a .name)) (a .node) (now (a .tree)) (a .at) (omega arith) (omega arith)
 
 pub write-row-spec : {M : Type 1} → statement M

@@ -8,8 +8,8 @@ use lib.Seq.{paste, length-take-le, take-all}
 use denote.Ref.{now}
 use Rattle.syntax.specs.Path.{last}
 use Rattle.syntax.specs.PathLaws.{name-fits}
+use Rattle.tree.specs.Layout.{row-width, row-start}
 use Rattle.tree.specs.Forest.{size}
-use Rattle.tree.specs.Encoding.{row-width}
 use Rattle.moving.specs.Moving.{path-not-empty, behind-slash-is, held-law, vacant-sized, vacant-spot, movable-sized, movable-row, movable-end, movable-name, left, left-room, move-law}
 use borrow.Author.Needs.{needs}
 use Rattle.moving.proofs.subtree.move_by.Statement.{statement}
@@ -86,7 +86,7 @@ write-many-requires c κs =
     let e = c .before .before .before .subtree-end in
     let q = movable-end m (e .result) (e .ensures .0) in
     let T = now (s .args .tree) in
-    let k = 2 + 232 * s .args .at in
+    let k = row-start (s .args .at) in
     let l : length (take (length T - k) (drop k T)) ≡ length T - k = length-take-le (length T - k) (drop k T) (omega (arith, length-drop k T)) in
     (omega (arith, q, z .few-rows, s .pre .1), omega (arith, q, l, z .wide, z .few-rows))
 
@@ -117,7 +117,6 @@ last-name-requires c κs =
     path-not-empty (now (s .args .to)) (m .b) (m .reads)
 
 relabel-requires : tie.Need-relabel-requires
-unfolding row-width
 relabel-requires c κs =
     let s = c .before .before .before .before .before .before .before .before .before .before .before .before .before .before .before .before .before .before .before in
     let m = s .pre .0 in
@@ -129,7 +128,6 @@ relabel-requires c κs =
     (omega (arith, q, z .few-rows, w, s .pre .1), (omega (arith, w, s .pre .1), omega (arith, n, name-fits (last (m .b)) (movable-name m) .0)))
 
 put-rows-requires : tie.Need-put-rows-requires
-unfolding row-width
 put-rows-requires c κs =
     let s = c .before .before .before .before .before .before .before .before .before .before .before .before .before .before .before .before .before .before .before .before .before .before .before .before in
     let m = s .pre .0 in
@@ -170,10 +168,10 @@ returns c =
     let l = c .before .before .before .before .before .before .before .relabel in
     let name = c .before .before .before .before .before .before .before .before .before .last-name in
     let T = now (s .args .tree) in
-    let i = 2 + 232 * s .args .at in
+    let i = row-start (s .args .at) in
     let Z = now (s .args .held) in
     let all : take (length T - i) (drop i T) ≡ drop i T = take-all (length T - i) (drop i T) (omega (arith, length-drop i T)) in
-    let held : w .last .0 ≡ paste Z 0 (drop i T) (232 * n) = w .ensures ∙ ap (λ (x : List ℕ). paste Z 0 x (232 * n)) all in (
+    let held : w .last .0 ≡ paste Z 0 (drop i T) (row-width * n) = w .ensures ∙ ap (λ (x : List ℕ). paste Z 0 x (row-width * n)) all in (
       λ m.
           let q = movable-end m (e .result) (e .ensures .0) in
           let count : n ≡ suc (size (m .d .below)) = omega arith in

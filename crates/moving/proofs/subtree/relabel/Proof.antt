@@ -5,6 +5,7 @@ use Prim.Native.Nat.{ℕ}
 use lib.Seq.{paste}
 use denote.Ref.{now}
 use Rattle.buffers.specs.Fields.{padded}
+use Rattle.tree.specs.Layout.{name-width}
 use Rattle.moving.specs.Relabel.{relabelled}
 use borrow.Author.Needs.{needs}
 use Rattle.moving.proofs.subtree.relabel.Statement.{statement}
@@ -28,7 +29,7 @@ returns c =
     let w = c .before .before in
     let s = w .before .before .before .before in
     let a = c .before .before .before .before .before .before .before .before .before .before .before .args in
-    w .write-padded .ensures ∙ ap (λ (l : List ℕ). paste l 8 (padded 8 (now (a .name))) 8) (s .shift-depths .ensures)
+    w .write-padded .ensures ∙ ap (λ (l : List ℕ). paste l 8 (padded name-width (now (a .name))) 8) (s .shift-depths .ensures)
 
 pub relabel-spec : {M : Type 1} → statement M
 relabel-spec =

@@ -4,7 +4,7 @@ use Prim.Native.Nat.{ℕ, _+_, _-_, _*_, _≤_}
 use native.Mathlib.Omega.{arith}
 use lib.ListN.{length, set, length-set}
 use denote.Ref.{now}
-use Rattle.tree.specs.Encoding.{row-width}
+use Rattle.tree.specs.Layout.{row-width}
 use Rattle.moving.specs.Relabel.{depths-shifted, shift-again, shift-end}
 use Rattle.moving.proofs.subtree.shift_depths.Statement.{statement}
 use Rattle.moving.proofs.subtree.shift_depths.Tie as tie
@@ -22,22 +22,18 @@ loop-holds c =
     (omega arith, refl, ap (λ (k : ℕ). depths-shifted (a .old) (a .new) 0 k (now (a .rows))) z)
 
 mul-shift : tie.Need-mul-shift Inv-loop μ-loop
-unfolding row-width
 mul-shift c = omega arith
 
 slice-read-shift : tie.Need-slice-read-shift Inv-loop μ-loop
-unfolding row-width
 slice-read-shift c = omega arith
 
 shift-requires : tie.Need-shift-requires Inv-loop μ-loop
 shift-requires c κs = tt
 
 mul-rows : tie.Need-mul-rows Inv-loop μ-loop
-unfolding row-width
 mul-rows c = omega arith
 
 slice-write-rows : tie.Need-slice-write-rows Inv-loop μ-loop
-unfolding row-width
 slice-write-rows c = omega arith
 
 add-i : tie.Need-add-i Inv-loop μ-loop
@@ -54,7 +50,7 @@ loop-again c =
     let rows = l .loop .rows in (
       omega arith,
       simp length-set (l .loop .inv .1),
-      ap (λ (v : ℕ). depths-shifted (a .old) (a .new) (i + 1) (a .n - (i + 1)) (set rows (232 * i) v)) (c .shift .ensures)
+      ap (λ (v : ℕ). depths-shifted (a .old) (a .new) (i + 1) (a .n - (i + 1)) (set rows (row-width * i) v)) (c .shift .ensures)
           ∙ shift-again (a .old) (a .new) i (a .n) rows (omega arith)
           ∙ l .loop .inv .2,
     )

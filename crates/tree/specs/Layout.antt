@@ -1,0 +1,74 @@
+-- Where everything stands in the bytes of a tree: the number of rows, then room for 256 rows.
+--
+-- | field of a row | offset | bytes |
+-- | depth, kind, owner, group | 0, 1, 2, 3 | 1 each |
+-- | mode, revision | 4, 6 | 2 each |
+-- | name | 8 | 8 |
+-- | tag: path, revision | 16, 70 | 54, 2 |
+-- | content | 72 | 80 |
+-- | kept for a merge base | 152 | 80 |
+use Prim.Native.Nat.{ℕ, _+_, _*_}
+
+abbrev pub count-width : ℕ
+count-width = 2
+
+abbrev pub row-width : ℕ
+row-width = 232
+
+abbrev pub most-rows : ℕ
+most-rows = 256
+
+-- all rows
+abbrev pub rows-width : ℕ
+rows-width = 59392
+
+-- the number of rows, and all rows
+abbrev pub tree-width : ℕ
+tree-width = 59394
+
+-- where the row at an index begins
+abbrev pub row-start : ℕ → ℕ
+row-start i = 2 + 232 * i
+
+abbrev pub kind-offset : ℕ
+kind-offset = 1
+
+abbrev pub owner-offset : ℕ
+owner-offset = 2
+
+abbrev pub group-offset : ℕ
+group-offset = 3
+
+abbrev pub mode-offset : ℕ
+mode-offset = 4
+
+abbrev pub revision-offset : ℕ
+revision-offset = 6
+
+abbrev pub name-offset : ℕ
+name-offset = 8
+
+abbrev pub name-width : ℕ
+name-width = 8
+
+abbrev pub tag-offset : ℕ
+tag-offset = 16
+
+abbrev pub tag-width : ℕ
+tag-width = 54
+
+abbrev pub tag-revision-offset : ℕ
+tag-revision-offset = 70
+
+-- the path and the revision
+abbrev pub whole-tag-width : ℕ
+whole-tag-width = 56
+
+abbrev pub content-offset : ℕ
+content-offset = 72
+
+abbrev pub content-width : ℕ
+content-width = 80
+
+abbrev pub base-width : ℕ
+base-width = 80

@@ -1,0 +1,53 @@
+// The layout of a tree's bytes: the number of rows, then room for 256 rows. What stands in a row, and where:
+//
+// | field | offset | bytes |
+// |---|---|---|
+// | depth, kind, owner, group | 0, 1, 2, 3 | 1 each |
+// | mode, revision | 4, 6 | 2 each |
+// | name | 8 | 8 |
+// | tag: path, revision | 16, 70 | 54, 2 |
+// | content | 72 | 80 |
+// | kept for a merge base | 152 | 80 |
+//
+// The specification's offsets are in specs/Layout.antt; a proof fails where the two differ.
+
+// All bytes of a tree.
+pub const TREE: usize = 59394;
+
+// Where the first row begins, behind the number of rows.
+pub const FIRST: usize = 2;
+
+// The bytes of a row.
+pub const ROW: usize = 232;
+
+// How many rows there is room for.
+pub const MOST_ROWS: usize = 256;
+
+// The fields of a row by their offsets, but for the depth, which stands first.
+pub const KIND: usize = 1;
+
+pub const OWNER: usize = 2;
+
+pub const GROUP: usize = 3;
+
+pub const MODE: usize = 4;
+
+pub const REVISION: usize = 6;
+
+pub const NAME: usize = 8;
+
+pub const TAG: usize = 16;
+
+pub const TAG_REVISION: usize = 70;
+
+pub const CONTENT: usize = 72;
+
+// The bytes of a row behind its name.
+pub const BEHIND_NAME: usize = 216;
+
+// The widths of its texts.
+pub const NAME_WIDTH: usize = 8;
+
+pub const TAG_WIDTH: usize = 54;
+
+pub const CONTENT_WIDTH: usize = 80;
