@@ -20,8 +20,9 @@ use Rattle.tree.specs.RowScan.{rows-from-place, index-bound}
 use Rattle.tree.specs.Encoding.{row-bytes, encode-tree}
 use Rattle.tree.specs.RowBytesLaws.{node-parts}
 use Rattle.tree.specs.RowAt.{row-count, row-at, all-rows}
+use Rattle.tree.specs.TreeBytes.{Sized}
 use Rattle.tree.specs.RowAtLaws.{all-rows-of-tree, row-count-of-tree}
-use Rattle.tree.specs.TreeAtLaws.{Sized, tree-sized, index-in-count}
+use Rattle.tree.specs.TreeAtLaws.{tree-sized, index-in-count}
 use Rattle.copying.specs.declared.Copier.{Copier}
 use Rattle.copying.specs.Copying.{copy}
 use Rattle.copying.specs.CopyRows.{Stands, read-by, tagged-row, children, Job, job-rows, Written, Entry-job, entry-copy}

@@ -4,8 +4,9 @@ ghost use mathlib.Core.List.{[], _∷_, _++_};
 ghost use Prim.Native.Nat.{_+_, _≤_, _<_};
 ghost use lib.ListN.{length};
 ghost use Rattle.buffers.specs.Fields.{two-bytes, padded};
-ghost use Rattle.tree.specs.Layout.{tree-width, owner-offset, group-offset, mode-offset, revision-offset, tag-offset, tag-width, tag-revision-offset, content-offset, content-width};
+ghost use Rattle.tree.specs.Layout.{owner-offset, group-offset, mode-offset, revision-offset, tag-offset, tag-width, tag-revision-offset, content-offset, content-width};
 ghost use Rattle.tree.specs.RowAt.{tag-text-at};
+ghost use Rattle.tree.specs.TreeBytes.{Has-row};
 ghost use Rattle.edits.specs.Changes.{field-at, field-put};
 use accounts::Gid;
 use accounts::Uid;
@@ -26,28 +27,28 @@ use tree::TAG_WIDTH;
 use tree::tag_path_at;
 
 pub fn set_owner(tree: &mut [u8], i: usize, owner: Uid)
-    requires { ⌜ (length (now tree) ≡ tree-width) × (i < 256) ⌝ }
+    requires { ⌜ Has-row (now tree) i ⌝ }
     ensures { λ _. ⌜ now (tree .exit) ≡ field-put (now (tree .entry)) i owner-offset (owner .0 ∷ []) ⌝ }
 {
     tree[FIRST + ROW * i + OWNER] = owner.0;
 }
 
 pub fn set_group(tree: &mut [u8], i: usize, group: Gid)
-    requires { ⌜ (length (now tree) ≡ tree-width) × (i < 256) ⌝ }
+    requires { ⌜ Has-row (now tree) i ⌝ }
     ensures { λ _. ⌜ now (tree .exit) ≡ field-put (now (tree .entry)) i group-offset (group .0 ∷ []) ⌝ }
 {
     tree[FIRST + ROW * i + GROUP] = group.0;
 }
 
 pub fn set_mode(tree: &mut [u8], i: usize, mode: u16)
-    requires { ⌜ (length (now tree) ≡ tree-width) × (i < 256) ⌝ }
+    requires { ⌜ Has-row (now tree) i ⌝ }
     ensures { λ _. ⌜ now (tree .exit) ≡ field-put (now (tree .entry)) i mode-offset (two-bytes mode) ⌝ }
 {
     write_number(tree, FIRST + ROW * i + MODE, mode);
 }
 
 pub fn set_revision(tree: &mut [u8], i: usize, revision: u16)
-    requires { ⌜ (length (now tree) ≡ tree-width) × (i < 256) ⌝ }
+    requires { ⌜ Has-row (now tree) i ⌝ }
     ensures { λ _. ⌜ now (tree .exit) ≡ field-put (now (tree .entry)) i revision-offset (two-bytes revision) ⌝ }
 {
     write_number(tree, FIRST + ROW * i + REVISION, revision);
@@ -55,7 +56,8 @@ pub fn set_revision(tree: &mut [u8], i: usize, revision: u16)
 
 // The tag: its path as text, and its revision.
 pub fn set_tag(tree: &mut [u8], i: usize, path: &[u8], revision: u16)
-    requires { ⌜ (length (now tree) ≡ tree-width) × ((i < 256) × (length (now path) ≤ 54)) ⌝ }
+    requires { ⌜ Has-row (now tree) i ⌝ }
+    requires { ⌜ length (now path) ≤ tag-width ⌝ }
     ensures { λ _. ⌜ now (tree .exit) ≡ field-put (now (tree .entry)) i tag-offset (padded tag-width (now (path .entry)) ++ two-bytes revision) ⌝ }
 {
     let at = FIRST + ROW * i;
@@ -70,7 +72,9 @@ const NAME_ROOM: usize = 53;
 
 // The tag of a child: the path of the tag at another row, a slash and a name.
 pub fn set_tag_below(tree: &mut [u8], i: usize, above: usize, name: &[u8], revision: u16)
-    requires { ⌜ (length (now tree) ≡ tree-width) × ((i < 256) × ((above < 256) × (length (tag-text-at (now tree) above) + length (now name) < 54))) ⌝ }
+    requires { ⌜ Has-row (now tree) i ⌝ }
+    requires { ⌜ Has-row (now tree) above ⌝ }
+    requires { ⌜ length (tag-text-at (now tree) above) + length (now name) < tag-width ⌝ }
     ensures { λ _. ⌜ now (tree .exit) ≡ field-put (now (tree .entry)) i tag-offset (padded tag-width (tag-text-at (now (tree .entry)) above ++ (47 ∷ now (name .entry))) ++ two-bytes revision) ⌝ }
 {
     let at = FIRST + ROW * i;
@@ -82,14 +86,15 @@ pub fn set_tag_below(tree: &mut [u8], i: usize, above: usize, name: &[u8], revis
 }
 
 pub fn set_tag_revision(tree: &mut [u8], i: usize, revision: u16)
-    requires { ⌜ (length (now tree) ≡ tree-width) × (i < 256) ⌝ }
+    requires { ⌜ Has-row (now tree) i ⌝ }
     ensures { λ _. ⌜ now (tree .exit) ≡ field-put (now (tree .entry)) i tag-revision-offset (two-bytes revision) ⌝ }
 {
     write_number(tree, FIRST + ROW * i + TAG_REVISION, revision);
 }
 
 pub fn set_content(tree: &mut [u8], i: usize, content: &[u8])
-    requires { ⌜ (length (now tree) ≡ tree-width) × ((i < 256) × (length (now content) ≤ 80)) ⌝ }
+    requires { ⌜ Has-row (now tree) i ⌝ }
+    requires { ⌜ length (now content) ≤ content-width ⌝ }
     ensures { λ _. ⌜ now (tree .exit) ≡ field-put (now (tree .entry)) i content-offset (padded content-width (now (content .entry))) ⌝ }
 {
     write_padded(tree, FIRST + ROW * i + CONTENT, CONTENT_WIDTH, content);
@@ -97,7 +102,8 @@ pub fn set_content(tree: &mut [u8], i: usize, content: &[u8])
 
 // The content of one row to another.
 pub fn copy_content(tree: &mut [u8], from: usize, to: usize)
-    requires { ⌜ (length (now tree) ≡ tree-width) × ((from < 256) × (to < 256)) ⌝ }
+    requires { ⌜ Has-row (now tree) from ⌝ }
+    requires { ⌜ Has-row (now tree) to ⌝ }
     ensures { λ _. ⌜ now (tree .exit) ≡ field-put (now (tree .entry)) to content-offset (field-at (now (tree .entry)) from content-offset content-width) ⌝ }
 {
     move_bytes(

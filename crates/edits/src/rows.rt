@@ -1,12 +1,12 @@
 // Rows put in and taken out.
 ghost use mathlib.Core.Path.{_≡_};
-ghost use Prim.Native.Nat.{_+_, _*_, _≤_, _<_};
+ghost use Prim.Native.Nat.{_+_, _*_, _≤_};
 ghost use lib.ListN.{length};
 ghost use lib.Seq.{paste};
-ghost use Rattle.tree.specs.Layout.{row-width, tree-width};
+ghost use Rattle.tree.specs.Layout.{row-width, name-width};
 ghost use Rattle.tree.specs.Forest.{leaf};
 ghost use Rattle.tree.specs.Encoding.{kind-byte, row-bytes, encode-tree};
-ghost use Rattle.tree.specs.RowAt.{row-count};
+ghost use Rattle.tree.specs.TreeBytes.{Wide, Gap, Stretch};
 ghost use Rattle.edits.specs.Changes.{rows-put, rows-taken, fresh-node, head-bytes};
 use crate::Fresh;
 use buffers::clear;
@@ -29,7 +29,8 @@ use tree::count;
 
 // Puts n rows in before the one at an index; those from there on move up.
 pub fn put_rows(tree: &mut [u8], at: usize, n: usize, rows: &[u8])
-    requires { ⌜ (length (now tree) ≡ tree-width) × ((at ≤ row-count (now tree)) × ((row-count (now tree) + n ≤ 256) × (row-width * n ≤ length (now rows)))) ⌝ }
+    requires { ⌜ Gap (now tree) at n ⌝ }
+    requires { ⌜ row-width * n ≤ length (now rows) ⌝ }
     ensures { λ _. ⌜ now (tree .exit) ≡ rows-put (now (tree .entry)) at n (now (rows .entry)) ⌝ }
 {
     let c = count(tree);
@@ -41,7 +42,7 @@ pub fn put_rows(tree: &mut [u8], at: usize, n: usize, rows: &[u8])
 
 // Takes n rows out from an index on; those behind move down, and zeros stand where the last n were.
 pub fn take_rows(tree: &mut [u8], at: usize, n: usize)
-    requires { ⌜ (length (now tree) ≡ tree-width) × ((row-count (now tree) ≤ 256) × (at + n ≤ row-count (now tree))) ⌝ }
+    requires { ⌜ Stretch (now tree) at n ⌝ }
     ensures { λ _. ⌜ now (tree .exit) ≡ rows-taken (now (tree .entry)) at n ⌝ }
 {
     let c = count(tree);
@@ -77,7 +78,8 @@ fn write_head(tree: &mut [u8], at: usize, depth: u8, node: Fresh)
 
 // Writes the row of a new node.
 pub fn write_row(tree: &mut [u8], at: usize, depth: u8, name: &[u8], node: Fresh)
-    requires { ⌜ (at + row-width ≤ length (now tree)) × (length (now name) ≤ 8) ⌝ }
+    requires { ⌜ at + row-width ≤ length (now tree) ⌝ }
+    requires { ⌜ length (now name) ≤ name-width ⌝ }
     ensures { λ _. ⌜ now (tree .exit) ≡ paste (now (tree .entry)) at (row-bytes (record { depth = depth; name = now (name .entry); here = fresh-node node })) row-width ⌝ }
 {
     write_head(tree, at, depth, node);
@@ -87,7 +89,8 @@ pub fn write_row(tree: &mut [u8], at: usize, depth: u8, name: &[u8], node: Fresh
 
 // Puts the row of a new node in before the one at an index.
 pub fn put_child(tree: &mut [u8], at: usize, depth: u8, name: &[u8], node: Fresh)
-    requires { ⌜ (length (now tree) ≡ tree-width) × ((row-count (now tree) < 256) × ((at ≤ row-count (now tree)) × (length (now name) ≤ 8))) ⌝ }
+    requires { ⌜ Gap (now tree) at 1 ⌝ }
+    requires { ⌜ length (now name) ≤ name-width ⌝ }
     ensures { λ _. ⌜ now (tree .exit) ≡ rows-put (now (tree .entry)) at 1 (row-bytes (record { depth = depth; name = now (name .entry); here = fresh-node node })) ⌝ }
 {
     let c = count(tree);
@@ -99,7 +102,7 @@ pub fn put_child(tree: &mut [u8], at: usize, depth: u8, name: &[u8], node: Fresh
 
 // Makes a tree of `/` alone, whatever stood there.
 pub fn plant(tree: &mut [u8], top: Fresh)
-    requires { ⌜ length (now tree) ≡ tree-width ⌝ }
+    requires { ⌜ Wide (now tree) ⌝ }
     ensures { λ _. ⌜ now (tree .exit) ≡ encode-tree (leaf (fresh-node top)) ⌝ }
 {
     clear(tree, 0, TREE);

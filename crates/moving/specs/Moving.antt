@@ -24,6 +24,8 @@ use Rattle.tree.specs.declared.Child.{Child}
 use Rattle.tree.specs.declared.Child.the-variants.{Found, Missing}
 use Rattle.tree.specs.Layout.{row-width, row-start}
 use Rattle.tree.specs.Encoding.{row-bytes, encode-tree}
+use Rattle.tree.specs.TreeBytes.{Sized}
+use Rattle.tree.specs.TreeAtLaws.{tree-sized, index-in-count, row-at-place, end-at-place, no-child-at-place}
 use Rattle.walks.specs.declared.Walked.{Walked}
 use Rattle.walks.specs.declared.Walked.the-variants.{At, Refused}
 use Rattle.tree.specs.Result.{Result, refused, done, _>>=_}
@@ -42,7 +44,6 @@ use Rattle.tree.specs.RowAt as rows
 use Rattle.tree.specs.RowAt.{row-count, row-at, all-rows, end-of-subtree}
 use Rattle.tree.specs.RowAtLaws.{row-count-of-tree}
 use Rattle.walks.specs.RowWalk.{Spot, spot-of, parent-walk-in, outcome}
-use Rattle.tree.specs.TreeAtLaws.{Sized, tree-sized, index-in-count, row-at-place, end-at-place, no-child-at-place}
 use Rattle.walks.specs.WalkAtLaws.{parent-walk-of-tree}
 use Rattle.edits.specs.Changes.{rows-put, rows-taken}
 use Rattle.edits.specs.EditLaws.{spot-bound, put-law, take-law, place-fits, place-law}

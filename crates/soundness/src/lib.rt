@@ -1,10 +1,9 @@
 // Whether a lent buffer holds a well-formed tree; docs/FORMAT.md has the layout.
 ghost use mathlib.Core.Path.{_≡_};
-ghost use lib.ListN.{length};
 ghost use Rattle.syntax.specs.Form.{is-some};
-ghost use Rattle.tree.specs.Layout.{tree-width};
 ghost use Rattle.tree.specs.Encoding.{decode-tree};
 ghost use Rattle.tree.specs.RowAt.{row-at};
+ghost use Rattle.tree.specs.TreeBytes.{Wide};
 ghost use Rattle.soundness.specs.Sound.{is-top};
 
 mod order;
@@ -21,7 +20,7 @@ use tree::TREE;
 
 // Whether the first row is that of `/`.
 fn is_top(tree: &[u8]) -> bool
-    requires { ⌜ length (now tree) ≡ tree-width ⌝ }
+    requires { ⌜ Wide (now tree) ⌝ }
     ensures { λ r. ⌜ r ≡ is-top (row-at (now (tree .entry)) 0) ⌝ }
 {
     if tree::depth_at(tree, 0) != 0 {

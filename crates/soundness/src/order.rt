@@ -2,9 +2,8 @@
 ghost use mathlib.Core.Path.{_≡_};
 ghost use mathlib.Core.List.{[]};
 ghost use Prim.Native.Nat.{_-_, _≤_, _<_};
-ghost use lib.ListN.{length};
-ghost use Rattle.tree.specs.Layout.{tree-width};
 ghost use Rattle.tree.specs.RowAt.{row-count, row-at};
+ghost use Rattle.tree.specs.TreeBytes.{Has-row, Sized};
 ghost use Rattle.soundness.specs.Sound.{may-follow};
 ghost use Rattle.soundness.specs.Tests.{rest-in-order};
 use crate::row::is_directory;
@@ -13,7 +12,10 @@ use buffers::Order;
 
 // Whether a row may follow the one before it, where the row at its depth last seen is given.
 fn follows(tree: &[u8], i: usize, beside: usize) -> bool
-    requires { ⌜ ((length (now tree) ≡ tree-width) × (row-at (now tree) i .depth ≤ 6)) × ((1 ≤ i) × ((i < 256) × (beside < 256))) ⌝ }
+    requires { ⌜ Has-row (now tree) i ⌝ }
+    requires { ⌜ Has-row (now tree) beside ⌝ }
+    requires { ⌜ 1 ≤ i ⌝ }
+    requires { ⌜ row-at (now tree) i .depth ≤ 6 ⌝ }
     ensures { λ r. ⌜ r ≡ may-follow (row-at (now (tree .entry)) (i - 1) .depth) (row-at (now (tree .entry)) (i - 1) .here .kind) (row-at (now (tree .entry)) beside .name) (row-at (now (tree .entry)) i) ⌝ }
 {
     let depth = tree::depth_at(tree, i);
@@ -40,7 +42,9 @@ fn follows(tree: &[u8], i: usize, beside: usize) -> bool
 
 // Whether the rows behind `/` are sound each and stand in order.
 pub fn in_order(tree: &[u8], n: usize) -> bool
-    requires { ⌜ ((length (now tree) ≡ tree-width) × (row-at (now tree) 0 .depth ≡ 0)) × ((n ≡ row-count (now tree)) × ((1 ≤ n) × (n ≤ 256))) ⌝ }
+    requires { ⌜ Sized (now tree) ⌝ }
+    requires { ⌜ n ≡ row-count (now tree) ⌝ }
+    requires { ⌜ row-at (now tree) 0 .depth ≡ 0 ⌝ }
     ensures { λ r. ⌜ r ≡ rest-in-order (now (tree .entry)) 1 [] (row-at (now (tree .entry)) 0 .here .kind) ⌝ }
 {
     let mut last: [usize; 7] = [0; 7];

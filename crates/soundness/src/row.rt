@@ -3,13 +3,13 @@ ghost use mathlib.Core.Path.{_≡_};
 ghost use mathlib.Core.Bool.{_||_};
 ghost use Prim.Native.Nat.{_-_, _<_};
 ghost use lib.Dec.{eqb};
-ghost use lib.ListN.{length};
 ghost use Rattle.buffers.specs.Fields.{is-filled};
 ghost use Rattle.syntax.specs.Number.{is-mode};
-ghost use Rattle.tree.specs.Layout.{tree-width, name-offset, name-width};
+ghost use Rattle.tree.specs.Layout.{name-offset, name-width};
 ghost use Rattle.tree.specs.Node.{is-directory};
 ghost use Rattle.tree.specs.WellFormed.{fits-kind};
 ghost use Rattle.tree.specs.RowAt.{row-bytes-at};
+ghost use Rattle.tree.specs.TreeBytes.{Has-row};
 ghost use Rattle.soundness.specs.Sound.{is-row};
 ghost use Rattle.soundness.specs.Tests.{has-numbers, has-tag, has-content};
 use buffers::is_zero;
@@ -66,7 +66,7 @@ fn fits_kind(kind: Kind, mode: u16, content: &[u8]) -> bool
 
 // Whether kind, owner, group, mode and revision are in range.
 fn has_numbers(tree: &[u8], i: usize) -> bool
-    requires { ⌜ (length (now tree) ≡ tree-width) × (i < 256) ⌝ }
+    requires { ⌜ Has-row (now tree) i ⌝ }
     ensures { λ r. ⌜ r ≡ has-numbers (row-bytes-at (now (tree .entry)) i) ⌝ }
 {
     let at = FIRST + ROW * i;
@@ -87,7 +87,7 @@ fn has_numbers(tree: &[u8], i: usize) -> bool
 
 // Whether zeros fill up the name.
 fn name_is_filled(tree: &[u8], i: usize) -> bool
-    requires { ⌜ (length (now tree) ≡ tree-width) × (i < 256) ⌝ }
+    requires { ⌜ Has-row (now tree) i ⌝ }
     ensures { λ r. ⌜ r ≡ is-filled name-offset name-width (row-bytes-at (now (tree .entry)) i) ⌝ }
 {
     let at = FIRST + ROW * i;
@@ -97,7 +97,7 @@ fn name_is_filled(tree: &[u8], i: usize) -> bool
 
 // Whether the tag is zeros, or an entry path filled up and a revision.
 fn has_tag(tree: &[u8], i: usize) -> bool
-    requires { ⌜ (length (now tree) ≡ tree-width) × (i < 256) ⌝ }
+    requires { ⌜ Has-row (now tree) i ⌝ }
     ensures { λ r. ⌜ r ≡ has-tag (row-bytes-at (now (tree .entry)) i) ⌝ }
 {
     let at = FIRST + ROW * i;
@@ -114,7 +114,7 @@ fn has_tag(tree: &[u8], i: usize) -> bool
 
 // Whether the content is one that the kind allows, and zeros fill up the row.
 fn has_content(tree: &[u8], i: usize) -> bool
-    requires { ⌜ (length (now tree) ≡ tree-width) × (i < 256) ⌝ }
+    requires { ⌜ Has-row (now tree) i ⌝ }
     ensures { λ r. ⌜ r ≡ has-content (row-bytes-at (now (tree .entry)) i) ⌝ }
 {
     let at = FIRST + ROW * i;
@@ -131,7 +131,7 @@ fn has_content(tree: &[u8], i: usize) -> bool
 
 // Whether the bytes of a row are those of a node in range.
 pub fn is_row(tree: &[u8], i: usize) -> bool
-    requires { ⌜ (length (now tree) ≡ tree-width) × (i < 256) ⌝ }
+    requires { ⌜ Has-row (now tree) i ⌝ }
     ensures { λ r. ⌜ r ≡ is-row (row-bytes-at (now (tree .entry)) i) ⌝ }
 {
     if !has_numbers(tree, i) {

@@ -3,14 +3,13 @@ ghost use mathlib.Core.Path.{_≡_};
 ghost use mathlib.Core.Bool.{true};
 ghost use mathlib.Core.List.{map};
 ghost use Prim.Native.Nat.{_<_};
-ghost use lib.ListN.{length};
 ghost use Rattle.buffers.specs.Text.{every};
 ghost use Rattle.setup.specs.Setup.{Setup};
 ghost use Rattle.setup.specs.Reader.{slot-value};
-ghost use Rattle.tree.specs.Layout.{tree-width};
 ghost use Rattle.tree.specs.Forest.{Forest, Place};
 ghost use Rattle.tree.specs.Node.{Node};
 ghost use Rattle.tree.specs.Encoding.{encode-tree};
+ghost use Rattle.tree.specs.TreeBytes.{Wide};
 ghost use Rattle.store.specs.Initial.{directory-of, home-name, homes, topped};
 ghost use Rattle.store.specs.InitialRows.{slot-in-range, Opens, Node-put, Home-put, Initial-written};
 use accounts::Gid;
@@ -46,7 +45,7 @@ fn put_directory(tree: &mut [u8], name: &[u8], owner: Uid, group: Gid, mode: u16
 
 // Writes `/` and `/rep`, whatever stood there.
 fn write_top(tree: &mut [u8])
-    requires { ⌜ length (now tree) ≡ tree-width ⌝ }
+    requires { ⌜ Wide (now tree) ⌝ }
     ensures { λ _. ⌜ ((u : Setup) → now (tree .exit) ≡ encode-tree (topped (homes u 0))) ⌝ }
 {
     let top = Fresh {
@@ -80,7 +79,8 @@ fn put_home(tree: &mut [u8], uid: Uid, person: Person)
 
 // Writes the initial tree: `/`, `/rep`, and a home for each person, whatever stood there.
 pub fn write_initial(tree: &mut [u8], persons: [Person; 16])
-    requires { ⌜ (length (now tree) ≡ tree-width) × (every slot-in-range persons ≡ true) ⌝ }
+    requires { ⌜ Wide (now tree) ⌝ }
+    requires { ⌜ every slot-in-range persons ≡ true ⌝ }
     ensures { λ _. ⌜ Initial-written (map slot-value persons) (now (tree .exit)) ⌝ }
 {
     write_top(tree);

@@ -36,6 +36,7 @@ pub mod Encoding
 pub mod RowBytesLaws
 pub mod EncodingLaws
 pub mod RowAt
+pub mod TreeBytes
 pub mod RowAtLaws
 pub mod TreeAtLaws
 pub mod Compute

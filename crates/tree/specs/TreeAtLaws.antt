@@ -22,13 +22,8 @@ use Rattle.tree.specs.RowScan.{row-of-place, index-bound, subtree-span, 
 use Rattle.tree.specs.Encoding.{encode-tree}
 use Rattle.tree.specs.EncodingLaws.{tree-width-is, length-encode-tree}
 use Rattle.tree.specs.RowAt.{row-count, row-at, all-rows, end-of-subtree, child-at}
+use Rattle.tree.specs.TreeBytes.{Sized}
 use Rattle.tree.specs.RowAtLaws.{row-in-rows, all-rows-of-tree, row-count-of-tree, depth-of-place}
-
--- the bytes of a tree: how many, and how many rows
-pub record Sized (b : List ℕ) : Type 0 where
-  pub wide : length b ≡ tree-width
-  pub some-rows : 0 < row-count b
-  pub few-rows : row-count b ≤ 256
 
 module _ (t : Place Node) (h : is-tree t ≡ true) where
   pub tree-sized : Sized (encode-tree t)

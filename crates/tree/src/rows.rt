@@ -1,9 +1,8 @@
 // The fields of a row.
 ghost use mathlib.Core.Path.{_≡_};
-ghost use Prim.Native.Nat.{_+_, _*_, _<_};
-ghost use lib.ListN.{length};
-ghost use Rattle.tree.specs.Layout.{tree-width};
+ghost use Prim.Native.Nat.{_+_, _*_};
 ghost use Rattle.tree.specs.RowAt.{row-count, row-at, tag-text-at, tag-number-at};
+ghost use Rattle.tree.specs.TreeBytes.{Wide, Has-row};
 use crate::Kind;
 use crate::layout::CONTENT;
 use crate::layout::CONTENT_WIDTH;
@@ -26,21 +25,21 @@ use buffers::text;
 
 // How many rows there are.
 pub fn count(tree: &[u8]) -> usize
-    requires { ⌜ length (now tree) ≡ tree-width ⌝ }
+    requires { ⌜ Wide (now tree) ⌝ }
     ensures { λ r. ⌜ r ≡ row-count (now (tree .entry)) ⌝ }
 {
     number(tree, 0) as usize
 }
 
 pub fn depth_at(tree: &[u8], i: usize) -> u8
-    requires { ⌜ (length (now tree) ≡ tree-width) × (i < 256) ⌝ }
+    requires { ⌜ Has-row (now tree) i ⌝ }
     ensures { λ r. ⌜ r ≡ row-at (now (tree .entry)) i .depth ⌝ }
 {
     tree[FIRST + ROW * i]
 }
 
 pub fn kind_at(tree: &[u8], i: usize) -> Kind
-    requires { ⌜ (length (now tree) ≡ tree-width) × (i < 256) ⌝ }
+    requires { ⌜ Has-row (now tree) i ⌝ }
     ensures { λ r. ⌜ r ≡ row-at (now (tree .entry)) i .here .kind ⌝ }
 {
     if tree[FIRST + ROW * i + KIND] == b'd' {
@@ -50,28 +49,28 @@ pub fn kind_at(tree: &[u8], i: usize) -> Kind
 }
 
 pub fn owner_at(tree: &[u8], i: usize) -> Uid
-    requires { ⌜ (length (now tree) ≡ tree-width) × (i < 256) ⌝ }
+    requires { ⌜ Has-row (now tree) i ⌝ }
     ensures { λ r. ⌜ r ≡ row-at (now (tree .entry)) i .here .owner ⌝ }
 {
     Uid(tree[FIRST + ROW * i + OWNER])
 }
 
 pub fn group_at(tree: &[u8], i: usize) -> Gid
-    requires { ⌜ (length (now tree) ≡ tree-width) × (i < 256) ⌝ }
+    requires { ⌜ Has-row (now tree) i ⌝ }
     ensures { λ r. ⌜ r ≡ row-at (now (tree .entry)) i .here .group ⌝ }
 {
     Gid(tree[FIRST + ROW * i + GROUP])
 }
 
 pub fn mode_at(tree: &[u8], i: usize) -> u16
-    requires { ⌜ (length (now tree) ≡ tree-width) × (i < 256) ⌝ }
+    requires { ⌜ Has-row (now tree) i ⌝ }
     ensures { λ r. ⌜ r ≡ row-at (now (tree .entry)) i .here .mode ⌝ }
 {
     number(tree, FIRST + ROW * i + MODE)
 }
 
 pub fn revision_at(tree: &[u8], i: usize) -> u16
-    requires { ⌜ (length (now tree) ≡ tree-width) × (i < 256) ⌝ }
+    requires { ⌜ Has-row (now tree) i ⌝ }
     ensures { λ r. ⌜ r ≡ row-at (now (tree .entry)) i .here .revision ⌝ }
 {
     number(tree, FIRST + ROW * i + REVISION)
@@ -79,7 +78,7 @@ pub fn revision_at(tree: &[u8], i: usize) -> u16
 
 // The name; none for `/`.
 pub fn name_at(tree: &[u8], i: usize) -> &[u8]
-    requires { ⌜ (length (now tree) ≡ tree-width) × (i < 256) ⌝ }
+    requires { ⌜ Has-row (now tree) i ⌝ }
     ensures { λ r. ⌜ now r ≡ row-at (now (tree .entry)) i .name ⌝ }
 {
     text(tree, FIRST + ROW * i + NAME, NAME_WIDTH)
@@ -87,21 +86,21 @@ pub fn name_at(tree: &[u8], i: usize) -> &[u8]
 
 // The path of the tag as text; none where there is no tag.
 pub fn tag_path_at(tree: &[u8], i: usize) -> &[u8]
-    requires { ⌜ (length (now tree) ≡ tree-width) × (i < 256) ⌝ }
+    requires { ⌜ Has-row (now tree) i ⌝ }
     ensures { λ r. ⌜ now r ≡ tag-text-at (now (tree .entry)) i ⌝ }
 {
     text(tree, FIRST + ROW * i + TAG, TAG_WIDTH)
 }
 
 pub fn tag_revision_at(tree: &[u8], i: usize) -> u16
-    requires { ⌜ (length (now tree) ≡ tree-width) × (i < 256) ⌝ }
+    requires { ⌜ Has-row (now tree) i ⌝ }
     ensures { λ r. ⌜ r ≡ tag-number-at (now (tree .entry)) i ⌝ }
 {
     number(tree, FIRST + ROW * i + TAG_REVISION)
 }
 
 pub fn content_at(tree: &[u8], i: usize) -> &[u8]
-    requires { ⌜ (length (now tree) ≡ tree-width) × (i < 256) ⌝ }
+    requires { ⌜ Has-row (now tree) i ⌝ }
     ensures { λ r. ⌜ now r ≡ row-at (now (tree .entry)) i .here .content ⌝ }
 {
     text(tree, FIRST + ROW * i + CONTENT, CONTENT_WIDTH)

@@ -1,10 +1,9 @@
 // Scans over the rows: where a subtree ends, and where a child stands.
 ghost use mathlib.Core.Path.{_≡_};
 ghost use Prim.Native.Nat.{_≤_, _<_};
-ghost use lib.ListN.{length};
-ghost use Rattle.tree.specs.Layout.{tree-width};
 ghost use Rattle.tree.specs.RowScan.{passes, is-child};
 ghost use Rattle.tree.specs.RowAt.{row-count, row-at, all-rows, end-of-subtree, child-at};
+ghost use Rattle.tree.specs.TreeBytes.{Has-row, Used};
 use crate::Child;
 use crate::rows::count;
 use crate::rows::depth_at;
@@ -15,7 +14,7 @@ use buffers::same;
 
 // Where the rows of a place end: at the next row that is no deeper, or after the last.
 pub fn subtree_end(tree: &[u8], at: usize) -> usize
-    requires { ⌜ (length (now tree) ≡ tree-width) × ((row-count (now tree) ≤ 256) × (at < row-count (now tree))) ⌝ }
+    requires { ⌜ Used (now tree) at ⌝ }
     ensures { λ r. ⌜ (r ≡ end-of-subtree (all-rows (now (tree .entry))) at) × (r ≤ row-count (now (tree .entry))) ⌝ }
 {
     let n = count(tree);
@@ -32,7 +31,7 @@ pub fn subtree_end(tree: &[u8], at: usize) -> usize
 
 // Whether the scan for a child goes past a row: a deeper one, or a sibling whose name comes before.
 fn goes_past(tree: &[u8], i: usize, depth: usize, name: &[u8]) -> bool
-    requires { ⌜ (length (now tree) ≡ tree-width) × (i < 256) ⌝ }
+    requires { ⌜ Has-row (now tree) i ⌝ }
     ensures { λ r. ⌜ r ≡ passes depth (now (name .entry)) (row-at (now (tree .entry)) i) ⌝ }
 {
     let d = depth_at(tree, i) as usize;
@@ -51,7 +50,7 @@ fn goes_past(tree: &[u8], i: usize, depth: usize, name: &[u8]) -> bool
 
 // Whether a row is that of a child.
 fn is_child(tree: &[u8], i: usize, depth: usize, name: &[u8]) -> bool
-    requires { ⌜ (length (now tree) ≡ tree-width) × (i < 256) ⌝ }
+    requires { ⌜ Has-row (now tree) i ⌝ }
     ensures { λ r. ⌜ r ≡ is-child depth (now (name .entry)) (row-at (now (tree .entry)) i) ⌝ }
 {
     if depth_at(tree, i) as usize != depth {
@@ -62,7 +61,7 @@ fn is_child(tree: &[u8], i: usize, depth: usize, name: &[u8]) -> bool
 
 // The child of a place, or where it would stand.
 pub fn find_child(tree: &[u8], at: usize, name: &[u8]) -> Child
-    requires { ⌜ (length (now tree) ≡ tree-width) × ((row-count (now tree) ≤ 256) × (at < row-count (now tree))) ⌝ }
+    requires { ⌜ Used (now tree) at ⌝ }
     ensures { λ r. ⌜ r ≡ child-at (all-rows (now (tree .entry))) at (now (name .entry)) ⌝ }
 {
     let n = count(tree);

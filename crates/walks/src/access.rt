@@ -1,11 +1,9 @@
 // What an account may do at a row.
 ghost use mathlib.Core.Path.{_≡_};
-ghost use Prim.Native.Nat.{_<_};
-ghost use lib.ListN.{length};
-ghost use Rattle.tree.specs.Layout.{tree-width};
 ghost use Rattle.tree.specs.Node.{allows};
 ghost use Rattle.tree.specs.Walk.{by-modes};
 ghost use Rattle.tree.specs.RowAt.{row-at};
+ghost use Rattle.tree.specs.TreeBytes.{Has-row};
 use accounts::Account;
 use accounts::Right;
 use tree::Kind;
@@ -16,7 +14,7 @@ use tree::owner_at;
 
 // The access test.
 pub fn may_at(tree: &[u8], i: usize, account: Account, right: Right) -> bool
-    requires { ⌜ (length (now tree) ≡ tree-width) × (i < 256) ⌝ }
+    requires { ⌜ Has-row (now tree) i ⌝ }
     ensures { λ r. ⌜ r ≡ allows account right (row-at (now (tree .entry)) i .here) ⌝ }
 {
     let owner = owner_at(tree, i);
@@ -27,7 +25,7 @@ pub fn may_at(tree: &[u8], i: usize, account: Account, right: Right) -> bool
 
 // Whether a file may be read, with r, or a directory listed, with r and x.
 pub fn readable_at(tree: &[u8], i: usize, account: Account) -> bool
-    requires { ⌜ (length (now tree) ≡ tree-width) × (i < 256) ⌝ }
+    requires { ⌜ Has-row (now tree) i ⌝ }
     ensures { λ r. ⌜ r ≡ by-modes account .readable (row-at (now (tree .entry)) i .here) ⌝ }
 {
     if !may_at(tree, i, account, Right::R) {

@@ -1,9 +1,7 @@
 // Walks along a path: name by name from `/`, each directory entered before a name is looked up in it.
 ghost use mathlib.Core.Path.{_≡_};
-ghost use Prim.Native.Nat.{_≤_, _<_};
-ghost use lib.ListN.{length};
-ghost use Rattle.tree.specs.Layout.{tree-width};
-ghost use Rattle.tree.specs.RowAt.{row-count, all-rows};
+ghost use Rattle.tree.specs.RowAt.{all-rows};
+ghost use Rattle.tree.specs.TreeBytes.{Sized, Used};
 ghost use Rattle.walks.specs.RowWalk.{spot, outcome, enter-in, step-in, walk-in, parent-walk-in};
 use crate::Walked;
 use crate::access::may_at;
@@ -19,7 +17,7 @@ use tree::kind_at;
 
 // Into a directory: refused at a file, and without x.
 fn enter(tree: &[u8], account: Account, row: usize, above: usize) -> Walked
-    requires { ⌜ (length (now tree) ≡ tree-width) × ((row-count (now tree) ≤ 256) × (row < row-count (now tree))) ⌝ }
+    requires { ⌜ Used (now tree) row ⌝ }
     ensures { λ r. ⌜ outcome r ≡ enter-in account (all-rows (now (tree .entry))) (spot row above) ⌝ }
 {
     match kind_at(tree, row) {
@@ -35,7 +33,7 @@ fn enter(tree: &[u8], account: Account, row: usize, above: usize) -> Walked
 
 // From a place to its child of a name.
 fn step(tree: &[u8], account: Account, row: usize, above: usize, name: &[u8]) -> Walked
-    requires { ⌜ (length (now tree) ≡ tree-width) × ((row-count (now tree) ≤ 256) × (row < row-count (now tree))) ⌝ }
+    requires { ⌜ Used (now tree) row ⌝ }
     ensures { λ r. ⌜ outcome r ≡ step-in account (all-rows (now (tree .entry))) (spot row above) (now (name .entry)) ⌝ }
 {
     match enter(tree, account, row, above) {
@@ -49,7 +47,7 @@ fn step(tree: &[u8], account: Account, row: usize, above: usize, name: &[u8]) ->
 
 // The walk to the place at a path.
 pub fn walk(tree: &[u8], account: Account, path: &[u8]) -> Walked
-    requires { ⌜ (length (now tree) ≡ tree-width) × ((0 < row-count (now tree)) × (row-count (now tree) ≤ 256)) ⌝ }
+    requires { ⌜ Sized (now tree) ⌝ }
     ensures { λ r. ⌜ outcome r ≡ walk-in account (all-rows (now (tree .entry))) (now (path .entry)) ⌝ }
 {
     let mut row: usize = 0;
@@ -82,7 +80,7 @@ pub fn walk(tree: &[u8], account: Account, path: &[u8]) -> Walked
 
 // The walk to the directory that the last name of a path is in, with its x test.
 pub fn parent_walk(tree: &[u8], account: Account, path: &[u8]) -> Walked
-    requires { ⌜ (length (now tree) ≡ tree-width) × ((0 < row-count (now tree)) × (row-count (now tree) ≤ 256)) ⌝ }
+    requires { ⌜ Sized (now tree) ⌝ }
     ensures { λ r. ⌜ outcome r ≡ parent-walk-in account (all-rows (now (tree .entry))) (now (path .entry)) ⌝ }
 {
     let slash = syntax::last_slash(path);

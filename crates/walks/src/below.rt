@@ -3,9 +3,10 @@ ghost use mathlib.Core.Path.{_≡_};
 ghost use mathlib.Core.List.{[], _∷_, _++_};
 ghost use Prim.Native.Nat.{_+_, _-_, _≤_, _<_};
 ghost use lib.ListN.{length, drop};
-ghost use Rattle.tree.specs.Layout.{tree-width};
+ghost use Rattle.tree.specs.Layout.{name-width};
 ghost use Rattle.tree.specs.Forest.{larger};
-ghost use Rattle.tree.specs.RowAt.{row-count, row-at, all-rows};
+ghost use Rattle.tree.specs.RowAt.{row-at, all-rows};
+ghost use Rattle.tree.specs.TreeBytes.{Has-row, Used};
 ghost use Rattle.walks.specs.RowBelow.{has-children, height-in, names-at, child-text, Adds};
 use buffers::write;
 use tree::count;
@@ -14,7 +15,7 @@ use tree::name_at;
 
 // Whether a row has children: the first would be the next row.
 pub fn has_children(tree: &[u8], at: usize) -> bool
-    requires { ⌜ (length (now tree) ≡ tree-width) × ((row-count (now tree) ≤ 256) × (at < row-count (now tree))) ⌝ }
+    requires { ⌜ Used (now tree) at ⌝ }
     ensures { λ r. ⌜ r ≡ has-children (all-rows (now (tree .entry))) at ⌝ }
 {
     if count(tree) <= at + 1 {
@@ -34,7 +35,7 @@ fn larger_of(a: u8, b: u8) -> u8
 
 // How many levels of rows lie below a row.
 pub fn height_below(tree: &[u8], at: usize) -> usize
-    requires { ⌜ (length (now tree) ≡ tree-width) × ((row-count (now tree) ≤ 256) × (at < row-count (now tree))) ⌝ }
+    requires { ⌜ Used (now tree) at ⌝ }
     ensures { λ r. ⌜ (r ≡ height-in (all-rows (now (tree .entry))) at) × (r ≤ 255) ⌝ }
 {
     let n = count(tree);
@@ -54,7 +55,8 @@ pub fn height_below(tree: &[u8], at: usize) -> usize
 
 // Adds a name to those written, with a comma before it unless it is the first; tells where the next would stand.
 fn add_name(answer: &mut [u8], place: usize, name: &[u8]) -> usize
-    requires { ⌜ (place + length (now name) ≤ length (now answer)) × (length (now name) ≤ 8) ⌝ }
+    requires { ⌜ place + length (now name) ≤ length (now answer) ⌝ }
+    requires { ⌜ length (now name) ≤ name-width ⌝ }
     ensures { λ r. ⌜ Adds (now (name .entry) ∷ []) (now (answer .entry)) place (now (answer .exit)) r × (r ≤ place + 9) ⌝ }
 {
     if place == 0 {
@@ -68,7 +70,8 @@ fn add_name(answer: &mut [u8], place: usize, name: &[u8]) -> usize
 
 // Adds the name of a row to those written if the row lies at a depth.
 fn add_child(tree: &[u8], i: usize, depth: usize, answer: &mut [u8], place: usize) -> usize
-    requires { ⌜ (length (now tree) ≡ tree-width) × ((i < 256) × (place + 8 ≤ length (now answer))) ⌝ }
+    requires { ⌜ Has-row (now tree) i ⌝ }
+    requires { ⌜ place + 8 ≤ length (now answer) ⌝ }
     ensures { λ r. ⌜ Adds (names-at depth (row-at (now (tree .entry)) i ∷ [])) (now (answer .entry)) place (now (answer .exit)) r × (r ≤ place + 9) ⌝ }
 {
     if depth_at(tree, i) as usize != depth {
@@ -89,7 +92,8 @@ fn bytes_before(place: usize) -> usize
 
 // Writes the names of the children, parted by commas, over the answer, and tells how many bytes they take.
 pub fn child_names(tree: &[u8], at: usize, answer: &mut [u8]) -> usize
-    requires { ⌜ (length (now tree) ≡ tree-width) × ((row-count (now tree) ≤ 256) × ((at < row-count (now tree)) × (2304 ≤ length (now answer)))) ⌝ }
+    requires { ⌜ Used (now tree) at ⌝ }
+    requires { ⌜ 2304 ≤ length (now answer) ⌝ }
     ensures { λ r. ⌜ (let text = child-text (all-rows (now (tree .entry))) at in (r ≡ length text) × (now (answer .exit) ≡ text ++ drop (length text) (now (answer .entry)))) ⌝ }
 {
     let n = count(tree);

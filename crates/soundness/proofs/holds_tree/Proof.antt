@@ -61,7 +61,7 @@ in-order-requires : tie.Need-in-order-requires
 in-order-requires c κs =
     let top = answers-true (c .before .is-top .ensures) (c .if5 .left) in
     let t = now (start ((c .before .before .before .before)) .args .tree) in
-    ((omega arith, top-at-zero (row-at t 0) top), (omega arith, (omega arith, omega arith)))
+    (omega arith, (omega arith, top-at-zero (row-at t 0) top))
 
 returns-6 : tie.Need-returns-6
 returns-6 c =

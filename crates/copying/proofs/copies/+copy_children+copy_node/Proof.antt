@@ -82,7 +82,7 @@ copy-children-subtree-end-requires : (t : ℕ) → copy-children-lts.Need-subtre
 copy-children-subtree-end-requires t c κs =
     let s = c .before .before .before in
     let p = s .pre .1 in
-    (p .0, (p .1 .0, p .1 .1 .0))
+    omega (arith, p .0, p .1 .0, p .1 .1 .0)
 
 copy-children-add-i : (t : ℕ) → copy-children-lts.Need-add-i (
   subtree-end-reads.Asked,
@@ -149,7 +149,7 @@ copy-children-subtree-end-requires-2 t c κs =
     let p = s .pre .1 in
     let l = c .before .before .before .before .before .loop in
     let e = c .before .before .before .before .before .before .subtree-end .ensures in
-    (p .0, (p .1 .0, omega (arith, e .1)))
+    omega (arith, p .0, p .1 .0, e .1)
 
 copy-children-loop-less : (t : ℕ) → copy-children-lts.Need-loop-less (
   subtree-end-reads.Asked,
@@ -221,7 +221,7 @@ copy-node-readable-at-requires t c κs =
     let s = c .before .before .before in
     let a = s .args in
     let p = s .pre .1 in
-    (p .0, omega (arith, p .1 .0, p .1 .1 .0, p .1 .1 .1 .1 .0, p .1 .1 .1 .1 .1 .below .room))
+    omega (arith, p .0, p .1 .0, p .1 .1 .0, p .1 .1 .1 .1 .0, p .1 .1 .1 .1 .1 .below .room)
 
 copy-node-returns : (t : ℕ) → copy-node-lts.Need-returns (
   readable-at-reads.Asked,

@@ -23,7 +23,7 @@ revision-at-requires c κs =
     let a = s .args in
     let p = s .pre in
     let q = entry-asks (a .who) (now (a .tree)) (a .at) (a .group) (now (a .path)) (p .1 .1 .1) in
-    (q .0, omega (arith, q .1 .0, q .1 .1 .0))
+    omega (arith, q .0, q .1 .0, q .1 .1 .0)
 
 set-tag-requires : tie.Need-set-tag-requires
 set-tag-requires c κs =
@@ -31,7 +31,7 @@ set-tag-requires c κs =
     let a = s .args in
     let p = s .pre in
     let q = entry-asks (a .who) (now (a .tree)) (a .at) (a .group) (now (a .path)) (p .1 .1 .1) in
-    (c .before .before .before .before .copy-untagged .kept .1 .1 .1 .1 .0 ∙ p .0, (omega arith, q .1 .1 .1 .1))
+    (record { wide = c .before .before .before .before .copy-untagged .kept .1 .1 .1 .1 .0 ∙ p .0; low = omega arith }, q .1 .1 .1 .1)
 
 copy-children-requires : tie.Need-copy-children-requires
 copy-children-requires c κs =

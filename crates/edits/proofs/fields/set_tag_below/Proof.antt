@@ -87,7 +87,7 @@ returns c =
     ∙ ap (λ (l : List ℕ). paste l (at + 70) (two-bytes (a .revision)) 2) (p .write-padded .ensures)
     ∙ ap (λ (l : List ℕ). paste (paste (set l (at + 16 + n) 47) (at + 17 + n) (padded (53 - n) (now (a .name))) (53 - n)) (at + 70) (two-bytes (a .revision)) 2) (m .move-bytes .ensures)
     ∙ tag-below-put (now (a .tree)) (now (a .name)) (a .i) (a .above) n (a .revision) (omega arith) (omega arith) q
-    (omega (arith, g .before .before .before .before .pre .1 .1 .1))
+    (omega (arith, g .before .before .before .before .pre .1 .1))
 
 pub set-tag-below-spec : {M : Type 1} → statement M
 set-tag-below-spec =

@@ -20,8 +20,7 @@ is-superuser = refl
 
 parent-walk-requires : tie.Need-parent-walk-requires
 parent-walk-requires c κs =
-    let z = vacant-sized (c .before .before .pre) in
-    (z .wide, (z .some-rows, z .few-rows))
+    vacant-sized (c .before .before .pre)
 
 enum-known-row : tie.Need-enum-known-row
 enum-known-row c = search needs
@@ -45,7 +44,7 @@ find-child-requires c κs =
     let z = vacant-sized v in
     let t = c .before .before .row .given in
     let r = vacant-row v superuser (t .0 .0) (t .0 .1 .0) is-superuser (ap outcome (sym (t .1)) ∙ c .before .before .before .before .parent-walk .ensures) in
-    (z .wide, (z .few-rows, vacant-index v (t .0 .0) r))
+    record { sized = z; used = vacant-index v (t .0 .0) r }
 
 enum-known-at : tie.Need-enum-known-at
 enum-known-at c = search needs
@@ -67,7 +66,7 @@ depth-at-requires c κs =
     let z = vacant-sized v in
     let t = c .before .before .before .before .before .before .row .given in
     let r = vacant-row v superuser (t .0 .0) (t .0 .1 .0) is-superuser (ap outcome (sym (t .1)) ∙ c .before .before .before .before .before .before .before .before .parent-walk .ensures) in
-    (z .wide, omega (arith, vacant-index v (t .0 .0) r, z .few-rows))
+    record { wide = z .wide; low = omega (arith, vacant-index v (t .0 .0) r, z .few-rows) }
 
 add-t12 : tie.Need-add-t12
 add-t12 c =

@@ -19,7 +19,7 @@ subtree-end-requires : tie.Need-subtree-end-requires
 subtree-end-requires c κs =
     let m = c .before .before .before .before .pre .0 in
     let z = movable-sized m in
-    (z .wide, (z .few-rows, movable-row m))
+    record { sized = z; used = movable-row m }
 
 sub-n : tie.Need-sub-n
 sub-n c =
@@ -97,7 +97,7 @@ take-rows-requires c κs =
     let z = movable-sized m in
     let e = c .before .before .before .before .before .before .before .subtree-end in
     let q = movable-end m (e .result) (e .ensures .0) in
-    (z .wide, (z .few-rows, omega (arith, q)))
+    record { wide = z .wide; few-rows = z .few-rows; inside = omega (arith, q) }
 
 gap-for-requires : tie.Need-gap-for-requires
 gap-for-requires c κs =
@@ -141,14 +141,8 @@ put-rows-requires c κs =
     let w = c .before .before .before .before .before .before .before .before .before .before .before .before .before .before .before .write-many .kept .0 in
     let h = c .before .before .before .before .relabel .kept .0 in
     let g = c .before .before .before .before .before .before .before .gap-for .ensures v .0 in (
-      vacant-sized v .wide,
-      (
-        omega (arith, g, vacant-spot v),
-        (
-          left-room m n count (k .last .0) (k .ensures),
-          omega (arith, q, z .few-rows, w, h, s .pre .1),
-        ),
-      ),
+      record { wide = vacant-sized v .wide; inside = omega (arith, g, vacant-spot v); room = left-room m n count (k .last .0) (k .ensures) },
+      omega (arith, q, z .few-rows, w, h, s .pre .1),
     )
 
 same-length : tie.Need-same-length

@@ -85,7 +85,7 @@ abbrev μ-loop : tie.MeasureT-loop
 μ-loop tree n last₀ i₀ last i = n - i
 
 loop-holds : tie.Need-loop-holds Inv-loop μ-loop
-loop-holds c = begins (now (c .before .args .tree)) (replicate 7 0) (c .before .pre .0 .1) refl
+loop-holds c = begins (now (c .before .args .tree)) (replicate 7 0) (c .before .pre .1 .1) refl
 
 is-row-requires : tie.Need-is-row-requires Inv-loop μ-loop
 is-row-requires c κs = omega arith
@@ -109,7 +109,7 @@ array-read-follows : tie.Need-array-read-follows Inv-loop μ-loop
 array-read-follows c = omega arith
 
 follows-requires : tie.Need-follows-requires Inv-loop μ-loop
-follows-requires c κs = let g = c .before .before .before .before .before .loop .inv in ((omega arith, omega arith), (g .some, (omega arith, seen g (c .before .depth-at .result))))
+follows-requires c κs = let g = c .before .before .before .before .before .loop .inv in (omega arith, (record { wide = omega arith; low = seen g (c .before .depth-at .result) }, (g .some, omega arith)))
 
 returns-3 : tie.Need-returns-3 Inv-loop μ-loop
 returns-3 c =

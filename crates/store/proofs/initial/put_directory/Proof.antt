@@ -13,7 +13,7 @@ find-child-requires : tie.Need-find-child-requires
 find-child-requires c κs =
     let s = c .before .before .before in
     let z = opens-sized (now (s .args .tree)) (now (s .args .name)) (s .pre .0) (s .pre .1) in
-    (z .0, (omega (arith, z .2), z .1))
+    omega (arith, z)
 
 enum-told : tie.Need-enum-told
 enum-told c = search needs
@@ -29,7 +29,7 @@ put-child-requires c κs =
     let z = opens-sized b n (s .pre .0) (s .pre .1) in
     let k = c .before .before .j .given in
     let found = sym (k .1) ∙ c .before .before .before .before .find-child .ensures in
-    (z .0, (z .2, (spot-within b n (s .pre .0) (s .pre .1) (k .0 .0) found, opens-short b n (s .pre .0) (s .pre .1))))
+    (record { wide = z .0; inside = spot-within b n (s .pre .0) (s .pre .1) (k .0 .0) found; room = omega (arith, z .2) }, opens-short b n (s .pre .0) (s .pre .1))
 
 same-length : tie.Need-same-length
 same-length c = search needs

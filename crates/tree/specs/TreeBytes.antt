@@ -1,0 +1,60 @@
+-- What it is that bytes are a tree's: as many as a tree has, with room for a row, with a row in use, with a number of rows; the
+-- bytes of a well-formed tree; and the row of a place in them. What the code asks for is said in these words.
+use mathlib.Core.Path.{_≡_}
+use mathlib.Core.List.{List}
+use mathlib.Core.Option.{some}
+use mathlib.Core.Bool.{true}
+use Prim.Native.Nat.{ℕ, _+_, _≤_, _<_}
+use lib.ListN.{length}
+use Rattle.syntax.specs.Path.{Path}
+use Rattle.tree.specs.Layout.{most-rows, tree-width}
+use Rattle.tree.specs.Forest.{Place, place-at}
+use Rattle.tree.specs.Node.{Node}
+use Rattle.tree.specs.WellFormed.{is-tree}
+use Rattle.tree.specs.Encoding.{encode-tree}
+use Rattle.tree.specs.RowContext.{index-of}
+use Rattle.tree.specs.RowAt.{row-count}
+
+-- as many bytes as a tree has
+abbrev pub Wide : List ℕ → Type 0
+Wide b = length b ≡ tree-width
+
+-- and room for a row at the index
+pub record Has-row (b : List ℕ) (i : ℕ) : Type 0 where
+  pub wide : Wide b
+  pub low : i < most-rows
+
+-- with a number of rows: there is one at least, and room for all
+pub record Sized (b : List ℕ) : Type 0 where
+  pub wide : Wide b
+  pub some-rows : 0 < row-count b
+  pub few-rows : row-count b ≤ most-rows
+
+-- the row at the index is one of them
+pub record Used (b : List ℕ) (i : ℕ) : Type 0 where
+  pub sized : Sized b
+  pub used : i < row-count b
+
+-- n rows may be put in before the row at the index
+pub record Gap (b : List ℕ) (i n : ℕ) : Type 0 where
+  pub wide : Wide b
+  pub inside : i ≤ row-count b
+  pub room : row-count b + n ≤ most-rows
+
+-- the n rows from the index on are among them
+pub record Stretch (b : List ℕ) (i n : ℕ) : Type 0 where
+  pub wide : Wide b
+  pub few-rows : row-count b ≤ most-rows
+  pub inside : i + n ≤ row-count b
+
+-- the bytes of the well-formed tree t
+pub record Encodes (b : List ℕ) (t : Place Node) : Type 0 where
+  pub sized : Sized b
+  pub whole : is-tree t ≡ true
+  pub bytes : b ≡ encode-tree t
+
+-- in which row i is that of the place d at the path p
+pub record At (b : List ℕ) (t : Place Node) (p : Path) (i : ℕ) (d : Place Node) : Type 0 where
+  pub tree : Encodes b t
+  pub there : place-at t p ≡ some d
+  pub row : i ≡ index-of t p
