@@ -14,19 +14,20 @@ use Rattle.syntax.specs.FormLaws.{answered, no-answer}
 use Rattle.tree.specs.declared.Cause.the-variants.{Missing, Unsound, ShortAnswer}
 use Rattle.tree.specs.Result.{Result, refused, done, present, Outcome}
 use Rattle.tree.specs.ResultLaws.{present-some}
-use Rattle.tree.specs.Agree.{Ensures, ensured, ensured-done, after-do, after-check}
+use Rattle.tree.specs.Gives.{gives, Ensures, done-with, then-check, then-do}
 use Rattle.shell.specs.Steps.{longest-text}
+use Rattle.store.specs.State.{state-of}
 use Rattle.store.specs.StateLaws.{parts}
 use Rattle.store.specs.StoreBytes.{decode}
 use Rattle.store.specs.StoreBytesLaws.{length-encode, encode-decode, decode-length}
 use Rattle.machine.specs.StoreMachine.{store}
 use Rattle.machine.specs.Runs.{Reply, ok, refusal, reply, after, perform}
+use Rattle.machine.specs.RunsLaws.{least-room-is}
 use Rattle.machine.specs.MachineAnswerLaws.{perform-fits}
 use Rattle.machine.specs.MachineKeepingLaws.{perform-keeps}
 use Rattle.calls.specs.Listing.{longest-listing-line, listing}
 use Rattle.calls.specs.ListingLaws.{lines-fit}
 use Rattle.calls.specs.Calls.{written, called, encoded, run-result, run-call, listing-result, listing-call}
-use Rattle.machine.specs.RunsLaws.{least-room-is}
 
 -- ---- buffers
 
@@ -57,7 +58,7 @@ bounded-called : (b answer : List ℕ) (most : ℕ) (r : Result (Outcome (List �
 unfolding called after reply
 bounded-called b answer most (refused why) h = (refl, written-length (refusal why) answer (λ t e. contra {b = true} refl (cc)))
 bounded-called b answer most (done o) h =
-    let k = ensured-done h in
+    let k = done-with h refl in
     (k .stays, written-length (ok (o .text)) answer (λ t e. let i : o .text ≡ some t = cc in omega (arith, k .short t i, k .roomy)))
 
 -- ---- run
@@ -65,22 +66,23 @@ bounded-called b answer most (done o) h =
 run-bounded : (b : List ℕ) (line : Text) (room : ℕ) → Ensures (Bounded b room longest-text) (run-result b line room)
 unfolding run-result longest-text encoded
 run-bounded b line room =
-    after-check ShortAnswer _ λ l.
-    after-do (present (decode b) Unsound) λ s e.
+    then-check ShortAnswer tt _ λ l.
+    then-do (present (decode b) Unsound) λ s e.
     let d = present-some (decode b) Unsound e in
     let w = encode-decode b s d .1 in
     let p = parts s w in
-    after-do (perform store (s .setup) (s .store) line) λ o i.
-    ensured (record {
-      stays = length-encode (record { setup = s .setup; store = o .state }) (ensured-done (rw i at (perform-keeps (s .setup) (p .0) (s .store) w line))) ∙ sym (decode-length b s d);
+    then-do (perform store (s .setup) (s .store) line) λ o i.
+    gives (record {
+      stays = length-encode (state-of (s .setup) (o .state)) (done-with (perform-keeps (s .setup) (p .0) (s .store) w line) i) ∙ sym (decode-length b s d);
       short = perform-fits (s .setup) (s .store) (p .1 .1) line o i;
       roomy = omega (arith, leb-true 4096 room (rw least-room-is at l));
     })
 
 -- the text of a done call has at most 2294 bytes
-pub run-text-fits : (b : List ℕ) (line : Text) (room : ℕ) (o : Outcome (List ℕ)) → run-result b line room ≡ done o → (t : Text) → o .text ≡ some t → length t ≤ 2294
+pub run-text-fits : (b : List ℕ) (line : Text) (room : ℕ) (o : Outcome (List ℕ)) → run-result b line room ≡ done o
+    → (t : Text) → o .text ≡ some t → length t ≤ 2294
 unfolding longest-text
-run-text-fits b line room o e t i = ensured-done (rw e at (run-bounded b line room)) .short t i
+run-text-fits b line room o e t i = done-with (run-bounded b line room) e .short t i
 
 -- a call keeps the lengths of both buffers
 pub run-keeps-lengths : (b : List ℕ) (line : Text) (answer : List ℕ) →
@@ -100,18 +102,19 @@ every-found f (a ∷ l) (suc n) t h e = every-found f l n t (and-both (f a) (eve
 listing-bounded : (b : List ℕ) (n room : ℕ) → Ensures (Bounded b room longest-listing-line) (listing-result b n room)
 unfolding listing-result longest-listing-line
 listing-bounded b n room =
-    after-check ShortAnswer _ λ l.
-    after-do (present (decode b) Unsound) λ s e.
+    then-check ShortAnswer tt _ λ l.
+    then-do (present (decode b) Unsound) λ s e.
     let w = encode-decode b s (present-some (decode b) Unsound e) .1 in
-    after-do (present (getElem? (listing (s .store .tree)) n) Missing) λ t i.
+    then-do (present (getElem? (listing (s .store .tree)) n) Missing) λ t i.
     let f = every-found (λ x. leb (length x) longest-listing-line) (listing (s .store .tree)) n t (lines-fit (s .store .tree) (parts s w .1 .1))
     (present-some (getElem? (listing (s .store .tree)) n) Missing i) in
-    ensured (record { stays = refl; short = λ x e. let q : x ≡ t = cc in rw q (leb-true (length t) 192 f); roomy = omega (arith, leb-true 4096 room (rw least-room-is at l)) })
+    gives (record { stays = refl; short = λ x e. let q : x ≡ t = cc in rw q (leb-true (length t) 192 f); roomy = omega (arith, leb-true 4096 room (rw least-room-is at l)) })
 
 -- a line has at most 192 bytes
-pub listing-text-fits : (b : List ℕ) (n room : ℕ) (o : Outcome (List ℕ)) → listing-result b n room ≡ done o → (t : Text) → o .text ≡ some t → length t ≤ 192
+pub listing-text-fits : (b : List ℕ) (n room : ℕ) (o : Outcome (List ℕ)) → listing-result b n room ≡ done o
+    → (t : Text) → o .text ≡ some t → length t ≤ 192
 unfolding longest-listing-line
-listing-text-fits b n room o e t i = ensured-done (rw e at (listing-bounded b n room)) .short t i
+listing-text-fits b n room o e t i = done-with (listing-bounded b n room) e .short t i
 
 -- a listing keeps the lengths too
 pub listing-keeps-lengths : (b : List ℕ) (n : ℕ) (answer : List ℕ) →

@@ -17,25 +17,25 @@ use Rattle.machine.specs.StoreMachine.{store}
 use Rattle.machine.specs.Runs.{runs}
 use Rattle.calls.specs.Listing.{listing}
 use Rattle.calls.specs.Transcript.{reply-line, call-of}
-use Rattle.calls.specs.Calls.{run-call, listing-call, setup-call}
+use Rattle.calls.specs.Calls.{setup-call, only-tells, run-call, listing-call}
 use Rattle.calls.specs.Compute.{compute, compute-calls}
 
 -- ---- refused before the command
 
 -- an empty buffer is no store: 20 with an answer buffer of 4,095 bytes, 18 with one of 4,096
-short-answer : run-call [] (bytes "1,logout") (replicate 4095 0) ≡ record { tells = record { number = 20; values = [] }; store = []; answer = replicate 4095 0 }
+short-answer : run-call [] (bytes "1,logout") (replicate 4095 0) ≡ only-tells 20 [] (replicate 4095 0)
 unfolding compute compute-calls
 short-answer = refl
 
-no-store : run-call [] (bytes "1,logout") (replicate 4096 0) ≡ record { tells = record { number = 18; values = [] }; store = []; answer = replicate 4096 0 }
+no-store : run-call [] (bytes "1,logout") (replicate 4096 0) ≡ only-tells 18 [] (replicate 4096 0)
 unfolding compute compute-calls
 no-store = refl
 
-short-answer-listed : listing-call [] 0 (replicate 4095 0) ≡ record { tells = record { number = 20; values = [] }; store = []; answer = replicate 4095 0 }
+short-answer-listed : listing-call [] 0 (replicate 4095 0) ≡ only-tells 20 [] (replicate 4095 0)
 unfolding compute compute-calls
 short-answer-listed = refl
 
-no-store-listed : listing-call [] 0 (replicate 4096 0) ≡ record { tells = record { number = 18; values = [] }; store = []; answer = replicate 4096 0 }
+no-store-listed : listing-call [] 0 (replicate 4096 0) ≡ only-tells 18 [] (replicate 4096 0)
 unfolding compute compute-calls
 no-store-listed = refl
 
@@ -75,12 +75,18 @@ two-commits v (accepted u) =
 committed : ℕ → List Text
 committed v = two-commits v (setup (bytes "p,1,1\nl,1,0,oak\nend\n"))
 
+after-9998 : Text
+after-9998 = bytes "ok\nno,16\n/,d,0,0,0755,0,-,0,\n/rep,d,16,24,0750,0,-,0,\n/rep/a,f,16,16,0440,9999,-,0,52\n/u1,d,1,1,0755,0,-,0,\n/u1/a,f,1,1,0600,0,/rep/a,9999,52"
+
 -- from 9998 one commit is done, and the next finds the revisions spent
-from-9998 : committed 9998 ≡ pieces newline (bytes "ok\nno,16\n/,d,0,0,0755,0,-,0,\n/rep,d,16,24,0750,0,-,0,\n/rep/a,f,16,16,0440,9999,-,0,52\n/u1,d,1,1,0755,0,-,0,\n/u1/a,f,1,1,0600,0,/rep/a,9999,52")
-unfolding compute filed-text at-revision two-commits committed
+from-9998 : committed 9998 ≡ pieces newline after-9998
+unfolding compute filed-text at-revision two-commits committed after-9998
 from-9998 = refl
 
+after-9999 : Text
+after-9999 = bytes "no,16\nno,16\n/,d,0,0,0755,0,-,0,\n/rep,d,16,24,0750,0,-,0,\n/rep/a,f,16,16,0440,9999,-,0,51\n/u1,d,1,1,0755,0,-,0,\n/u1/a,f,1,1,0600,0,/rep/a,9999,52"
+
 -- from 9999 none is
-from-9999 : committed 9999 ≡ pieces newline (bytes "no,16\nno,16\n/,d,0,0,0755,0,-,0,\n/rep,d,16,24,0750,0,-,0,\n/rep/a,f,16,16,0440,9999,-,0,51\n/u1,d,1,1,0755,0,-,0,\n/u1/a,f,1,1,0600,0,/rep/a,9999,52")
-unfolding compute filed-text at-revision two-commits committed
+from-9999 : committed 9999 ≡ pieces newline after-9999
+unfolding compute filed-text at-revision two-commits committed after-9999
 from-9999 = refl

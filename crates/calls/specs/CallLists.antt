@@ -9,7 +9,7 @@ use lib.Dec.{eqb}
 use lib.ListN.{length}
 use Rattle.buffers.specs.Text.{Text, every}
 use Rattle.setup.specs.Setup.{Setup, accepted, setup as setup-of}
-use Rattle.store.specs.State.{Store}
+use Rattle.store.specs.State.{Store, state-of}
 use Rattle.store.specs.StoreBytes.{decode}
 use Rattle.machine.specs.AbstractMachine.{Abstract, abstract, initial-abstract}
 use Rattle.machine.specs.Embedding.{stored}
@@ -59,7 +59,7 @@ responses-to (q ∷ qs) (r ∷ rs) = response q r ∷ responses-to qs rs
 -- bytes that stand for a state of the abstract machine: they are read as a store of the setup with its people's tree, sessions and entries
 pub record Stands-for (setup : Setup) (h : Abstract) (b : List ℕ) : Type 0 where
   pub store : Store
-  pub read : decode b ≡ some (record { setup = setup; store = store })
+  pub read : decode b ≡ some (state-of setup store)
   pub workspace : workspace-of store ≡ h .workspace
   pub sessions : store .sessions ≡ h .sessions
   pub entries : filed-in store ≡ some (stored (h .entries))

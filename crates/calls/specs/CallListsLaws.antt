@@ -17,7 +17,7 @@ use Rattle.tree.specs.Causes.{number, wrong-setup}
 use Rattle.tree.specs.CausesLaws.{wrong-setup-is, unsound-number, number-not-0, only-unsound-is-18}
 use Rattle.tree.specs.Result.{Result, refused, done, _>>=_, _>>_, require, Outcome}
 use Rattle.tree.specs.ResultLaws.{done-bind, refused-bind, then-bind}
-use Rattle.store.specs.State.{Store, State, well-formed}
+use Rattle.store.specs.State.{Store, state-of, well-formed}
 use Rattle.store.specs.Initial.{initial-store}
 use Rattle.store.specs.InitialLaws.{initial-well-formed}
 use Rattle.store.specs.StoreBytes.{store-width, encode, decode}
@@ -30,14 +30,11 @@ use Rattle.machine.specs.Observed.{without-root}
 use Rattle.machine.specs.MachineKeepingLaws.{step-keeps, runs-keep}
 use Rattle.machine.specs.ComparedLaws.{compared-lists}
 use Rattle.calls.specs.declared.Answer.the-variants.{Done, Refused, WrongLine}
-use Rattle.calls.specs.Calls.{Told, told, answer-of, written, set-up, setup-call, called, encoded, run-result, run-call}
+use Rattle.calls.specs.Calls.{Told, told, answer-of, written, set-up, setup-call, Called, called, encoded, run-result, run-call}
 use Rattle.calls.specs.CallsLaws.{run-on-encoding}
 use Rattle.calls.specs.CallLists.{Request, run-calls, call-for, rootless, response, responses-to, all-sound, Calls-compared}
 
 -- ---- one call
-
-abbrev state-of : Setup → Store → State
-state-of u s = record { setup = u; store = s }
 
 -- a call on bytes is the machine's step, with the state after it as bytes
 run-is-step : (u : Setup) (s : Store) → well-formed (state-of u s) ≡ true → (q : Request)
@@ -46,18 +43,18 @@ unfolding step call-for
 run-is-step u s h q = run-on-encoding (state-of u s) h (q .line) (length (q .answer)) ∙ sym (then-bind (require (leb least-room (length (q .answer))) ShortAnswer) (perform store u s (q .line)) (λ o. done (encoded u o)))
 
 -- what such a call tells and leaves
+abbrev pub step-called : Setup → Store → List ℕ → Result (Outcome Store) → Called
+step-called u s answer r = record { tells = told (answer-of (reply r)); store = encode (state-of u (after s r)); answer = written (reply r) answer }
+
 called-step : (u : Setup) (s : Store) (answer : List ℕ) (r : Result (Outcome Store))
-    → called (encode (state-of u s)) answer (r >>= λ o. done (encoded u o))
-    ≡ record { tells = told (answer-of (reply r)); store = encode (state-of u (after s r)); answer = written (reply r) answer }
+    → called (encode (state-of u s)) answer (r >>= λ o. done (encoded u o)) ≡ step-called u s answer r
 unfolding called reply after encoded
 called-step u s answer (refused why) = rw (refused-bind {B = Outcome (List ℕ)} why (λ o. done (encoded u o)))
 called-step u s answer (done o) = rw (done-bind o (λ x. done (encoded u x)))
 
 -- one call on the bytes of a well-formed state is the step of the machine
 pub run-on-state : (u : Setup) (s : Store) → well-formed (state-of u s) ≡ true → (q : Request) →
-    let r = step store u s (call-for q) in
-    run-call (encode (state-of u s)) (q .line) (q .answer)
-    ≡ record { tells = told (answer-of (reply r)); store = encode (state-of u (after s r)); answer = written (reply r) (q .answer) }
+    run-call (encode (state-of u s)) (q .line) (q .answer) ≡ step-called u s (q .answer) (step store u s (call-for q))
 unfolding run-call
 run-on-state u s h q = ap (called (encode (state-of u s)) (q .answer)) (run-is-step u s h q) ∙ called-step u s (q .answer) (step store u s (call-for q))
 
@@ -95,7 +92,8 @@ tells-not-18 (refused why) h = case (eqb (number why) 18)
     (λ e. rw e)
 
 -- so no response to a list does
-runs-sound : {S A : Type 0} (M : Machine S A) (u : Setup) (s : S) (qs : List Request) → all-sound (responses-to qs (runs M u s (map call-for qs) .replies)) ≡ true
+runs-sound : {S A : Type 0} (M : Machine S A) (u : Setup) (s : S) (qs : List Request)
+    → all-sound (responses-to qs (runs M u s (map call-for qs) .replies)) ≡ true
 unfolding all-sound every runs responses-to response
 runs-sound M u s [] = refl
 runs-sound M u s (q ∷ qs) =
@@ -131,7 +129,8 @@ unfolding setup-call set-up store-width
 set-up-takes b w text u e = rw (eq-eqb (length b) 65536 w, e)
 
 -- a buffer of another length is refused by 18, whatever the text
-pub set-up-elsewhere : (b : List ℕ) → (length b ≡ 65536 → ⊥) → (text : Text) → setup-call b text ≡ record { tells = record { number = 18; values = [] }; store = b }
+pub set-up-elsewhere : (b : List ℕ) → (length b ≡ 65536 → ⊥) → (text : Text)
+    → setup-call b text ≡ record { tells = record { number = 18; values = [] }; store = b }
 unfolding setup-call store-width told
 set-up-elsewhere b w text = rw (ne-eqb (length b) 65536 w, unsound-number)
 

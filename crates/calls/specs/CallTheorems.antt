@@ -12,7 +12,7 @@ use Rattle.setup.specs.Setup.{Setup, accepted, wrong-line, setup}
 use Rattle.tree.specs.declared.Cause.{Cause}
 use Rattle.tree.specs.CausesLaws.{wrong-setup-is}
 use Rattle.tree.specs.Result.{refused, done, Outcome}
-use Rattle.store.specs.State.{State, well-formed}
+use Rattle.store.specs.State.{State, state-of, well-formed}
 use Rattle.store.specs.Initial.{initial-store}
 use Rattle.store.specs.StoreBytes.{encode}
 use Rattle.store.specs.SoundStore.{Sound}
@@ -20,7 +20,7 @@ use Rattle.store.specs.SoundStoreLaws
 use Rattle.calls.specs.declared.Answer.the-variants.{Done, Refused}
 use Rattle.calls.specs.Listing.{listing}
 use Rattle.calls.specs.Transcript.{transcript}
-use Rattle.calls.specs.Calls.{told, setup-call, run-result, run-call, listing-result, listing-call}
+use Rattle.calls.specs.Calls.{told, setup-call, only-tells, run-result, run-call, listing-result, listing-call}
 use Rattle.calls.specs.CallsLaws
 use Rattle.calls.specs.CallBoundsLaws
 use Rattle.calls.specs.CallLists.{Request, run-calls, rootless, Calls-compared}
@@ -37,11 +37,12 @@ demand-3-on-calls = CallListsLaws.compared-calls
 
 -- A setup is done on every buffer of 65,536 bytes with every text that is accepted, and leaves the initial state's bytes.
 pub setup-is-done : (b : List ℕ) → length b ≡ 65536 → (text : Text) (u : Setup) → setup text ≡ accepted u →
-    setup-call b text ≡ record { tells = told Done; store = encode (record { setup = u; store = initial-store u }) }
+    setup-call b text ≡ record { tells = told Done; store = encode (state-of u (initial-store u)) }
 setup-is-done = CallListsLaws.set-up-takes
 
 -- Any other setup leaves the store's bytes: 18 on a buffer of another length, whatever the text,
-pub setup-elsewhere-is-18 : (b : List ℕ) → (length b ≡ 65536 → ⊥) → (text : Text) → setup-call b text ≡ record { tells = record { number = 18; values = [] }; store = b }
+pub setup-elsewhere-is-18 : (b : List ℕ) → (length b ≡ 65536 → ⊥) → (text : Text) →
+    setup-call b text ≡ record { tells = record { number = 18; values = [] }; store = b }
 setup-elsewhere-is-18 = CallListsLaws.set-up-elsewhere
 
 -- then 17 with the first wrong line.
@@ -57,25 +58,26 @@ program-is-transcript = ProgramLaws.program-is-transcript
 
 -- Before a command: 20 where the answer buffer has less than 4,096 bytes,
 pub short-answer-is-20 : (b : List ℕ) (line : Text) (answer : List ℕ) → length answer < 4096 →
-    run-call b line answer ≡ record { tells = record { number = 20; values = [] }; store = b; answer = answer }
+    run-call b line answer ≡ only-tells 20 b answer
 short-answer-is-20 = CallsLaws.short-answer-is-20
 
 -- then 18 where the store's bytes are not sound.
 pub unsound-is-18 : (b : List ℕ) → (Sound b → ⊥) → (line : Text) (answer : List ℕ) → 4096 ≤ length answer →
-    run-call b line answer ≡ record { tells = record { number = 18; values = [] }; store = b; answer = answer }
+    run-call b line answer ≡ only-tells 18 b answer
 unsound-is-18 b h line answer l = CallsLaws.unsound-is-18 b (SoundStoreLaws.unsound-is-none b h) line answer l
 
 -- A listing likewise: 20, then 18, then 3 past the last line; none changes a byte.
 pub listing-short-answer-is-20 : (b : List ℕ) (n : ℕ) (answer : List ℕ) → length answer < 4096 →
-    listing-call b n answer ≡ record { tells = record { number = 20; values = [] }; store = b; answer = answer }
+    listing-call b n answer ≡ only-tells 20 b answer
 listing-short-answer-is-20 = CallsLaws.short-answer-lists-20
 
 pub listing-unsound-is-18 : (b : List ℕ) → (Sound b → ⊥) → (n : ℕ) (answer : List ℕ) → 4096 ≤ length answer →
-    listing-call b n answer ≡ record { tells = record { number = 18; values = [] }; store = b; answer = answer }
+    listing-call b n answer ≡ only-tells 18 b answer
 listing-unsound-is-18 b h n answer l = CallsLaws.unsound-lists-18 b (SoundStoreLaws.unsound-is-none b h) n answer l
 
-pub listing-past-the-end-is-3 : (s : State) → well-formed s ≡ true → (n : ℕ) (answer : List ℕ) → 4096 ≤ length answer → getElem? (listing (s .store .tree)) n ≡ none →
-    listing-call (encode s) n answer ≡ record { tells = record { number = 3; values = [] }; store = encode s; answer = answer }
+pub listing-past-the-end-is-3 : (s : State) → well-formed s ≡ true → (n : ℕ) (answer : List ℕ) →
+    4096 ≤ length answer → getElem? (listing (s .store .tree)) n ≡ none →
+    listing-call (encode s) n answer ≡ only-tells 3 (encode s) answer
 listing-past-the-end-is-3 = CallsLaws.past-the-end-is-3
 
 -- No listing changes the store,
@@ -88,11 +90,13 @@ pub refused-changes-nothing : (b : List ℕ) (line : Text) (answer : List ℕ) (
 refused-changes-nothing = CallsLaws.refused-changes-nothing
 
 -- Texts fit. A done command's text has at most 2294 bytes,
-pub text-fits : (b : List ℕ) (line : Text) (room : ℕ) (o : Outcome (List ℕ)) → run-result b line room ≡ done o → (t : Text) → o .text ≡ some t → length t ≤ 2294
+pub text-fits : (b : List ℕ) (line : Text) (room : ℕ) (o : Outcome (List ℕ)) → run-result b line room ≡ done o →
+    (t : Text) → o .text ≡ some t → length t ≤ 2294
 text-fits = CallBoundsLaws.run-text-fits
 
 -- a listing's line at most 192,
-pub listing-line-fits : (b : List ℕ) (n room : ℕ) (o : Outcome (List ℕ)) → listing-result b n room ≡ done o → (t : Text) → o .text ≡ some t → length t ≤ 192
+pub listing-line-fits : (b : List ℕ) (n room : ℕ) (o : Outcome (List ℕ)) → listing-result b n room ≡ done o →
+    (t : Text) → o .text ≡ some t → length t ≤ 192
 listing-line-fits = CallBoundsLaws.listing-text-fits
 
 -- and every call on buffers of any bytes keeps the lengths of both.

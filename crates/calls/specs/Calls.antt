@@ -10,7 +10,7 @@ use Rattle.setup.specs.Setup.{Setup, Setup-answer, accepted, wrong-line, setup}
 use Rattle.tree.specs.declared.Cause.the-variants.{Missing, Unsound, ShortAnswer}
 use Rattle.tree.specs.Causes.{number, wrong-setup}
 use Rattle.tree.specs.Result.{Result, done, _>>=_, _>>_, require, present, Outcome}
-use Rattle.store.specs.State.{Store}
+use Rattle.store.specs.State.{Store, state-of}
 use Rattle.store.specs.Initial.{initial-store}
 use Rattle.store.specs.StoreBytes.{store-width, encode, decode}
 use Rattle.machine.specs.StoreMachine.{store}
@@ -55,7 +55,7 @@ pub record Set-up : Type 0 where
 
 unfoldable pub set-up : List ℕ → Setup-answer → Set-up
 set-up b (wrong-line n) = record { tells = told (WrongLine n); store = b }
-set-up b (accepted setup) = record { tells = told Done; store = encode (record { setup = setup; store = initial-store setup }) }
+set-up b (accepted setup) = record { tells = told Done; store = encode (state-of setup (initial-store setup)) }
 
 -- 18 (length only), then 17
 unfoldable pub setup-call : List ℕ → Text → Set-up
@@ -69,13 +69,17 @@ pub record Called : Type 0 where
   pub store : List ℕ
   pub answer : List ℕ
 
+-- a call that tells a number alone and leaves both buffers as they were
+abbrev pub only-tells : ℕ → List ℕ → List ℕ → Called
+only-tells n b answer = record { tells = record { number = n; values = [] }; store = b; answer = answer }
+
 -- a refused call leaves everything as it was
 unfoldable pub called : List ℕ → List ℕ → Result (Outcome (List ℕ)) → Called
 called b answer r = record { tells = told (answer-of (reply r)); store = after b r; answer = written (reply r) answer }
 
 -- the state after a command, as bytes
 unfoldable pub encoded : Setup → Outcome Store → Outcome (List ℕ)
-encoded setup o = record { text = o .text; state = encode (record { setup = setup; store = o .state }) }
+encoded setup o = record { text = o .text; state = encode (state-of setup (o .state)) }
 
 -- run: 20, 18, 1, 2, then the command
 unfoldable pub run-result : List ℕ → Text → ℕ → Result (Outcome (List ℕ))

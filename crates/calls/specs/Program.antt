@@ -14,7 +14,7 @@ use Rattle.tree.specs.declared.Cause.the-variants.{Missing}
 use Rattle.tree.specs.Causes.{number}
 use Rattle.tree.specs.WellFormed.{most-nodes}
 use Rattle.calls.specs.Transcript.{parts, command-lines, lines-text}
-use Rattle.calls.specs.Calls.{Told, setup-call, run-call, listing-call}
+use Rattle.calls.specs.Calls.{Told, Set-up, setup-call, run-call, listing-call}
 
 -- the text whose length a done call tells
 unfoldable pub text-told : List ℕ → List ℕ → Text
@@ -60,8 +60,12 @@ run-and-list b answer ts =
     let ran = run-lines b answer ts in
     lines-text (ran .lines ++ list-lines (suc most-nodes) (ran .store) (ran .answer) 0)
 
+-- the output after the setup's call
+unfoldable pub after-setup : Set-up → List ℕ → List Text → Text
+after-setup called answer ts =
+    cond (eqb (called .tells .number) 0) (run-and-list (called .store) answer ts) (lines-text (refused-line (called .tells) ∷ []))
+
 unfoldable pub program : List ℕ → List ℕ → Text → Text
 program b answer input =
     let i = parts (pieces newline input) in
-    let called = setup-call b (joined newline (i .of-setup)) in
-    cond (eqb (called .tells .number) 0) (run-and-list (called .store) answer (command-lines (i .of-commands))) (lines-text (refused-line (called .tells) ∷ []))
+    after-setup (setup-call b (joined newline (i .of-setup))) answer (command-lines (i .of-commands))

@@ -2,11 +2,10 @@
 use mathlib.Core.Path.{_≡_, refl, sym, _∙_, ap}
 use mathlib.Core.List.{List, [], _∷_, _++_, map}
 use mathlib.Core.Option.{none, some}
-use mathlib.Core.Bool.{true, cond}
+use mathlib.Core.Bool.{true}
 use Prim.Native.Nat.{ℕ, zero, suc, _+_, _-_, _≤_, _<_}
 use native.Mathlib.Omega.{arith}
 use borrow.Author.Tests.{eq-eqb}
-use lib.Dec.{eqb}
 use lib.ListN.{length, drop, getElem?, drop-of-length-le}
 use lib.Seq.{take-append-seam}
 use Rattle.buffers.specs.Text.{Text}
@@ -21,7 +20,7 @@ use Rattle.tree.specs.CausesLaws.{wrong-setup-is, number-not-0}
 use Rattle.tree.specs.ResultLaws.{require-true, done-then, present-of, present-none, done-bind, refused-bind}
 use Rattle.tree.specs.UpdateLaws.{by-option}
 use Rattle.tree.specs.WellFormedLaws.{most-nodes-is}
-use Rattle.store.specs.State.{Store, State, well-formed}
+use Rattle.store.specs.State.{Store, State, state-of, well-formed}
 use Rattle.store.specs.StateLaws.{parts as state-parts}
 use Rattle.store.specs.Initial.{initial-store}
 use Rattle.store.specs.InitialLaws.{initial-well-formed}
@@ -31,13 +30,13 @@ use Rattle.machine.specs.Runs.{least-room, Reply, ok, refusal, reply, after, st
 use Rattle.machine.specs.MachineKeepingLaws.{step-keeps, runs-keep}
 use Rattle.calls.specs.Listing.{listing}
 use Rattle.calls.specs.ListingLaws.{listing-few}
-use Rattle.calls.specs.Transcript.{parts, command-lines, reply-line, lines-text, call-of, session-text, output, transcript}
+use Rattle.calls.specs.Transcript.{parts, command-lines, reply-line, call-of, session-text, output, transcript}
 use Rattle.calls.specs.Calls.{told, answer-of, written, setup-call, called, run-call, listing-call}
 use Rattle.calls.specs.CallsLaws.{listing-on-encoding}
 use Rattle.calls.specs.CallBoundsLaws.{run-keeps-lengths, listing-keeps-lengths}
 use Rattle.calls.specs.CallLists.{Request, call-for}
-use Rattle.calls.specs.CallListsLaws.{run-on-state, set-up-takes, set-up-wrong}
-use Rattle.calls.specs.Program.{text-told, done-line, refused-line, call-line, run-lines, list-lines, run-and-list, program}
+use Rattle.calls.specs.CallListsLaws.{step-called, run-on-state, set-up-takes, set-up-wrong}
+use Rattle.calls.specs.Program.{text-told, done-line, refused-line, call-line, run-lines, list-lines, run-and-list, after-setup, program}
 
 -- ---- what is printed for a reply
 
@@ -56,26 +55,24 @@ unfolding call-for call-of least-room
 call-is t answer l = ap (λ n. record { line = t; room = n }) l
 
 module _ (u : Setup) (g : is-setup u ≡ true) where
-  abbrev of-store : Store → State
-  of-store s = record { setup = u; store = s }
-
   -- a call with an answer buffer of 4,096 bytes is a step of the machine
-  stepped : (s : Store) → well-formed (of-store s) ≡ true → (t : Text) (answer : List ℕ) → length answer ≡ 4096 →
-      let r = step store u s (call-of t) in
-      run-call (encode (of-store s)) t answer ≡ record { tells = told (answer-of (reply r)); store = encode (of-store (after s r)); answer = written (reply r) answer }
+  stepped : (s : Store) → well-formed (state-of u s) ≡ true → (t : Text) (answer : List ℕ) → length answer ≡ 4096 →
+      run-call (encode (state-of u s)) t answer ≡ step-called u s answer (step store u s (call-of t))
   stepped s w t answer l =
       let q : Request = record { line = t; answer = answer } in
-      run-on-state u s w q ∙ ap (λ c. let r = step store u s c in record { tells = told (answer-of (reply r)); store = encode (of-store (after s r)); answer = written (reply r) answer }) (call-is t answer l)
+      run-on-state u s w q ∙ ap (λ c. step-called u s answer (step store u s c)) (call-is t answer l)
 
   -- and leaves its length
-  still-4096 : (s : Store) → well-formed (of-store s) ≡ true → (t : Text) (answer : List ℕ) → length answer ≡ 4096 → length (written (reply (step store u s (call-of t))) answer) ≡ 4096
-  still-4096 s w t answer l = ap (λ x. length (x .answer)) (sym (stepped s w t answer l)) ∙ run-keeps-lengths (encode (of-store s)) t answer .1 ∙ l
+  still-4096 : (s : Store) → well-formed (state-of u s) ≡ true → (t : Text) (answer : List ℕ) → length answer ≡ 4096
+      → length (written (reply (step store u s (call-of t))) answer) ≡ 4096
+  still-4096 s w t answer l = ap (λ x. length (x .answer)) (sym (stepped s w t answer l)) ∙ run-keeps-lengths (encode (state-of u s)) t answer .1 ∙ l
 
   -- the commands' lines are those of the replies, and the store's bytes those of the machine's state
-  lines-of-runs : (ts : List Text) (s : Store) → well-formed (of-store s) ≡ true → (answer : List ℕ) → length answer ≡ 4096 →
+  lines-of-runs : (ts : List Text) (s : Store) → well-formed (state-of u s) ≡ true → (answer : List ℕ) → length answer ≡ 4096 →
       let ran = runs store u s (map call-of ts) in
       (answer′ : List ℕ) × (length answer′ ≡ 4096)
-      × (run-lines (encode (of-store s)) answer ts ≡ record { lines = map reply-line (ran .replies); store = encode (of-store (ran .state)); answer = answer′ })
+      × (run-lines (encode (state-of u s)) answer ts
+      ≡ record { lines = map reply-line (ran .replies); store = encode (state-of u (ran .state)); answer = answer′ })
   unfolding run-lines runs
   lines-of-runs [] s w answer l = (answer, l, refl)
   lines-of-runs (t ∷ ts) s w answer l =
@@ -127,10 +124,8 @@ module _ (s : State) (w : well-formed s ≡ true) where
 
 module _ (b answer : List ℕ) (width : length b ≡ 65536) (room : length answer ≡ 4096) where
   -- by what the setup's text is
-  printed : (text : Text) (commands : List Text) (a : Setup-answer) → setup text ≡ a →
-      let called = setup-call b text in
-      cond (eqb (called .tells .number) 0) (run-and-list (called .store) answer commands) (lines-text (refused-line (called .tells) ∷ [])) ≡ output a commands
-  unfolding told output session-text run-and-list refused-line joined comma bytes decimal-text digits-before
+  printed : (text : Text) (commands : List Text) (a : Setup-answer) → setup text ≡ a → after-setup (setup-call b text) answer commands ≡ output a commands
+  unfolding after-setup told output session-text run-and-list refused-line joined comma bytes decimal-text digits-before
   printed text commands (accepted u) e =
       let g = accepted-is-setup text u e in
       let s = initial-store u in
@@ -138,8 +133,8 @@ module _ (b answer : List ℕ) (width : length b ≡ 65536) (room : length answe
       let r = lines-of-runs u g commands s (initial-well-formed u g) answer room in
       let w = runs-keep u g s (initial-well-formed u g) (map call-of commands) in
       let L = listing (ran .state .tree) in
-      let few = listing-few (ran .state .tree) (state-parts (record { setup = u; store = ran .state }) w .1 .1) in
-      let all = list-from (record { setup = u; store = ran .state }) w 257 0 (r .0) (r .1) (omega arith) in
+      let few = listing-few (ran .state .tree) (state-parts (state-of u (ran .state)) w .1 .1) in
+      let all = list-from (state-of u (ran .state)) w 257 0 (r .0) (r .1) (omega arith) in
       rw (set-up-takes b width text u e) (rw (most-nodes-is, r .2, all))
   printed text commands (wrong-line n) e =
       rw (set-up-wrong b width text n e) (rw wrong-setup-is)

@@ -83,7 +83,8 @@ module _ (u : Setup) (s : is-setup u ≡ true) (v : Uid) (c : Caller) where
       (top-allows (c .account) n W, rw n)
 
   -- `/rep` is not a person's, and a person has no right there
-  pub person-rep : is-root v ≡ false → caller u v ≡ done c → ((t : Right) → allows (c .account) t rep-node ≡ false) × (owns (c .account) rep-node ≡ false)
+  pub person-rep : is-root v ≡ false → caller u v ≡ done c
+      → ((t : Right) → allows (c .account) t rep-node ≡ false) × (owns (c .account) rep-node ≡ false)
   unfolding rep-node directory-of owns same-uid person-caller all-services
   person-rep r h =
       let k : _ = person-calls u v c h r in

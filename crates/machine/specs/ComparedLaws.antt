@@ -32,7 +32,7 @@ use Rattle.machine.specs.Machine.{caller}
 use Rattle.machine.specs.StoreMachine.{store}
 use Rattle.machine.specs.AbstractMachine.{Abstract, abstract, initial-abstract}
 use Rattle.machine.specs.Embedding.{in-store, stored, embed}
-use Rattle.machine.specs.Runs.{Call, Ran, reply, after, perform, step, runs, of-root, root's}
+use Rattle.machine.specs.Runs.{Call, reply, after, Ran, perform, step, runs, of-root, root's}
 use Rattle.machine.specs.Observed.{workspace-of, filed-in, Compared, without-root, Reached-without-root}
 use Rattle.machine.specs.Simulation.{Kept, Tie, Tied}
 use Rattle.machine.specs.SimulationLaws.{rep-alike, run-agrees}
@@ -74,7 +74,8 @@ unfolding reply
 reply-tied (refusal n) = refl
 reply-tied (both t) = rw (t .text)
 
-after-tied : {a : Result (Outcome Store)} {b : Result (Outcome Abstract)} {s : Store} {h : Abstract} → Tie s h → Agree Tied a b → Tie (after s a) (after h b)
+after-tied : {a : Result (Outcome Store)} {b : Result (Outcome Abstract)} {s : Store} {h : Abstract}
+    → Tie s h → Agree Tied a b → Tie (after s a) (after h b)
 unfolding after
 after-tied t (refusal n) = t
 after-tied t (both g) = g .state
@@ -139,7 +140,8 @@ compared-lists text u e calls r =
     tie-compared (t .0) (t .1)
 
 -- a store reached without root holds what the abstract machine holds after the same calls
-pub reached-tie : (u : Setup) (s : Store) (r : Reached-without-root u s) → (h : Abstract) × Tie s h × (h ≡ runs abstract u (initial-abstract u) (r .reached .calls) .state)
+pub reached-tie : (u : Setup) (s : Store) (r : Reached-without-root u s)
+    → (h : Abstract) × Tie s h × (h ≡ runs abstract u (initial-abstract u) (r .reached .calls) .state)
 reached-tie u s r =
     let e = accepted-is-setup (r .reached .text) u (r .reached .taken) in
     let t = runs-agree u e (r .reached .calls) (r .rootless) (initial-store u) (initial-abstract u) (initial-tie u) in

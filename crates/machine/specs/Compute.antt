@@ -4,8 +4,8 @@ use Rattle.syntax.specs.Compute.{compute as compute-syntax}
 use Rattle.commands.specs.Compute.{compute as compute-commands}
 use Rattle.setup.specs.Compute.{compute as compute-setup}
 use Rattle.tree.specs.Compute.{compute as compute-tree}
-use Rattle.shell.specs.Compute.{compute as compute-shell}
 use Rattle.copying.specs.Compute.{compute as compute-copying}
+use Rattle.shell.specs.Compute.{compute as compute-shell}
 use Rattle.store.specs.Compute.{compute as compute-store}
 use Rattle.machine.specs.Machine.{person-caller, known-caller, caller, granted, run-login, run-logout, session, run-add, run-co, working-file, original, run-commit, run-up, run-del, run-repository, run}
 use Rattle.machine.specs.StoreMachine.{entry-mode, entry-node, next-node}

@@ -10,7 +10,7 @@ use Rattle.tree.specs.Result.{done}
 use Rattle.tree.specs.Forest.{Place}
 use Rattle.tree.specs.Node.{Node}
 use Rattle.tree.specs.Walk.{walk}
-use Rattle.store.specs.State.{Store, well-formed}
+use Rattle.store.specs.State.{Store, state-of, well-formed}
 use Rattle.machine.specs.StoreMachine.{store}
 use Rattle.machine.specs.AbstractMachine.{Abstract}
 use Rattle.machine.specs.Embedding.{embed}
@@ -27,7 +27,7 @@ pub record May-read (u : Setup) (z : Bounded-role) (s : Store) (p : Path) (d : P
 
 -- in every well-formed store that an abstract machine stands for, the first role's account may read what the second's may
 abbrev pub Reads-all : Setup → Bounded-role → Bounded-role → Type 0
-Reads-all u a b = (h : Abstract) → Kept h → well-formed (record { setup = u; store = embed h }) ≡ true
+Reads-all u a b = (h : Abstract) → Kept h → well-formed (state-of u (embed h)) ≡ true
     → (p : Path) (d : Place Node) → May-read u b (embed h) p d → May-read u a (embed h) p d
 
 -- every pair of the one is a pair of the other

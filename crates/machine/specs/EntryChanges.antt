@@ -4,6 +4,7 @@ use mathlib.Core.Option.{Option, none, some, Option·map}
 use mathlib.Core.Bool.{true}
 use Prim.Native.Nat.{ℕ, suc}
 use lib.ListN.{getD}
+use Rattle.buffers.specs.Text.{Text}
 use Rattle.accounts.specs.declared.Caller.{Caller}
 use Rattle.accounts.specs.Dominance.{Bounded-role}
 use Rattle.syntax.specs.Path.{Path, Entry-path, entry-location}
@@ -21,6 +22,10 @@ use Rattle.machine.specs.AbstractMachine.{Abstract, Filed, dominated, ab
 -- the node of the store at an entry path
 unfoldable pub node-of : Store → Entry-path → Option Node
 node-of s e = Option·map (λ d. d .here) (place-at (s .tree) (entry-location e))
+
+-- an entry stands there, of that kind, role, revision and content
+abbrev pub Filed-as : Store → Entry-path → Kind → Bounded-role → ℕ → Text → Type 0
+Filed-as s e kind r revision content = node-of s e ≡ some (entry-node kind r revision content)
 
 -- the entry of the abstract machine at a path
 unfoldable pub entry-of : Abstract → Entry-path → Option Filed
@@ -41,7 +46,7 @@ pub record Committed (before after : Store) (e : Entry-path) (kind : Kind) (r : 
   pub was-tagged : working .here .tag ≡ some (record { path = e; revision = revision })
   -- the entry, a file too, now has its content and the next revision,
   pub entry-is-file : kind ≡ File
-  pub revised : node-of after e ≡ some (entry-node kind r (suc revision) (working .here .content))
+  pub revised : Filed-as after e kind r (suc revision) (working .here .content)
   -- and it the tag of that revision
   pub is-tagged : place-at (after .tree) w ≡ some (alter (set-tag (record { path = e; revision = suc revision })) working)
 
@@ -57,10 +62,11 @@ pub record Added (before after : Store) (e : Entry-path) (r : Bounded-role) (w :
   pub working : Place Node
   pub stood : place-at (before .tree) w ≡ some working
   -- gave the entry its kind and its content, with revision 1,
-  pub made : node-of after e ≡ some (entry-node (working .here .kind) r 1 (working .here .content))
+  pub made : Filed-as after e (working .here .kind) r 1 (working .here .content)
   -- and has the tag of that revision
   pub is-tagged : place-at (after .tree) w ≡ some (alter (set-tag (record { path = e; revision = 1 })) working)
 
 -- the command that makes an entry at e, in a session whose role dominates the new entry's
 pub data Making (u : Setup) (before after : Store) (c : Caller) (e : Entry-path) : Command → Type 0 where
-  by-add : {w : Path} {r : Bounded-role} → Added before after e r w → Rightful u (before .sessions) c r → Making u before after c e (repository (add w e r))
+  by-add : {w : Path} {r : Bounded-role} → Added before after e r w → Rightful u (before .sessions) c r
+      → Making u before after c e (repository (add w e r))

@@ -28,24 +28,24 @@ use Rattle.tree.specs.ResultLaws.{present-some}
 use Rattle.tree.specs.Forest.{Place}
 use Rattle.tree.specs.Node.{is-directory, Node, set-content}
 use Rattle.tree.specs.Walk.{by-modes, walk, parent-walk, unused}
-use Rattle.tree.specs.Agree.{Ensures, ensured, ensured-done, after-do, after-facts, after-check, after-guard}
+use Rattle.tree.specs.Gives.{gives, Ensures, any-outcome, done-with, then-step, then-check, then-guard, then-do}
 use Rattle.tree.specs.UpdateLaws.{walked-at}
 use Rattle.tree.specs.WellFormed.{is-tree}
 use Rattle.tree.specs.JudgeLaws.{directory-is-one, set-revision-is, set-content-is}
 use Rattle.tree.specs.PathLaws.{drop-gone}
 use Rattle.tree.specs.ChangeAtLaws.{Holds, holds-altered, holds-alter, holds-put, holds-drop}
-use Rattle.shell.specs.Steps.{room, run-shell}
 use Rattle.copying.specs.Copying.{below-rep}
+use Rattle.shell.specs.Steps.{room, run-shell}
 use Rattle.store.specs.State.{Store}
 use Rattle.store.specs.Initial.{directory-of, rep-node}
-use Rattle.machine.specs.Machine.{Working, tagged, caller, run-login, run-logout, session, run-add, run-co, working-file, original, run-commit, run-up, run-del, run-repository, run}
+use Rattle.machine.specs.Machine.{caller, Working, tagged, run-login, run-logout, session, run-add, run-co, working-file, original, run-commit, run-up, run-del, run-repository, run}
 use Rattle.machine.specs.StoreMachine.{entry-mode, entry-node, next-node, store}
 use Rattle.machine.specs.AbstractMachine.{Entry, Abstract, Filed, top, entry, filed-kind, filed-readable, by-dominance, filed-revision, next-entry, abstract}
 use Rattle.machine.specs.Embedding.{in-store, met, embed}
 use Rattle.machine.specs.Observed.{Reached-without-root}
 use Rattle.machine.specs.EntryJudgeLaws.{next-law}
 use Rattle.machine.specs.SimulationLaws.{remove-tie}
-use Rattle.machine.specs.EntryChanges.{node-of, entry-of, Rightful, Change, by-commit, by-del}
+use Rattle.machine.specs.EntryChanges.{node-of, Filed-as, entry-of, Rightful, Change, by-commit, by-del}
 use Rattle.machine.specs.EntryPlacesLaws.{same-entry, holds-of, of-holds, free, next-filed, filed-after, revised-after, removed-after, by-session, node-tied, tagged-tied, rightful-tied, In-both, in-both}
 
 -- ---- one command of the abstract machine
@@ -61,11 +61,11 @@ record Worked (h : Abstract) (c : Caller) (w : Path) (k : Working) : Type 0 wher
 worked : (u : Setup) (h : Abstract) (c : Caller) (w : Path) → Ensures (Worked h c w) (working-file abstract u h c R w)
 unfolding working-file
 worked u h c w =
-    after-do (walk (by-modes (c .account)) (h .workspace) w) λ d i.
-    after-check WrongKind _ λ b.
-    after-check Access _ λ _.
-    after-do (present (d .here .tag) Untagged) λ t j.
-    ensured (record { place = d; led = i; here = refl; a-file = b; tag = present-some (d .here .tag) Untagged j })
+    then-do (walk (by-modes (c .account)) (h .workspace) w) λ d i.
+    then-check WrongKind tt _ λ b.
+    then-check Access tt _ λ _.
+    then-do (present (d .here .tag) Untagged) λ t j.
+    gives (record { place = d; led = i; here = refl; a-file = b; tag = present-some (d .here .tag) Untagged j })
 
 -- the account's walk to a tag's entry led there, to a file that it may read
 record Original (u : Setup) (h : Abstract) (z : Bounded-role) (e : Entry-path) (a : Place Filed) : Type 0 where
@@ -73,13 +73,14 @@ record Original (u : Setup) (h : Abstract) (z : Bounded-role) (e : Entry-path) (
   a-file : not (is-directory (by-dominance u z .kind (a .here))) ≡ true
   readable : by-dominance u z .readable (a .here) ≡ true
 
-original-found : (u : Setup) (h : Abstract) (c : Caller) (z : Bounded-role) (e : Entry-path) → Ensures (Original u h z e) (original abstract u h c z e)
+original-found : (u : Setup) (h : Abstract) (c : Caller) (z : Bounded-role) (e : Entry-path)
+    → Ensures (Original u h z e) (original abstract u h c z e)
 unfolding original
 original-found u h c z e =
-    after-do (walk (by-dominance u z) (abstract .entries h) (below-rep e)) λ a w.
-    after-check WrongKind _ λ b.
-    after-check Access _ λ r.
-    ensured (record { walked = w; a-file = b; readable = r })
+    then-do (walk (by-dominance u z) (abstract .entries h) (below-rep e)) λ a w.
+    then-check WrongKind tt _ λ b.
+    then-check Access tt _ λ r.
+    gives (record { walked = w; a-file = b; readable = r })
 
 -- what is no directory is a file
 file-kind : (k : Kind) → not (is-directory k) ≡ true → k ≡ File
@@ -107,41 +108,45 @@ module _ (u : Setup) (h : Abstract) (c : Caller) (e : Entry-path) (x : Entry) (s
   its-entry z a w = ap (λ d. d .here) (answered (sym (there .stands) ∙ walked-at (abstract .entries h) (by-dominance u z) (below-rep e) a w)) ∙ there .here
 
   -- where the session's role reads the entry, it dominates the entry's
-  rightful : (z : Bounded-role) → session abstract u h c ≡ done z → (a : Place Filed) → walk (by-dominance u z) (abstract .entries h) (below-rep e) ≡ done a
+  rightful : (z : Bounded-role) → session abstract u h c ≡ done z → (a : Place Filed)
+      → walk (by-dominance u z) (abstract .entries h) (below-rep e) ≡ done a
       → by-dominance u z .readable (a .here) ≡ true → Rightful u (h .sessions) c (x .role)
   unfolding by-dominance filed-readable
   rightful z i a w b = by-session u h c z i (x .role) (ap (filed-readable u z) (sym (its-entry z a w)) ∙ b)
 
-  add-guarded : (w : Path) (e′ : Entry-path) (role′ : Bounded-role) → Ensures (Guarded (repository (add w e′ role′))) (run-add abstract u h c w e′ role′)
+  add-guarded : (w : Path) (e′ : Entry-path) (role′ : Bounded-role)
+      → Ensures (Guarded (repository (add w e′ role′))) (run-add abstract u h c w e′ role′)
   unfolding run-add Guarded
   add-guarded w e′ role′ =
-      after-do (session abstract u h c) λ z _.
-      after-do (walk (by-modes (c .account)) (h .workspace) w) λ d _.
-      after-check Reserved _ λ _.
-      after-check Access _ λ _.
-      after-check Reserved _ λ _.
-      after-do (parent-walk (by-dominance u z) (abstract .entries h) (below-rep e′)) λ f i.
-      after-guard (unused (e′ .name) (f .below)) λ j.
-      after-check Access _ λ _.
-      after-check Full _ λ _.
-      ensured (inl (of-holds _ e (entry x) (rw (filed-after e′ (d .here .kind) role′ (d .here .content) h)
+      then-do (session abstract u h c) λ z _.
+      then-do (walk (by-modes (c .account)) (h .workspace) w) λ d _.
+      then-check Reserved tt _ λ _.
+      then-check Access tt _ λ _.
+      then-check Reserved tt _ λ _.
+      then-do (parent-walk (by-dominance u z) (abstract .entries h) (below-rep e′)) λ f i.
+      then-guard (any-outcome (unused (e′ .name) (f .below))) λ j.
+      then-check Access tt _ λ _.
+      then-check Full tt _ λ _.
+      gives (inl (of-holds _ e (entry x) (rw (filed-after e′ (d .here .kind) role′ (d .here .content) h)
       (holds-put (below-rep e) (e′ .folder) there (e′ .name) _ (free (by-dominance u z) (abstract .entries h) e′ f i j)))))
 
   co-guarded : (e′ : Entry-path) (d : Path) → Ensures (Guarded (repository (co e′ d))) (run-co abstract u h c e′ d)
   unfolding run-co entry-of Guarded
   co-guarded e′ d =
-      after-do (session abstract u h c) λ z _.
-      after-do (room c _ (h .workspace) d) λ f _.
-      after-do (walk (by-dominance u z) (abstract .entries h) (below-rep e′)) λ a _.
-      after-check Access _ λ _.
-      after-check TooDeep _ λ _.
-      after-check Full _ λ _.
-      ensured (inl same)
+      then-do (session abstract u h c) λ z _.
+      then-do (room c _ (h .workspace) d) λ f _.
+      then-do (walk (by-dominance u z) (abstract .entries h) (below-rep e′)) λ a _.
+      then-check Access tt _ λ _.
+      then-check TooDeep tt _ λ _.
+      then-check Full tt _ λ _.
+      gives (inl same)
 
   -- a commit of a working file of the entry, with what it was done after
   own-commit : (w : Path) (k : Working) → Worked h c w k → (z : Bounded-role) → session abstract u h c ≡ done z
-      → (a : Place Filed) → Original u h z (k .tag .path) a → eqb (k .tag .revision) (filed-revision (a .here)) ≡ true → below-rep e ≡ below-rep (k .tag .path)
-      → (t : Abstract) → t ≡ abstract .on-workspace (tagged w (k .tag .path) (suc (filed-revision (a .here)))) (abstract .revise (k .tag .path) (k .node .content) h)
+      → (a : Place Filed) → Original u h z (k .tag .path) a → eqb (k .tag .revision) (filed-revision (a .here)) ≡ true
+      → below-rep e ≡ below-rep (k .tag .path)
+      → (t : Abstract)
+      → t ≡ abstract .on-workspace (tagged w (k .tag .path) (suc (filed-revision (a .here)))) (abstract .revise (k .tag .path) (k .node .content) h)
       → Changed h c e x t (repository (commit w)) × Rightful u (h .sessions) c (x .role)
   unfolding by-dominance filed-kind filed-revision next-filed
   own-commit w k g z j a f fresh q t made =
@@ -160,35 +165,35 @@ module _ (u : Setup) (h : Abstract) (c : Caller) (e : Entry-path) (x : Entry) (s
   commit-guarded : (w : Path) → Ensures (Guarded (repository (commit w))) (run-commit abstract u h c w)
   unfolding run-commit Guarded
   commit-guarded w =
-      after-do (session abstract u h c) λ z j.
-      after-facts (worked u h c w) λ k g.
-      after-facts (original-found u h c z (k .tag .path)) λ a f.
-      after-do (walk (by-dominance u z) (abstract .entries h) (k .tag .path .folder)) λ d _.
-      after-check Access _ λ _.
-      after-check Stale _ λ fresh.
-      after-check RevisionsSpent _ λ _.
-      ensured (case (same-path (below-rep e) (below-rep (k .tag .path)))
+      then-do (session abstract u h c) λ z j.
+      then-step (worked u h c w) λ k g.
+      then-step (original-found u h c z (k .tag .path)) λ a f.
+      then-do (walk (by-dominance u z) (abstract .entries h) (k .tag .path .folder)) λ d _.
+      then-check Access tt _ λ _.
+      then-check Stale tt _ λ fresh.
+      then-check RevisionsSpent tt _ λ _.
+      gives (case (same-path (below-rep e) (below-rep (k .tag .path)))
       (λ s. inr (own-commit w k g z j a f fresh (same-path-sound (below-rep e) (below-rep (k .tag .path)) s) _ refl))
       (λ s. inl (of-holds _ e (entry x) (rw (revised-after (k .tag .path) (k .node .content) h) (holds-alter (below-rep e) (below-rep (k .tag .path)) there _ s)))))
 
   up-guarded : (w : Path) → Ensures (Guarded (repository (up w))) (run-up abstract u h c w)
   unfolding run-up entry-of Guarded
   up-guarded w =
-      after-do (session abstract u h c) λ z _.
-      after-do (working-file abstract u h c W w) λ k _.
-      after-do (original abstract u h c z (k .tag .path)) λ a _.
-      ensured (inl same)
+      then-do (session abstract u h c) λ z _.
+      then-do (working-file abstract u h c W w) λ k _.
+      then-do (original abstract u h c z (k .tag .path)) λ a _.
+      gives (inl same)
 
   del-guarded : (e′ : Entry-path) → Ensures (Guarded (repository (del e′))) (run-del abstract u h c e′)
   unfolding run-del Guarded below-rep
   del-guarded e′ =
-      after-do (session abstract u h c) λ z i.
-      after-do (walk (by-dominance u z) (abstract .entries h) (below-rep e′)) λ a w.
-      after-check Access _ λ b.
-      after-do (walk (by-dominance u z) (abstract .entries h) (e′ .folder)) λ f _.
-      after-check Access _ λ _.
-      after-check NotEmpty _ λ alone.
-      ensured (case (same-path (below-rep e) (below-rep e′))
+      then-do (session abstract u h c) λ z i.
+      then-do (walk (by-dominance u z) (abstract .entries h) (below-rep e′)) λ a w.
+      then-check Access tt _ λ b.
+      then-do (walk (by-dominance u z) (abstract .entries h) (e′ .folder)) λ f _.
+      then-check Access tt _ λ _.
+      then-check NotEmpty tt _ λ alone.
+      gives (case (same-path (below-rep e) (below-rep e′))
       (λ s.
       let q = same-path-sound (below-rep e) (below-rep e′) s in
       inr (rw (← same-entry e e′ q) (deletes refl), rightful z i a (rw q w) b))
@@ -198,9 +203,9 @@ module _ (u : Setup) (h : Abstract) (c : Caller) (e : Entry-path) (x : Entry) (s
   -- any command leaves the entry, or changes it by right
   run-guarded : (command : Command) → Ensures (Guarded command) (run abstract u h c command)
   unfolding run run-repository run-login run-logout entry-of Guarded
-  run-guarded (shell command) = after-do (run-shell c _ (h .workspace) command) λ o _. ensured (inl same)
-  run-guarded (repository (login z password)) = after-check NoGrant _ λ _. ensured (inl same)
-  run-guarded (repository logout) = ensured (inl same)
+  run-guarded (shell command) = then-do (run-shell c _ (h .workspace) command) λ o _. gives (inl same)
+  run-guarded (repository (login z password)) = then-check NoGrant tt _ λ _. gives (inl same)
+  run-guarded (repository logout) = gives (inl same)
   run-guarded (repository (add w e′ role′)) = add-guarded w e′ role′
   run-guarded (repository (co e′ d)) = co-guarded e′ d
   run-guarded (repository (commit w)) = commit-guarded w
@@ -212,7 +217,7 @@ entry-changed : (u : Setup) (h : Abstract) (c : Caller) (command : Command) (o :
     → (e : Entry-path) (x : Entry) → entry-of h e ≡ some (entry x)
     → (entry-of (o .state) e ≡ some (entry x)) ⊎ (Changed h c e x (o .state) command × Rightful u (h .sessions) c (x .role))
 unfolding Guarded
-entry-changed u h c command o i e x same = ensured-done (rw i at (run-guarded u h c e x same command))
+entry-changed u h c command o i e x same = done-with (run-guarded u h c e x same command) i
 
 -- ---- one command of the store
 
@@ -253,7 +258,8 @@ module _ (kind : Kind) (r : Bounded-role) (revision : ℕ) (content : Text) wher
     h′ = b .outcome .state
 
     -- the entry changed in both
-    change-tied : (y : Entry) → met (entry y) ≡ entry-node kind r revision content → {by : Command} → Changed h c e y h′ by → Change s s′ e kind r revision by
+    change-tied : (y : Entry) → met (entry y) ≡ entry-node kind r revision content → {by : Command}
+        → Changed h c e y h′ by → Change s s′ e kind r revision by
     unfolding met in-store entry-node
     change-tied y i (commits {w = w} {k = k} g tag a-file next workspace) =
         let d = g .place in
@@ -278,15 +284,15 @@ module _ (kind : Kind) (r : Bounded-role) (revision : ℕ) (content : Text) wher
     -- or left in both
     either-tied : (y : Entry) → met (entry y) ≡ entry-node kind r revision content → y .role .role ≡ r .role
         → (entry-of h′ e ≡ some (entry y)) ⊎ (Changed h c e y h′ command × Rightful u (h .sessions) c (y .role))
-        → (node-of s′ e ≡ some (entry-node kind r revision content)) ⊎ (Change s s′ e kind r revision command × Rightful u (s .sessions) c r)
+        → Filed-as s′ e kind r revision content ⊎ (Change s s′ e kind r revision command × Rightful u (s .sessions) c r)
     either-tied y i same (inl k) = inl (node-tied (b .tie-after) e ∙ ap (Option·map met) k ∙ ap some i)
     either-tied y i same (inr k) = inr (change-tied y i (k .0), rightful-tied u (b .tie) c (y .role) r same (k .1))
 
 -- an entry's node stays under a person's done command, or is changed by right
 pub stored-entry-changed : (u : Setup) (s : Store) → Reached-without-root u s → (v : Uid) (c : Caller) → is-root v ≡ false → caller u v ≡ done c
     → (command : Command) (o : Outcome Store) → run store u s c command ≡ done o
-    → (e : Entry-path) (kind : Kind) (r : Bounded-role) (revision : ℕ) (content : Text) → node-of s e ≡ some (entry-node kind r revision content)
-    → (node-of (o .state) e ≡ some (entry-node kind r revision content)) ⊎ (Change s (o .state) e kind r revision command × Rightful u (s .sessions) c r)
+    → (e : Entry-path) (kind : Kind) (r : Bounded-role) (revision : ℕ) (content : Text) → Filed-as s e kind r revision content
+    → Filed-as (o .state) e kind r revision content ⊎ (Change s (o .state) e kind r revision command × Rightful u (s .sessions) c r)
 stored-entry-changed u s reached v c n i command o ran e kind r revision content stood =
     let b = in-both u s reached v c n i command o ran in
     let x = map-eq-some-iff met (entry-of (b .apart) e) .0 (sym (node-tied (b .tie) e) ∙ stood) in

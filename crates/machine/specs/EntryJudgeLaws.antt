@@ -63,7 +63,8 @@ module _ (u : Setup) (z : Bounded-role) where
   own-role r = rw (service-own (u .pairs) z) (same-service (z .role) r)
 
   -- it has the entry's digit where its role dominates the entry's, and else no right
-  entry-allows : (t : Right) (k : Kind) (v : Bounded-role) (n : ℕ) (c : Text) → allows account t (entry-node k v n c) ≡ (grants (entry-digit k) t && dominated u z v)
+  entry-allows : (t : Right) (k : Kind) (v : Bounded-role) (n : ℕ) (c : Text)
+      → allows account t (entry-node k v n c) ≡ (grants (entry-digit k) t && dominated u z v)
   unfolding entry-node dominated
   entry-allows t k v n c =
       let o : Uid = service-uid (v .role) in

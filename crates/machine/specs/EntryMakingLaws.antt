@@ -19,16 +19,16 @@ use Rattle.tree.specs.Forest.{Place, update, place-at, put, leaf}
 use Rattle.tree.specs.Node.{Node, owns}
 use Rattle.tree.specs.Walk.{by-modes, walk, parent-walk, unused}
 use Rattle.tree.specs.WellFormed.{is-tree}
-use Rattle.tree.specs.Agree.{Ensures, ensured, ensured-done, after-do, after-check, after-guard}
+use Rattle.tree.specs.Gives.{gives, Ensures, any-outcome, done-with, then-check, then-guard, then-do}
 use Rattle.tree.specs.StepLaws.{parent-walked}
 use Rattle.tree.specs.UpdateLaws.{walked-at}
 use Rattle.tree.specs.PlaceLaws.{leaf-here}
 use Rattle.tree.specs.PathLaws.{put-stands, alter-none}
 use Rattle.tree.specs.ChangeAtLaws.{put-leaf-none, drop-still-none}
-use Rattle.shell.specs.Steps.{room, run-shell}
 use Rattle.copying.specs.Copying.{below-rep}
+use Rattle.shell.specs.Steps.{room, run-shell}
 use Rattle.store.specs.State.{Store}
-use Rattle.machine.specs.Machine.{tagged, caller, run-login, run-logout, session, run-add, run-co, working-file, original, run-commit, run-up, run-del, run-repository, run}
+use Rattle.machine.specs.Machine.{caller, tagged, run-login, run-logout, session, run-add, run-co, working-file, original, run-commit, run-up, run-del, run-repository, run}
 use Rattle.machine.specs.StoreMachine.{store}
 use Rattle.machine.specs.AbstractMachine.{Abstract, Filed, entry, dominated, by-dominance, new-entry, abstract}
 use Rattle.machine.specs.Embedding.{in-store, met}
@@ -52,7 +52,8 @@ module _ (u : Setup) (h : Abstract) (c : Caller) (e : Entry-path) (missing : ent
   Unmade command o = (entry-of (o .state) e ≡ none) ⊎ Made u h c e (o .state) command
 
   -- a new entry at the path, or at another
-  filed-there : (e′ : Entry-path) (f : Place Filed) → place-at (abstract .entries h) (e′ .folder) ≡ some f → place-at (abstract .entries h) (e′ .folder ▹ e′ .name) ≡ none
+  filed-there : (e′ : Entry-path) (f : Place Filed) → place-at (abstract .entries h) (e′ .folder) ≡ some f
+      → place-at (abstract .entries h) (e′ .folder ▹ e′ .name) ≡ none
       → (x : Filed) (h′ : Abstract) → abstract .entries h′ ≡ update (e′ .folder) (put (e′ .name) (leaf x)) (abstract .entries h)
       → (entry-of h′ e ≡ none) ⊎ ((e ≡ e′) × (entry-of h′ e ≡ some x))
   unfolding below-rep
@@ -69,7 +70,8 @@ module _ (u : Setup) (h : Abstract) (c : Caller) (e : Entry-path) (missing : ent
       ))
       (λ s. inl (of-none h′ e (rw made (put-leaf-none (abstract .entries h) (below-rep e) (e′ .folder) (e′ .name) x f folder unfiled s (none-of h e missing)))))
 
-  own-add : (w : Path) (e′ : Entry-path) (r : Bounded-role) (d : Place Node) → walk (by-modes (c .account)) (h .workspace) w ≡ done d → owns (c .account) (d .here) ≡ true
+  own-add : (w : Path) (e′ : Entry-path) (r : Bounded-role) (d : Place Node)
+      → walk (by-modes (c .account)) (h .workspace) w ≡ done d → owns (c .account) (d .here) ≡ true
       → Rightful u (h .sessions) c r → (h′ : Abstract) → h′ .workspace ≡ tagged w e′ 1 (h .workspace)
       → (entry-of h′ e ≡ none) ⊎ ((e ≡ e′) × (entry-of h′ e ≡ some (entry (new-entry (d .here .kind) r (d .here .content)))))
       → (entry-of h′ e ≡ none) ⊎ Made u h c e h′ (repository (add w e′ r))
@@ -80,69 +82,69 @@ module _ (u : Setup) (h : Abstract) (c : Caller) (e : Entry-path) (missing : ent
   add-unmade : (w : Path) (e′ : Entry-path) (r : Bounded-role) → Ensures (Unmade (repository (add w e′ r))) (run-add abstract u h c w e′ r)
   unfolding run-add Unmade dominated below-rep parent
   add-unmade w e′ r =
-      after-do (session abstract u h c) λ z i.
-      after-do (walk (by-modes (c .account)) (h .workspace) w) λ d led.
-      after-check Reserved _ λ owned.
-      after-check Access _ λ _.
-      after-check Reserved _ λ right.
-      after-do (parent-walk (by-dominance u z) (abstract .entries h) (below-rep e′)) λ f j.
-      after-guard (unused (e′ .name) (f .below)) λ k.
-      after-check Access _ λ _.
-      after-check Full _ λ _.
+      then-do (session abstract u h c) λ z i.
+      then-do (walk (by-modes (c .account)) (h .workspace) w) λ d led.
+      then-check Reserved tt _ λ owned.
+      then-check Access tt _ λ _.
+      then-check Reserved tt _ λ right.
+      then-do (parent-walk (by-dominance u z) (abstract .entries h) (below-rep e′)) λ f j.
+      then-guard (any-outcome (unused (e′ .name) (f .below))) λ k.
+      then-check Access tt _ λ _.
+      then-check Full tt _ λ _.
       let t = abstract .entries h in
       let folder = walked-at t (by-dominance u z) (e′ .folder) f (parent-walked (by-dominance u z) t (e′ .folder ▹ e′ .name) j .0) in
-      ensured (own-add w e′ r d led owned (by-session u h c z i r right) _ refl
+      gives (own-add w e′ r d led owned (by-session u h c z i r right) _ refl
       (filed-there e′ f folder (free (by-dominance u z) t e′ f j k) (entry (new-entry (d .here .kind) r (d .here .content))) _ (filed-after e′ (d .here .kind) r (d .here .content) h)))
 
   co-unmade : (e′ : Entry-path) (d : Path) → Ensures (Unmade (repository (co e′ d))) (run-co abstract u h c e′ d)
   unfolding run-co entry-of Unmade
   co-unmade e′ d =
-      after-do (session abstract u h c) λ z _.
-      after-do (room c _ (h .workspace) d) λ f _.
-      after-do (walk (by-dominance u z) (abstract .entries h) (below-rep e′)) λ a _.
-      after-check Access _ λ _.
-      after-check TooDeep _ λ _.
-      after-check Full _ λ _.
-      ensured (inl missing)
+      then-do (session abstract u h c) λ z _.
+      then-do (room c _ (h .workspace) d) λ f _.
+      then-do (walk (by-dominance u z) (abstract .entries h) (below-rep e′)) λ a _.
+      then-check Access tt _ λ _.
+      then-check TooDeep tt _ λ _.
+      then-check Full tt _ λ _.
+      gives (inl missing)
 
   commit-unmade : (w : Path) → Ensures (Unmade (repository (commit w))) (run-commit abstract u h c w)
   unfolding run-commit Unmade
   commit-unmade w =
-      after-do (session abstract u h c) λ z _.
-      after-do (working-file abstract u h c R w) λ k _.
-      after-do (original abstract u h c z (k .tag .path)) λ a _.
-      after-do (walk (by-dominance u z) (abstract .entries h) (k .tag .path .folder)) λ d _.
-      after-check Access _ λ _.
-      after-check Stale _ λ _.
-      after-check RevisionsSpent _ λ _.
-      ensured (inl (of-none _ e (rw (revised-after (k .tag .path) (k .node .content) h)
+      then-do (session abstract u h c) λ z _.
+      then-do (working-file abstract u h c R w) λ k _.
+      then-do (original abstract u h c z (k .tag .path)) λ a _.
+      then-do (walk (by-dominance u z) (abstract .entries h) (k .tag .path .folder)) λ d _.
+      then-check Access tt _ λ _.
+      then-check Stale tt _ λ _.
+      then-check RevisionsSpent tt _ λ _.
+      gives (inl (of-none _ e (rw (revised-after (k .tag .path) (k .node .content) h)
       (alter-none (abstract .entries h) (below-rep e) (below-rep (k .tag .path)) _ (none-of h e missing)))))
 
   up-unmade : (w : Path) → Ensures (Unmade (repository (up w))) (run-up abstract u h c w)
   unfolding run-up entry-of Unmade
   up-unmade w =
-      after-do (session abstract u h c) λ z _.
-      after-do (working-file abstract u h c W w) λ k _.
-      after-do (original abstract u h c z (k .tag .path)) λ a _.
-      ensured (inl missing)
+      then-do (session abstract u h c) λ z _.
+      then-do (working-file abstract u h c W w) λ k _.
+      then-do (original abstract u h c z (k .tag .path)) λ a _.
+      gives (inl missing)
 
   del-unmade : (e′ : Entry-path) → Ensures (Unmade (repository (del e′))) (run-del abstract u h c e′)
   unfolding run-del Unmade
   del-unmade e′ =
-      after-do (session abstract u h c) λ z _.
-      after-do (walk (by-dominance u z) (abstract .entries h) (below-rep e′)) λ a _.
-      after-check Access _ λ _.
-      after-do (walk (by-dominance u z) (abstract .entries h) (e′ .folder)) λ f _.
-      after-check Access _ λ _.
-      after-check NotEmpty _ λ _.
-      ensured (inl (still e′))
+      then-do (session abstract u h c) λ z _.
+      then-do (walk (by-dominance u z) (abstract .entries h) (below-rep e′)) λ a _.
+      then-check Access tt _ λ _.
+      then-do (walk (by-dominance u z) (abstract .entries h) (e′ .folder)) λ f _.
+      then-check Access tt _ λ _.
+      then-check NotEmpty tt _ λ _.
+      gives (inl (still e′))
 
   -- any command leaves no entry there, or makes it by right
   run-unmade : (command : Command) → Ensures (Unmade command) (run abstract u h c command)
   unfolding run run-repository run-login run-logout entry-of Unmade
-  run-unmade (shell command) = after-do (run-shell c _ (h .workspace) command) λ o _. ensured (inl missing)
-  run-unmade (repository (login z password)) = after-check NoGrant _ λ _. ensured (inl missing)
-  run-unmade (repository logout) = ensured (inl missing)
+  run-unmade (shell command) = then-do (run-shell c _ (h .workspace) command) λ o _. gives (inl missing)
+  run-unmade (repository (login z password)) = then-check NoGrant tt _ λ _. gives (inl missing)
+  run-unmade (repository logout) = gives (inl missing)
   run-unmade (repository (add w e′ r)) = add-unmade w e′ r
   run-unmade (repository (co e′ d)) = co-unmade e′ d
   run-unmade (repository (commit w)) = commit-unmade w
@@ -150,15 +152,18 @@ module _ (u : Setup) (h : Abstract) (c : Caller) (e : Entry-path) (missing : ent
   run-unmade (repository (del e′)) = del-unmade e′
 
 -- no entry is there after a done command, or it is made by right
-entry-made : (u : Setup) (h : Abstract) (c : Caller) (e : Entry-path) → entry-of h e ≡ none → ((e′ : Entry-path) → entry-of (abstract .remove e′ h) e ≡ none)
-    → (command : Command) (o : Outcome Abstract) → run abstract u h c command ≡ done o → (entry-of (o .state) e ≡ none) ⊎ Made u h c e (o .state) command
+entry-made : (u : Setup) (h : Abstract) (c : Caller) (e : Entry-path) → entry-of h e ≡ none
+    → ((e′ : Entry-path) → entry-of (abstract .remove e′ h) e ≡ none)
+    → (command : Command) (o : Outcome Abstract) → run abstract u h c command ≡ done o
+    → (entry-of (o .state) e ≡ none) ⊎ Made u h c e (o .state) command
 unfolding Unmade
-entry-made u h c e missing still command o i = ensured-done (rw i at (run-unmade u h c e missing still command))
+entry-made u h c e missing still command o i = done-with (run-unmade u h c e missing still command) i
 
 -- ---- one command of the store
 
 -- where no node is, none is after an entry is taken out
-removed-none : (s : Store) → is-tree (s .tree) ≡ true → (e e′ : Entry-path) → place-at (s .tree) (entry-location e) ≡ none → node-of (store .remove e′ s) e ≡ none
+removed-none : (s : Store) → is-tree (s .tree) ≡ true → (e e′ : Entry-path) → place-at (s .tree) (entry-location e) ≡ none
+    → node-of (store .remove e′ s) e ≡ none
 unfolding node-of
 removed-none s whole e e′ i = ap (Option·map (λ d. d .here)) (drop-still-none (s .tree) whole (entry-location e) (in-rep (e′ .folder)) (e′ .name) i)
 
@@ -173,7 +178,8 @@ module _ (u : Setup) {s s′ : Store} {c : Caller} {command : Command} (b : In-b
       (rightful-tied u (b .tie) c r r refl right)
 
   -- or in neither
-  either-tied : (entry-of (b .outcome .state) e ≡ none) ⊎ Made u (b .apart) c e (b .outcome .state) command → (node-of s′ e ≡ none) ⊎ Making u s s′ c e command
+  either-tied : (entry-of (b .outcome .state) e ≡ none) ⊎ Made u (b .apart) c e (b .outcome .state) command
+      → (node-of s′ e ≡ none) ⊎ Making u s s′ c e command
   either-tied (inl k) = inl (node-tied (b .tie-after) e ∙ ap (Option·map met) k)
   either-tied (inr k) = inr (made-tied k)
 

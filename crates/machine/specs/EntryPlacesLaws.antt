@@ -32,9 +32,9 @@ use Rattle.tree.specs.PathLaws.{changed-at}
 use Rattle.tree.specs.Graft.{Outside}
 use Rattle.tree.specs.ChangeAtLaws.{Holds, place-map, place-inside, place-outside}
 use Rattle.copying.specs.Copying.{below-rep}
-use Rattle.store.specs.State.{Store}
+use Rattle.store.specs.State.{Store, state-of}
 use Rattle.store.specs.StateLaws.{parts}
-use Rattle.machine.specs.Machine.{tagged, caller, session, run}
+use Rattle.machine.specs.Machine.{caller, tagged, session, run}
 use Rattle.machine.specs.StoreMachine.{store}
 use Rattle.machine.specs.AbstractMachine.{Abstract, Filed, top, entry, dominated, new-entry, next-entry, abstract}
 use Rattle.machine.specs.Embedding.{stored, met, embed}
@@ -79,7 +79,8 @@ unfolding entry-of
 none-of h e i = map-none (λ d. d .here) (place-at (abstract .entries h) (below-rep e)) i
 
 -- where a walk finds the name unused there is no entry
-pub free : (j : Judge Filed) (t : Place Filed) (e : Entry-path) (f : Place Filed) → parent-walk j t (below-rep e) ≡ done f → unused (e .name) (f .below) ≡ done tt
+pub free : (j : Judge Filed) (t : Place Filed) (e : Entry-path) (f : Place Filed)
+    → parent-walk j t (below-rep e) ≡ done f → unused (e .name) (f .below) ≡ done tt
     → place-at t (e .folder ▹ e .name) ≡ none
 unfolding below-rep parent
 free j t e f w i = at-child t (e .folder) (e .name) f (walked-at t j (e .folder) f (parent-walked j t (e .folder ▹ e .name) w .0)) ∙ was-unused (e .name) (f .below) i
@@ -93,7 +94,8 @@ next-filed content (entry x) = entry (next-entry content x)
 
 -- an entry filed
 pub filed-after : (e : Entry-path) (kind : Kind) (r : Bounded-role) (content : Text) (h : Abstract)
-    → abstract .entries (abstract .file e kind r content h) ≡ update (e .folder) (put (e .name) (leaf (entry (new-entry kind r content)))) (abstract .entries h)
+    → abstract .entries (abstract .file e kind r content h)
+    ≡ update (e .folder) (put (e .name) (leaf (entry (new-entry kind r content)))) (abstract .entries h)
 filed-after e kind r content h =
     rw (leaf-map entry (new-entry kind r content)) (sym (rooted-put entry top (e .folder) (e .name) (leaf (new-entry kind r content)) (h .entries)))
 
@@ -104,13 +106,15 @@ unfolding below-rep next-filed
 revised-after e content h = sym (rooted-alter entry top (next-filed content) (next-entry content) (λ x. refl) (e .folder) (e .name) (h .entries))
 
 -- an entry taken out
-pub removed-after : (e : Entry-path) (h : Abstract) → abstract .entries (abstract .remove e h) ≡ update (e .folder) (drop (e .name)) (abstract .entries h)
+pub removed-after : (e : Entry-path) (h : Abstract)
+    → abstract .entries (abstract .remove e h) ≡ update (e .folder) (drop (e .name)) (abstract .entries h)
 removed-after e h = sym (rooted-drop entry top (e .folder) (e .name) (h .entries))
 
 -- ---- rights
 
 -- the session's role dominates another
-pub by-session : (u : Setup) (h : Abstract) (c : Caller) (z : Bounded-role) → session abstract u h c ≡ done z → (r : Bounded-role) → dominated u z r ≡ true → Rightful u (h .sessions) c r
+pub by-session : (u : Setup) (h : Abstract) (c : Caller) (z : Bounded-role) → session abstract u h c ≡ done z
+    → (r : Bounded-role) → dominated u z r ≡ true → Rightful u (h .sessions) c r
 unfolding session
 by-session u h c z i r b = record { role = z; session = present-some (getD (h .sessions) (c .account .uid .0) none) NoSession i; dominates = b }
 
@@ -146,7 +150,8 @@ unfolding embed
 place-tied {h} t {w} o = ap (λ s. place-at (s .tree) w) (t .same) ∙ place-outside o (stored (h .entries)) (h .workspace)
 
 -- and so it has what a tag is put on
-pub tagged-tied : {s s′ : Store} {h h′ : Abstract} → Tie s h → Tie s′ h′ → {w : Path} → Outside w → (e : Entry-path) (revision : ℕ) → h′ .workspace ≡ tagged w e revision (h .workspace)
+pub tagged-tied : {s s′ : Store} {h h′ : Abstract} → Tie s h → Tie s′ h′ → {w : Path} → Outside w
+    → (e : Entry-path) (revision : ℕ) → h′ .workspace ≡ tagged w e revision (h .workspace)
     → (d : Place Node) → place-at (h .workspace) w ≡ some d
     → (place-at (s .tree) w ≡ some d) × (place-at (s′ .tree) w ≡ some (alter (set-tag (record { path = e; revision = revision })) d))
 tagged-tied {h} t t′ {w} o e revision made d there = (
@@ -172,8 +177,10 @@ pub record In-both (u : Setup) (s : Store) (c : Caller) (command : Command) (s�
   pub tie : Tie s apart
   pub whole : is-tree (s .tree) ≡ true
   -- what a person walks to is outside `/rep` if it is a file or the person's own
-  pub file-outside : (w : Path) (d : Place Node) → walk (by-modes (c .account)) (apart .workspace) w ≡ done d → not (is-directory (d .here .kind)) ≡ true → Outside w
-  pub owned-outside : (w : Path) (d : Place Node) → walk (by-modes (c .account)) (apart .workspace) w ≡ done d → owns (c .account) (d .here) ≡ true → Outside w
+  pub file-outside : (w : Path) (d : Place Node) → walk (by-modes (c .account)) (apart .workspace) w ≡ done d
+      → not (is-directory (d .here .kind)) ≡ true → Outside w
+  pub owned-outside : (w : Path) (d : Place Node) → walk (by-modes (c .account)) (apart .workspace) w ≡ done d
+      → owns (c .account) (d .here) ≡ true → Outside w
   pub outcome : Outcome Abstract
   pub ran : run abstract u apart c command ≡ done outcome
   pub tie-after : Tie s′ (outcome .state)
@@ -190,7 +197,7 @@ in-both u s reached v c n i command o ran =
     record {
       apart = h;
       tie = t .1;
-      whole = parts (record { setup = u; store = s }) (reached-well-formed u s (reached .reached)) .1 .1;
+      whole = parts (state-of u s) (reached-well-formed u s (reached .reached)) .1 .1;
       file-outside = file-is-outside u setup v c n i h k;
       owned-outside = owned-is-outside u setup v c n i h k;
       outcome = a .0;

@@ -25,7 +25,8 @@ entry-mode-fits File = (refl, refl)
 entry-mode-fits Directory = (refl, refl)
 
 -- a new entry with content in range is in range
-pub entry-fits : (k : Kind) (z : Bounded-role) (c : Text) → is-content c ≡ true → (is-directory k ≡ true → c ≡ []) → is-node (entry-node k z 1 c) ≡ true
+pub entry-fits : (k : Kind) (z : Bounded-role) (c : Text) → is-content c ≡ true
+    → (is-directory k ≡ true → c ≡ []) → is-node (entry-node k z 1 c) ≡ true
 unfolding entry-node service-uid service-gid
 entry-fits k z c a b =
     let l = ltb-true (z .role .0) 8 (z .bound) in

@@ -14,7 +14,7 @@ use Rattle.tree.specs.declared.Cause.{Cause}
 use Rattle.tree.specs.Result.{refused, done}
 use Rattle.tree.specs.Forest.{place-at}
 use Rattle.tree.specs.Node.{allows}
-use Rattle.tree.specs.Agree.{never-done, after-facts}
+use Rattle.tree.specs.Gives.{never-done, then-step}
 use Rattle.tree.specs.PlaceLaws.{leaf-here}
 use Rattle.tree.specs.UpdateLaws.{at-top, at-child}
 use Rattle.tree.specs.Graft.{graft, get-graft}
@@ -49,4 +49,4 @@ shell-refused u s reached v c r i command names =
     let setup = accepted-is-setup (reached .reached .text) u (reached .reached .taken) in
     let shut = ap (allows (c .account) X) (rep-alike (h .0) k ∙ leaf-here rep-node) ∙ person-rep u setup v c r i .0 X in
     let there = ap (λ a. place-at (a .tree) (root ▹ rep)) (h .1 .same) ∙ rep-place (h .0) k in
-    never-done (after-facts (never-run c (s .tree) (root ▹ rep) (stored (h .0 .entries)) there shut 0 command names) λ o z. absurd z)
+    never-done (then-step (never-run c (s .tree) (root ▹ rep) (stored (h .0 .entries)) there shut 0 command names) λ o z. absurd z)

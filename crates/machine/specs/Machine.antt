@@ -28,8 +28,8 @@ use Rattle.tree.specs.Forest.{Place, is-empty, update, alter, put, size, height
 use Rattle.tree.specs.Node.{is-directory, Tag, Node, allows, set-tag, set-content, owns}
 use Rattle.tree.specs.Walk.{Judge, by-modes, unused, walk, parent-walk}
 use Rattle.tree.specs.WellFormed.{last-revision}
-use Rattle.shell.specs.Steps.{room, fit, run-shell}
 use Rattle.copying.specs.Copying.{below-rep, Source, copy}
+use Rattle.shell.specs.Steps.{room, fit, run-shell}
 use Rattle.store.specs.State.{Sessions}
 
 -- A machine with states S and A for what an account meets in its repository.

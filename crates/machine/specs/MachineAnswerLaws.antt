@@ -28,10 +28,10 @@ use Rattle.tree.specs.Walk.{by-modes, walk, parent-walk}
 use Rattle.tree.specs.WellFormed.{is-tree}
 use Rattle.tree.specs.Gives.{Gives, gives, Refuses, refused-by, done-with, only-refuses, present-refuses, then-step, then-check, then-guard}
 use Rattle.tree.specs.GivesLaws.{unused-refuses, walk-refuses, parent-walk-refuses}
+use Rattle.copying.specs.Copying.{below-rep}
 use Rattle.shell.specs.Steps.{text-of}
 use Rattle.shell.specs.Answers.{Own, Fits}
-use Rattle.copying.specs.Copying.{below-rep}
-use Rattle.shell.specs.ShellAnswerLaws.{none-fits, place-text-fits, room-refuses, run-shell-answers}
+use Rattle.shell.specs.ShellAnswerLaws.{none-fits, room-refuses, run-shell-answers, place-text-fits}
 use Rattle.store.specs.State.{Store}
 use Rattle.machine.specs.Machine.{Machine, known-caller, caller, run-login, run-logout, session, run-add, run-co, working-file, original, run-commit, run-up, run-del, run-repository, run}
 use Rattle.machine.specs.StoreMachine.{store}
@@ -177,7 +177,8 @@ module _ {S A : Type 0} (M : Machine S A) (setup : Setup) (s : S) where
       refused-by (perform-gives (λ o. Unit {0}) tt (λ p d i. tt) (call .line)) (rw (h, require-true, done-then) at e)
 
 -- the text of a done line fits, on a well-formed store
-pub perform-fits : (setup : Setup) (s : Store) → is-tree (s .tree) ≡ true → (text : Text) (o : Outcome Store) → perform store setup s text ≡ done o → Fits (o .text)
+pub perform-fits : (setup : Setup) (s : Store) → is-tree (s .tree) ≡ true → (text : Text) (o : Outcome Store)
+    → perform store setup s text ≡ done o → Fits (o .text)
 perform-fits setup s h text o e = done-with (perform-gives store setup s Fits none-fits (place-text-fits (s .tree) h) text) e
 
 module _ {S A : Type 0} (M : Machine S A) (setup : Setup) (s : S) (call : Call) where

@@ -31,7 +31,7 @@ use Rattle.tree.specs.Forest.{Place, update, alter, leaf, size, height}
 use Rattle.tree.specs.Node.{is-directory, Tag, Node, set-tag, set-content}
 use Rattle.tree.specs.Walk.{Judge, by-modes, walk}
 use Rattle.tree.specs.WellFormed.{last-revision, is-node, is-tree}
-use Rattle.tree.specs.Agree.{Ensures, no-matter, ensured, after-do, after-facts, after-check, after-guard}
+use Rattle.tree.specs.Gives.{refuses, gives, Ensures, any-outcome, then-step, then-check, then-guard, then-do}
 use Rattle.tree.specs.JudgeLaws.{kind-by-modes}
 use Rattle.tree.specs.StepLaws.{was-unused, parent-walked}
 use Rattle.tree.specs.PlaceLaws.{leaf-size}
@@ -42,13 +42,13 @@ use Rattle.tree.specs.ChangeLaws.{keep-alter, keep-alter-all, keep-put, keep-dr
 use Rattle.copying.specs.Copying.{below-rep, copy}
 use Rattle.copying.specs.CopyLaws.{copy-is-place}
 use Rattle.shell.specs.ShellKeepingLaws.{room-found, fit-most, room-keeps, run-shell-keeps}
-use Rattle.store.specs.State.{Store, well-formed}
+use Rattle.store.specs.State.{Store, state-of, well-formed}
 use Rattle.store.specs.StateLaws.{parts, formed}
 use Rattle.store.specs.Initial.{initial-store}
 use Rattle.store.specs.InitialLaws.{initial-well-formed}
 use Rattle.store.specs.StoreBytes.{encode, decode}
 use Rattle.store.specs.StoreBytesLaws.{decode-encode}
-use Rattle.machine.specs.Machine.{source, Working, run-login, run-logout, run-add, run-co, working-file, original, run-commit, run-up, run-del, run-repository, caller, run}
+use Rattle.machine.specs.Machine.{caller, source, Working, run-login, run-logout, run-add, run-co, working-file, original, run-commit, run-up, run-del, run-repository, run}
 use Rattle.machine.specs.StoreMachine.{entry-node, next-node, store}
 use Rattle.machine.specs.Runs.{Call, after, perform, step, runs}
 use Rattle.machine.specs.Observed.{Reached}
@@ -57,27 +57,29 @@ use Rattle.machine.specs.EntryRangeLaws.{entry-fits}
 
 -- ---- commands
 
-module _ (u : Setup) (g : is-setup u ≡ true) (s : Store) (w : well-formed (record { setup = u; store = s }) ≡ true) (c : Caller) (o : is-caller c ≡ true) where
+module _ (u : Setup) (g : is-setup u ≡ true) (s : Store) (w : well-formed (state-of u s) ≡ true) (c : Caller) (o : is-caller c ≡ true) where
   abbrev Keeps : Result (Outcome Store) → Type 0
-  Keeps r = Ensures (λ o. well-formed (record { setup = u; store = o .state }) ≡ true) r
+  Keeps r = Ensures (λ o. well-formed (state-of u (o .state)) ≡ true) r
 
   tree : is-tree (s .tree) ≡ true
-  tree = parts (record { setup = u; store = s }) w .1 .1
+  tree = parts (state-of u s) w .1 .1
 
   count : length (s .sessions) ≡ 16
-  count = parts (record { setup = u; store = s }) w .1 .0
+  count = parts (state-of u s) w .1 .0
 
   -- done with another well-formed tree
-  changed : (x : Option Text) (t : Place Node) → is-tree t ≡ true → Keeps (done (record { text = x; state = record { tree = t; sessions = s .sessions } }))
-  changed x t h = ensured (formed u g (record { tree = t; sessions = s .sessions }) count h)
+  changed : (x : Option Text) (t : Place Node) → is-tree t ≡ true
+      → Keeps (done (record { text = x; state = record { tree = t; sessions = s .sessions } }))
+  changed x t h = gives (formed u g (record { tree = t; sessions = s .sessions }) count h)
 
   -- done with a session set
-  session-set : (k : ℕ) (z : Option Bounded-role) → Keeps (done (record { text = none; state = record { tree = s .tree; sessions = set (s .sessions) k z } }))
-  session-set k z = ensured (formed u g (record { tree = s .tree; sessions = set (s .sessions) k z }) (length-set (s .sessions) k z ∙ count) tree)
+  session-set : (k : ℕ) (z : Option Bounded-role)
+      → Keeps (done (record { text = none; state = record { tree = s .tree; sessions = set (s .sessions) k z } }))
+  session-set k z = gives (formed u g (record { tree = s .tree; sessions = set (s .sessions) k z }) (length-set (s .sessions) k z ∙ count) tree)
 
   login-keeps : (z : Bounded-role) (password : Text) → Keeps (run-login store u s c z password)
   unfolding run-login
-  login-keeps z password = after-check NoGrant _ λ _. session-set (c .account .uid .0) (some z)
+  login-keeps z password = then-check NoGrant tt _ λ _. session-set (c .account .uid .0) (some z)
 
   logout-keeps : Keeps (run-logout store u s c)
   unfolding run-logout
@@ -98,15 +100,15 @@ module _ (u : Setup) (g : is-setup u ≡ true) (s : Store) (w : well-formed (rec
   add-keeps : (p : Path) (e : Entry-path) (role : Bounded-role) → is-entry-path e ≡ true → Keeps (run-add store u s c p e role)
   unfolding run-add below-rep in-rep parent
   add-keeps p e role k =
-      after-do _ λ z _.
-      after-do _ λ d i.
-      after-check Reserved _ λ _.
-      after-check Access _ λ _.
-      after-check Reserved _ λ _.
-      after-do _ λ f l.
-      after-guard _ λ free.
-      after-check Access _ λ _.
-      after-check Full _ λ fits.
+      then-do _ λ z _.
+      then-do _ λ d i.
+      then-check Reserved tt _ λ _.
+      then-check Access tt _ λ _.
+      then-check Reserved tt _ λ _.
+      then-do _ λ f l.
+      then-guard (any-outcome _) λ free.
+      then-check Access tt _ λ _.
+      then-check Full tt _ λ fits.
       let j = by-modes (service (u .pairs) z) in
       let to = parent-walked j (s .tree) (in-rep (e .folder) ▹ e .name) l in
       let r = node-ranges (d .here) (node-at (by-modes (c .account)) p d i) in
@@ -120,12 +122,12 @@ module _ (u : Setup) (g : is-setup u ≡ true) (s : Store) (w : well-formed (rec
   co-keeps : (e : Entry-path) (p : Path) → is-entry-path e ≡ true → is-path p ≡ true → Keeps (run-co store u s c e p)
   unfolding run-co most-names below-rep in-rep entry-location
   co-keeps e p k i =
-      after-do _ λ z _.
-      after-do _ λ f r.
-      after-do _ λ d a.
-      after-check Access _ λ _.
-      after-check TooDeep _ λ l.
-      after-check Full _ λ fits.
+      then-do _ λ z _.
+      then-do _ λ f r.
+      then-do _ λ d a.
+      then-check Access tt _ λ _.
+      then-check TooDeep tt _ λ l.
+      then-check Full tt _ λ fits.
       let j = by-modes (service (u .pairs) z) in
       let x = copy c (source store j) (f .here) e d in
       changed none _ (room-keeps c 0 (s .tree) p f x tree i r
@@ -136,12 +138,12 @@ module _ (u : Setup) (g : is-setup u ≡ true) (s : Store) (w : well-formed (rec
   del-keeps : (e : Entry-path) → Keeps (run-del store u s c e)
   unfolding run-del
   del-keeps e =
-      after-do _ λ z _.
-      after-do _ λ d _.
-      after-check Access _ λ _.
-      after-do _ λ f _.
-      after-check Access _ λ _.
-      after-check NotEmpty _ λ _.
+      then-do _ λ z _.
+      then-do _ λ d _.
+      then-check Access tt _ λ _.
+      then-do _ λ f _.
+      then-check Access tt _ λ _.
+      then-check NotEmpty tt _ λ _.
       changed none _ (keep-drop (s .tree) (in-rep (e .folder)) (e .name) tree)
 
   -- a working file is where the walk leads, with its tag
@@ -151,11 +153,11 @@ module _ (u : Setup) (g : is-setup u ≡ true) (s : Store) (w : well-formed (rec
   worked : (right : Right) (p : Path) → Ensures (Worked p) (working-file store u s c right p)
   unfolding working-file
   worked right p =
-      after-do _ λ d e.
-      after-check WrongKind _ λ b.
-      after-check Access _ λ _.
-      after-do _ λ t i.
-      ensured (d, e, refl, not-true (is-directory (d .here .kind)) b, present-some (d .here .tag) Untagged i)
+      then-do _ λ d e.
+      then-check WrongKind tt _ λ b.
+      then-check Access tt _ λ _.
+      then-do _ λ t i.
+      gives (d, e, refl, not-true (is-directory (d .here .kind)) b, present-some (d .here .tag) Untagged i)
 
   -- its original is a file where the account's walk leads
   abbrev Filed : Bounded-role → Entry-path → Place Node → Type 0
@@ -164,17 +166,17 @@ module _ (u : Setup) (g : is-setup u ≡ true) (s : Store) (w : well-formed (rec
   filed : (z : Bounded-role) (e : Entry-path) → Ensures (Filed z e) (original store u s c z e)
   unfolding original
   filed z e =
-      after-do _ λ d i.
-      after-check WrongKind _ λ b.
-      after-check Access _ λ _.
-      ensured (i, not-true (is-directory (d .here .kind)) (rw (kind-by-modes (service (u .pairs) z) (d .here)) at b))
+      then-do _ λ d i.
+      then-check WrongKind tt _ λ b.
+      then-check Access tt _ λ _.
+      gives (i, not-true (is-directory (d .here .kind)) (rw (kind-by-modes (service (u .pairs) z) (d .here)) at b))
 
   up-keeps : (p : Path) → Keeps (run-up store u s c p)
   unfolding run-up
   up-keeps p =
-      after-do _ λ z _.
-      after-facts (worked W p) λ k h.
-      after-facts (filed z (k .tag .path)) λ a i.
+      then-do _ λ z _.
+      then-step (worked W p) λ k h.
+      then-step (filed z (k .tag .path)) λ a i.
       let j = by-modes (service (u .pairs) z) in
       let d = h .0 in
       let n = node-at (by-modes (c .account)) p d (h .1) in
@@ -190,13 +192,13 @@ module _ (u : Setup) (g : is-setup u ≡ true) (s : Store) (w : well-formed (rec
   commit-keeps : (p : Path) → Keeps (run-commit store u s c p)
   unfolding run-commit entry-location below-rep in-rep next-node
   commit-keeps p =
-      after-do _ λ z _.
-      after-facts (worked R p) λ k h.
-      after-facts (filed z (k .tag .path)) λ a i.
-      after-do _ λ f _.
-      after-check Access _ λ _.
-      after-check Stale _ λ _.
-      after-check RevisionsSpent _ λ b.
+      then-do _ λ z _.
+      then-step (worked R p) λ k h.
+      then-step (filed z (k .tag .path)) λ a i.
+      then-do _ λ f _.
+      then-check Access tt _ λ _.
+      then-check Stale tt _ λ _.
+      then-check RevisionsSpent tt _ λ b.
       let j = by-modes (service (u .pairs) z) in
       let d = h .0 in
       let r = node-ranges (d .here) (node-at (by-modes (c .account)) p d (h .1)) in
@@ -221,9 +223,9 @@ module _ (u : Setup) (g : is-setup u ≡ true) (s : Store) (w : well-formed (rec
   repository-keeps (del e) k = del-keeps e
 
   -- a command of a caller in range keeps the store well-formed
-  run-keeps : (command : Command) → is-command command ≡ true → Ensures (λ o. well-formed (record { setup = u; store = o .state }) ≡ true) (run store u s c command)
+  run-keeps : (command : Command) → is-command command ≡ true → Ensures (λ o. well-formed (state-of u (o .state)) ≡ true) (run store u s c command)
   unfolding run is-command
-  run-keeps (shell command) k = after-facts (run-shell-keeps c 0 (s .tree) o tree command k) λ x h. changed (x .text) (x .state) h
+  run-keeps (shell command) k = then-step (run-shell-keeps c 0 (s .tree) o tree command k) λ x h. changed (x .text) (x .state) h
   run-keeps (repository command) k = repository-keeps command k
 
 -- ---- calls
@@ -235,41 +237,41 @@ caller-fits u g v c h =
     let i = caller-in-range u g v c h in
     rw (lt-ltb (c .account .uid .0) 24 (omega (arith, ltb-true (c .account .uid .0) 16 (i .0)))) (lt-ltb (c .primary .0) 25 (omega (arith, ltb-true (c .primary .0) 16 (i .1))))
 
--- what holds before a call and is ensured of it holds after it
+-- what holds before a call and is gives of it holds after it
 after-keeps : (P : Store → Type 0) {r : Result (Outcome Store)} (s : Store) → P s → Ensures (λ o. P (o .state)) r → P (after s r)
 unfolding after
-after-keeps P s h (no-matter n) = h
-after-keeps P s h (ensured k) = k
+after-keeps P s h (refuses r) = h
+after-keeps P s h (gives k) = k
 
 -- a line of any bytes keeps the store well-formed
-pub perform-keeps : (u : Setup) → is-setup u ≡ true → (s : Store) → well-formed (record { setup = u; store = s }) ≡ true → (t : Text)
-    → Ensures (λ o. well-formed (record { setup = u; store = o .state }) ≡ true) (perform store u s t)
+pub perform-keeps : (u : Setup) → is-setup u ≡ true → (s : Store) → well-formed (state-of u s) ≡ true → (t : Text)
+    → Ensures (λ o. well-formed (state-of u (o .state)) ≡ true) (perform store u s t)
 unfolding perform is-line
 perform-keeps u g s w t =
-    after-do _ λ l e.
-    after-do _ λ c f.
+    then-do _ λ l e.
+    then-do _ λ c f.
     let i = and-both (ltb (l .caller .0) 24) (is-command (l .command)) (line-is-line t l (present-some (line t) NoForm e)) in
     run-keeps u g s w c (caller-fits u g (l .caller) c f) (l .command) (i .1)
 
 -- so does a call
-pub step-keeps : (u : Setup) → is-setup u ≡ true → (s : Store) → well-formed (record { setup = u; store = s }) ≡ true → (call : Call)
-    → well-formed (record { setup = u; store = after s (step store u s call) }) ≡ true
+pub step-keeps : (u : Setup) → is-setup u ≡ true → (s : Store) → well-formed (state-of u s) ≡ true → (call : Call)
+    → well-formed (state-of u (after s (step store u s call))) ≡ true
 unfolding step
-step-keeps u g s w call = after-keeps (λ t. well-formed (record { setup = u; store = t }) ≡ true) s w (after-check ShortAnswer _ λ _. perform-keeps u g s w (call .line))
+step-keeps u g s w call = after-keeps (λ t. well-formed (state-of u t) ≡ true) s w (then-check ShortAnswer tt _ λ _. perform-keeps u g s w (call .line))
 
 -- and a list of calls
-pub runs-keep : (u : Setup) → is-setup u ≡ true → (s : Store) → well-formed (record { setup = u; store = s }) ≡ true → (calls : List Call)
-    → well-formed (record { setup = u; store = runs store u s calls .state }) ≡ true
+pub runs-keep : (u : Setup) → is-setup u ≡ true → (s : Store) → well-formed (state-of u s) ≡ true → (calls : List Call)
+    → well-formed (state-of u (runs store u s calls .state)) ≡ true
 unfolding runs
 runs-keep u g s w [] = w
 runs-keep u g s w (call ∷ calls) = runs-keep u g (after s (step store u s call)) (step-keeps u g s w call) calls
 
 -- a store reached from the initial one is well-formed
-pub reached-well-formed : (u : Setup) (s : Store) → Reached u s → well-formed (record { setup = u; store = s }) ≡ true
+pub reached-well-formed : (u : Setup) (s : Store) → Reached u s → well-formed (state-of u s) ≡ true
 reached-well-formed u s r =
     let g = accepted-is-setup (r .text) u (r .taken) in
     rw (r .state) (runs-keep u g (initial-store u) (initial-well-formed u g) (r .calls))
 
 -- and read back from its bytes
-pub reached-decodes : (u : Setup) (s : Store) → Reached u s → decode (encode (record { setup = u; store = s })) ≡ some (record { setup = u; store = s })
-reached-decodes u s r = decode-encode (record { setup = u; store = s }) (reached-well-formed u s r)
+pub reached-decodes : (u : Setup) (s : Store) → Reached u s → decode (encode (state-of u s)) ≡ some (state-of u s)
+reached-decodes u s r = decode-encode (state-of u s) (reached-well-formed u s r)

@@ -26,15 +26,15 @@ use Rattle.tree.specs.Forest.{Place, place-at}
 use Rattle.tree.specs.Node.{is-directory, Node, owns}
 use Rattle.tree.specs.Walk.{by-modes, unused, walk, parent-walk}
 use Rattle.tree.specs.WellFormed.{is-tree}
-use Rattle.tree.specs.Agree.{Ensures, ensured, ensured-so, never-done, after-do, after-facts, after-check, after-guard}
+use Rattle.tree.specs.Gives.{gives, Ensures, any-outcome, never-done, weaker, then-step, then-check, then-guard, then-do}
 use Rattle.tree.specs.JudgeLaws.{kind-by-modes, readable-by-modes, writable-by-modes}
 use Rattle.tree.specs.PathLaws.{alter-keeps}
+use Rattle.copying.specs.Copying.{below-rep}
 use Rattle.shell.specs.ShutLaws.{never-walked, never-room, never-run}
 use Rattle.shell.specs.Privacy.{Private, Unaltered, in-place, walks-first}
-use Rattle.copying.specs.Copying.{below-rep}
 use Rattle.shell.specs.ShellPrivacyLaws.{private-shut, private-foreign, private-outside, put-private, drop-private, room-private, run-shell-through, run-shell-private}
 use Rattle.store.specs.State.{Store}
-use Rattle.machine.specs.Machine.{session, run-login, run-logout, run-add, run-co, working-file, original, run-commit, run-up, run-del, run-repository, run}
+use Rattle.machine.specs.Machine.{run-login, run-logout, session, run-add, run-co, working-file, original, run-commit, run-up, run-del, run-repository, run}
 use Rattle.machine.specs.StoreMachine.{store}
 
 module _ (u : Setup) (s : Store) (c : Caller) (p : Path) (d : Place Node) (there : place-at (s .tree) p ≡ some d) (v : Private (c .account) d) where
@@ -44,22 +44,23 @@ module _ (u : Setup) (s : Store) (c : Caller) (p : Path) (d : Place Node) (there
   unfolding working-file
   never-working right w b = never-walked c (s .tree) p d there (private-shut v X) _ w b
 
-  never-repository : (command : Repository-command) → some-working-path (lies-below p) command ≡ true → Ensures (λ _. ⊥) (run-repository store u s c command)
+  never-repository : (command : Repository-command) → some-working-path (lies-below p) command ≡ true
+      → Ensures (λ _. ⊥) (run-repository store u s c command)
   unfolding some-working-path run-repository run-add run-co run-commit run-up
   never-repository (login z password) b = contra b refl
   never-repository logout b = contra b refl
-  never-repository (add w e role) b = after-do (session store u s c) λ _ _. never-walked c (s .tree) p d there (private-shut v X) _ w b
+  never-repository (add w e role) b = then-do (session store u s c) λ _ _. never-walked c (s .tree) p d there (private-shut v X) _ w b
   never-repository (co e q) b =
-      after-do (session store u s c) λ _ _.
-      after-facts (never-room c (s .tree) p d there (private-shut v X) 0 q b) λ _ z. absurd z
-  never-repository (commit w) b = after-do (session store u s c) λ _ _. after-facts (never-working R w b) λ _ z. absurd z
-  never-repository (up w) b = after-do (session store u s c) λ _ _. after-facts (never-working W w b) λ _ z. absurd z
+      then-do (session store u s c) λ _ _.
+      then-step (never-room c (s .tree) p d there (private-shut v X) 0 q b) λ _ z. absurd z
+  never-repository (commit w) b = then-do (session store u s c) λ _ _. then-step (never-working R w b) λ _ z. absurd z
+  never-repository (up w) b = then-do (session store u s c) λ _ _. then-step (never-working W w b) λ _ z. absurd z
   never-repository (del e) b = contra b refl
 
   -- a command with a path below it is refused
   pub run-refused : (command : Command) → some-walked-path (lies-below p) command ≡ true → (why : Cause) × (run store u s c command ≡ refused why)
   unfolding some-walked-path run
-  run-refused (shell command) b = never-done (after-facts (never-run c (s .tree) p d there (private-shut v X) 0 command b) λ _ z. absurd z)
+  run-refused (shell command) b = never-done (then-step (never-run c (s .tree) p d there (private-shut v X) 0 command b) λ _ z. absurd z)
   run-refused (repository command) b = never-done (never-repository command b)
 
   -- a shell command that walks first, for want of x
@@ -81,92 +82,93 @@ module _ (u : Setup) (s : Store) (c : Caller) (p : Path) (d : Place Node) (there
       directory = v .directory;
     }
 
-    add-private : (w : Path) (e : Entry-path) (role : Bounded-role) → Ensures (λ o. place-at (o .state .tree) p ≡ some d) (run-add store u s c w e role)
+    add-private : (w : Path) (e : Entry-path) (role : Bounded-role)
+        → Ensures (λ o. place-at (o .state .tree) p ≡ some d) (run-add store u s c w e role)
     unfolding run-add below-rep in-rep parent last
     add-private w e role =
-        after-do (session store u s c) λ z _.
-        after-do (walk (by-modes (c .account)) (s .tree) w) λ f i.
-        after-check Reserved _ λ o.
-        after-check Access _ λ _.
-        after-check Reserved _ λ _.
-        after-do (parent-walk (by-modes (service (u .pairs) z)) (s .tree) (in-rep (e .folder) ▹ e .name)) λ g k.
-        after-guard (unused (e .name) (g .below)) λ n.
-        after-check Access _ λ b.
-        after-check Full _ λ _.
-        ensured (alter-keeps _ p d w _
+        then-do (session store u s c) λ z _.
+        then-do (walk (by-modes (c .account)) (s .tree) w) λ f i.
+        then-check Reserved tt _ λ o.
+        then-check Access tt _ λ _.
+        then-check Reserved tt _ λ _.
+        then-do (parent-walk (by-modes (service (u .pairs) z)) (s .tree) (in-rep (e .folder) ▹ e .name)) λ g k.
+        then-guard (any-outcome (unused (e .name) (g .below))) λ n.
+        then-check Access tt _ λ b.
+        then-check Full tt _ λ _.
+        gives (alter-keeps _ p d w _
         (put-private (s .tree) p d there (service-private z) (in-rep (e .folder) ▹ e .name) g k n (rw (writable-by-modes (service (u .pairs) z) (g .here)) at b) _)
         (private-outside (s .tree) p d there v (owns (c .account)) (private-foreign v) w f i o))
 
     co-private : (e : Entry-path) (q : Path) → Ensures (λ o. place-at (o .state .tree) p ≡ some d) (run-co store u s c e q)
     unfolding run-co
     co-private e q =
-        after-do (session store u s c) λ z _.
-        after-facts (room-private c 0 (s .tree) p d there v q) λ f k.
-        after-do (walk (by-modes (service (u .pairs) z)) (s .tree) (in-rep (below-rep e))) λ a _.
-        after-check Access _ λ _.
-        after-check TooDeep _ λ _.
-        after-check Full _ λ _.
-        ensured (k _)
+        then-do (session store u s c) λ z _.
+        then-step (room-private c 0 (s .tree) p d there v q) λ f k.
+        then-do (walk (by-modes (service (u .pairs) z)) (s .tree) (in-rep (below-rep e))) λ a _.
+        then-check Access tt _ λ _.
+        then-check TooDeep tt _ λ _.
+        then-check Full tt _ λ _.
+        gives (k _)
 
     -- a working file is outside the directory
     working-private : (right : Right) (w : Path) → Ensures (λ k. within p w ≡ false) (working-file store u s c right w)
     unfolding working-file
     working-private right w =
-        after-do (walk (by-modes (c .account)) (s .tree) w) λ f i.
-        after-check WrongKind _ λ b.
-        after-check Access _ λ _.
-        after-do (present (f .here .tag) Untagged) λ _ _.
-        ensured (private-outside (s .tree) p d there v (λ n. not (is-directory (n .kind))) (ap not (v .directory)) w f i b)
+        then-do (walk (by-modes (c .account)) (s .tree) w) λ f i.
+        then-check WrongKind tt _ λ b.
+        then-check Access tt _ λ _.
+        then-do (present (f .here .tag) Untagged) λ _ _.
+        gives (private-outside (s .tree) p d there v (λ n. not (is-directory (n .kind))) (ap not (v .directory)) w f i b)
 
     -- and so is an entry's file
     original-private : (z : Bounded-role) (e : Entry-path) → Ensures (λ a. within p (in-rep (below-rep e)) ≡ false) (original store u s c z e)
     unfolding original
     original-private z e =
-        after-do (walk (by-modes (service (u .pairs) z)) (s .tree) (in-rep (below-rep e))) λ f i.
-        after-check WrongKind _ λ b.
-        after-check Access _ λ _.
-        ensured (private-outside (s .tree) p d there (service-private z) (λ n. not (is-directory (by-modes (service (u .pairs) z) .kind n)))
+        then-do (walk (by-modes (service (u .pairs) z)) (s .tree) (in-rep (below-rep e))) λ f i.
+        then-check WrongKind tt _ λ b.
+        then-check Access tt _ λ _.
+        gives (private-outside (s .tree) p d there (service-private z) (λ n. not (is-directory (by-modes (service (u .pairs) z) .kind n)))
         (ap (λ k. not (is-directory k)) (kind-by-modes (service (u .pairs) z) (d .here)) ∙ ap not (v .directory)) (in-rep (below-rep e)) f i b)
 
     commit-private : (w : Path) → Ensures (λ o. place-at (o .state .tree) p ≡ some d) (run-commit store u s c w)
     unfolding run-commit entry-location below-rep in-rep
     commit-private w =
-        after-do (session store u s c) λ z _.
-        after-facts (working-private R w) λ k o.
-        after-facts (original-private z (k .tag .path)) λ a i.
-        after-do (walk (by-modes (service (u .pairs) z)) (s .tree) (in-rep (k .tag .path .folder))) λ _ _.
-        after-check Access _ λ _.
-        after-check Stale _ λ _.
-        after-check RevisionsSpent _ λ _.
-        ensured (alter-keeps _ p d w _ (alter-keeps (s .tree) p d (in-rep (below-rep (k .tag .path))) _ there i) o)
+        then-do (session store u s c) λ z _.
+        then-step (working-private R w) λ k o.
+        then-step (original-private z (k .tag .path)) λ a i.
+        then-do (walk (by-modes (service (u .pairs) z)) (s .tree) (in-rep (k .tag .path .folder))) λ _ _.
+        then-check Access tt _ λ _.
+        then-check Stale tt _ λ _.
+        then-check RevisionsSpent tt _ λ _.
+        gives (alter-keeps _ p d w _ (alter-keeps (s .tree) p d (in-rep (below-rep (k .tag .path))) _ there i) o)
 
     up-private : (w : Path) → Ensures (λ o. place-at (o .state .tree) p ≡ some d) (run-up store u s c w)
     unfolding run-up
     up-private w =
-        after-do (session store u s c) λ z _.
-        after-facts (working-private W w) λ k o.
-        after-do (original store u s c z (k .tag .path)) λ a _.
-        ensured (alter-keeps (s .tree) p d w _ there o)
+        then-do (session store u s c) λ z _.
+        then-step (working-private W w) λ k o.
+        then-do (original store u s c z (k .tag .path)) λ a _.
+        gives (alter-keeps (s .tree) p d w _ there o)
 
     -- an account may not read the directory, so what it takes out is another
     del-private : (e : Entry-path) → Ensures (λ o. place-at (o .state .tree) p ≡ some d) (run-del store u s c e)
     unfolding run-del below-rep in-rep
     del-private e =
-        after-do (session store u s c) λ z _.
+        then-do (session store u s c) λ z _.
         let a = service (u .pairs) z in
         let q = in-rep (e .folder) in
-        after-do (walk (by-modes a) (s .tree) (q ▹ e .name)) λ x w.
-        after-check Access _ λ r.
-        after-do (walk (by-modes a) (s .tree) q) λ f i.
-        after-check Access _ λ b.
-        after-check NotEmpty _ λ n.
+        then-do (walk (by-modes a) (s .tree) (q ▹ e .name)) λ x w.
+        then-check Access tt _ λ r.
+        then-do (walk (by-modes a) (s .tree) q) λ f i.
+        then-check Access tt _ λ b.
+        then-check NotEmpty tt _ λ n.
         let o = private-outside (s .tree) p d there (service-private z) (by-modes a .readable) (readable-by-modes a (d .here) ∙ rw (private-shut (service-private z) R)) (q ▹ e .name) x w r in
-        ensured (drop-private (s .tree) p d there (service-private z) q (e .name) x f w i (rw (writable-by-modes a (f .here)) at b) n (outside-differs p (q ▹ e .name) o))
+        gives (drop-private (s .tree) p d there (service-private z) q (e .name) x f w i (rw (writable-by-modes a (f .here)) at b) n (outside-differs p (q ▹ e .name) o))
 
     run-repository-private : (command : Repository-command) → Ensures (λ o. place-at (o .state .tree) p ≡ some d) (run-repository store u s c command)
     unfolding run-repository run-login run-logout
-    run-repository-private (login z password) = after-check NoGrant _ λ _. ensured there
-    run-repository-private logout = ensured there
+    run-repository-private (login z password) = then-check NoGrant tt _ λ _. gives there
+    run-repository-private logout = gives there
     run-repository-private (add w e role) = add-private w e role
     run-repository-private (co e q) = co-private e q
     run-repository-private (commit w) = commit-private w
@@ -174,9 +176,10 @@ module _ (u : Setup) (s : Store) (c : Caller) (p : Path) (d : Place Node) (there
     run-repository-private (del e) = del-private e
 
     -- every command leaves the directory unaltered
-    pub run-private : is-tree (s .tree) ≡ true → (command : Command) → Ensures (λ o. Unaltered (c .account) (s .tree) d p command (o .state .tree)) (run store u s c command)
+    pub run-private : is-tree (s .tree) ≡ true → (command : Command)
+        → Ensures (λ o. Unaltered (c .account) (s .tree) d p command (o .state .tree)) (run store u s c command)
     unfolding run
     run-private whole (shell command) =
-        after-facts (run-shell-private c 0 (s .tree) p d there v whole command) λ o k.
-        ensured k
-    run-private whole (repository command) = ensured-so (λ o. in-place) (run-repository-private command)
+        then-step (run-shell-private c 0 (s .tree) p d there v whole command) λ o k.
+        gives k
+    run-private whole (repository command) = weaker (λ o. in-place) (run-repository-private command)

@@ -34,7 +34,7 @@ use Rattle.tree.specs.UpdateLaws.{leaf-height}
 use Rattle.tree.specs.WellFormedLaws.{leaf-place}
 use Rattle.tree.specs.ChangeLaws.{keep-put}
 use Rattle.tree.specs.MapLaws.{map-here}
-use Rattle.store.specs.State.{well-formed}
+use Rattle.store.specs.State.{state-of, well-formed}
 use Rattle.store.specs.StateLaws.{parts, formed}
 use Rattle.store.specs.Initial.{directory-of, rep-node, initial-store}
 use Rattle.store.specs.InitialLaws.{initial-few, initial-well-formed}
@@ -185,12 +185,12 @@ module _ (u : Setup) (b : Bounded-role) where
       record { walks = v .1 ∙ ap done (v .2); reads = witness-readable b ∙ dominates-self (u .pairs) (b .role) (b .role) refl }
 
   -- its store is well-formed
-  witness-formed : is-setup u ≡ true → well-formed (record { setup = u; store = embed witness }) ≡ true
+  witness-formed : is-setup u ≡ true → well-formed (state-of u (embed witness)) ≡ true
   unfolding in-rep depth is-name name-byte every bytes is-content content-limit rep-node directory-of initial-abstract initial-store embed
   witness-formed s =
       let h = initial-abstract u in
       let t = initial-tie u in
-      let i = parts (record { setup = u; store = initial-store u }) (initial-well-formed u s) in
+      let i = parts (state-of u (initial-store u)) (initial-well-formed u s) in
       let v = done-second (account-walk u b h (t .kept) root) (walk-root (by-dominance u b) (abstract .entries h)) in
       let d = leaf rep-node in
       let e : v .0 ≡ d = v .2 ∙ sym (stored-is-met nil) ∙ stored-none in
@@ -204,7 +204,8 @@ module _ (u : Setup) (b : Bounded-role) where
 
 module _ (u : Setup) (s : is-setup u ≡ true) (a b : Bounded-role) where
   -- the account of a role may read what those of the roles that it dominates may
-  dominance-reads : dominated u a b ≡ true → (h : Abstract) → Kept h → (p : Path) (d : Place Node) → May-read u b (embed h) p d → May-read u a (embed h) p d
+  dominance-reads : dominated u a b ≡ true → (h : Abstract) → Kept h → (p : Path) (d : Place Node)
+      → May-read u b (embed h) p d → May-read u a (embed h) p d
   unfolding dominated
   dominance-reads e = reads-more u u b a
       (λ r i. dominates-trans (u .pairs) (setup-falls u s) (a .role) (b .role) (r .role) (role-bound b) (role-bound r) e i)

@@ -18,7 +18,7 @@ use Rattle.commands.specs.Command.{Shell-command, Repository-command, login, lo
 use Rattle.setup.specs.Setup.{Setup, is-setup}
 use Rattle.tree.specs.declared.Kind.{Kind}
 use Rattle.tree.specs.declared.Cause.the-variants.{Access, WrongKind, NotEmpty, Reserved, Full, NoGrant, Stale, Untagged, RevisionsSpent, TooDeep}
-use Rattle.tree.specs.Result.{done, present}
+use Rattle.tree.specs.Result.{Result, done, present}
 use Rattle.tree.specs.Forest.{Forest, nil, node, Place, insert, remove, at, update, update-forest, alter, put, drop, leaf, size, map-forest, map-place, rooted}
 use Rattle.tree.specs.Node.{is-directory, Node, allows, owns}
 use Rattle.tree.specs.Walk.{by-modes, enter, walk, parent-walk}
@@ -31,8 +31,8 @@ use Rattle.tree.specs.RootedLaws.{rooted-here, rooted-size, rooted-put, rooted-
 use Rattle.tree.specs.PlaceLaws.{leaf-here, leaf-size}
 use Rattle.tree.specs.MapLaws.{map-nil, map-node, map-here, map-below, unused-map, walk-map, parent-walk-map}
 use Rattle.tree.specs.Graft.{graft, Outside, nodes-graft, update-inside, walk-inside, parent-walk-inside, Seen, seen-here}
+use Rattle.copying.specs.Copying.{below-rep, Source, copied, copy-children, copy}
 use Rattle.shell.specs.Steps.{room, fit, run-shell}
-use Rattle.copying.specs.Copying.{below-rep, copied, copy-children, copy}
 use Rattle.shell.specs.HidingLaws.{Kept-out, Beside, Alike, update-beside, walk-alike, owned-outside, file-outside, room-alike, fit-alike, run-shell-alike}
 use Rattle.store.specs.State.{Sessions, Store}
 use Rattle.store.specs.Initial.{directory-of, top-node, rep-node}
@@ -138,7 +138,8 @@ module _ (u : Setup) (z : Bounded-role) where
         rw (k .top) (enters (store .judge u z) top-node (rw (kind-by-modes a top-node) (t .0)) (rw (passes-by-modes a top-node) (t .1)))
 
     -- it walks to the same entry in both
-    pub account-walk : (p : Path) → Agree (λ d e. d ≡ map-place met e) (walk (store .judge u z) (embed h .tree) (in-rep p)) (walk (abstract .judge u z) (abstract .entries h) p)
+    pub account-walk : (p : Path)
+        → Agree (λ d e. d ≡ map-place met e) (walk (store .judge u z) (embed h .tree) (in-rep p)) (walk (abstract .judge u z) (abstract .entries h) p)
     unfolding embed
     account-walk p =
         rw (walk-inside (store .judge u z) (stored (h .entries)) (h .workspace) top-entered (k .there) p, stored-is-met (h .entries))
@@ -153,30 +154,39 @@ module _ (u : Setup) (z : Bounded-role) where
 
   -- ---- copies
 
+  -- what the account copies of in the store, and apart
+  abbrev in-tree : Source Node
+  in-tree = source store (store .judge u z)
+
+  abbrev apart : Source Filed
+  apart = source abstract (abstract .judge u z)
+
   module _ (c : Caller) where
-    copied-law : (parent : Node) (e : Entry-path) (a : Filed) → copied c (source store (store .judge u z)) parent e (met a) ≡ copied c (source abstract (abstract .judge u z)) parent e a
+    copied-law : (parent : Node) (e : Entry-path) (a : Filed)
+        → copied c in-tree parent e (met a) ≡ copied c apart parent e a
     unfolding copied
     copied-law parent e a = rw (kind-law u z a, content-law a, revision-law a)
 
     children-law : (parent : Node) (folder : Path) (F : Forest Filed)
-        → copy-children c (source store (store .judge u z)) parent folder (map-forest met F) ≡ copy-children c (source abstract (abstract .judge u z)) parent folder F
+        → copy-children c in-tree parent folder (map-forest met F) ≡ copy-children c apart parent folder F
     unfolding copy-children
     children-law parent folder nil = rw (map-nil met)
     children-law parent folder (node n a cs rest) =
         let e : Entry-path = record { folder = folder; name = n } in
         rw (map-node met n a cs rest) (
-        rw (readable-law u z a, copied-law parent e a, children-law (copied c (source abstract (abstract .judge u z)) parent e a) (folder ▹ n) cs, children-law parent folder rest))
+        rw (readable-law u z a, copied-law parent e a, children-law (copied c apart parent e a) (folder ▹ n) cs, children-law parent folder rest))
 
     -- what is copied from the store is what is copied apart
     copy-law : (parent : Node) (e : Entry-path) (d : Place Filed)
-        → copy c (source store (store .judge u z)) parent e (map-place met d) ≡ copy c (source abstract (abstract .judge u z)) parent e d
+        → copy c in-tree parent e (map-place met d) ≡ copy c apart parent e d
     unfolding copy
     copy-law parent e d = rw (map-here met d, map-below met d) (rw (copied-law parent e (d .here)) (rw (children-law _ (below-rep e) (d .below))))
 
 -- ---- the commands
 
 -- a person may do nothing at `/rep` and has neither it nor `/` to change
-kept-out : (u : Setup) → is-setup u ≡ true → (v : Uid) (c : Caller) → is-root v ≡ false → caller u v ≡ done c → Kept-out c top-node (leaf rep-node .here)
+kept-out : (u : Setup) → is-setup u ≡ true → (v : Uid) (c : Caller) → is-root v ≡ false
+    → caller u v ≡ done c → Kept-out c top-node (leaf rep-node .here)
 unfolding top-node rep-node directory-of
 kept-out u s v c r h = rw (leaf-here rep-node) (record {
   not-root = person-not-root u v c r h;
@@ -189,20 +199,27 @@ kept-out u s v c r h = rw (leaf-here rep-node) (record {
 })
 
 module _ (u : Setup) (c : Caller) (out : Kept-out c top-node (leaf rep-node .here)) (h : Abstract) (k : Kept h) where
+  -- what stands at a path of both, where `/rep` holds the entries in one of them and nothing in the other
+  abbrev Meets : Path → Place Node → Place Node → Type 0
+  Meets p = Seen (stored (h .entries)) (leaf rep-node) (h .workspace) p
+
+  abbrev walks-in : Place Node → Path → Result (Place Node)
+  walks-in t p = walk (by-modes (c .account)) t p
+
   -- the person walks to the same place in both
-  person-walk : (p : Path) → Agree (Seen (stored (h .entries)) (leaf rep-node) (h .workspace) p) (walk (by-modes (c .account)) (embed h .tree) p) (walk (by-modes (c .account)) (h .workspace) p)
+  person-walk : (p : Path) → Agree (Meets p) (walks-in (embed h .tree) p) (walks-in (h .workspace) p)
   unfolding embed
   person-walk = walk-alike c (stored (h .entries)) (leaf rep-node) top-node out (rep-alike h k) (h .workspace) (k .top) (k .there)
 
   -- the same test on both
-  test : (T : Node → Bool) {p : Path} {d d′ : Place Node} → Seen (stored (h .entries)) (leaf rep-node) (h .workspace) p d d′ → T (d .here) ≡ T (d′ .here)
+  test : (T : Node → Bool) {p : Path} {d d′ : Place Node} → Meets p d d′ → T (d .here) ≡ T (d′ .here)
   test T s = ap T (seen-here (rep-alike h k) s)
 
   -- what the person owns is outside `/rep`, and so is a file that the person meets
-  owned : {p : Path} {d d′ : Place Node} → Seen (stored (h .entries)) (leaf rep-node) (h .workspace) p d d′ → owns (c .account) (d .here) ≡ true → Outside p
+  owned : {p : Path} {d d′ : Place Node} → Meets p d d′ → owns (c .account) (d .here) ≡ true → Outside p
   owned = owned-outside c (stored (h .entries)) (leaf rep-node) top-node out (rep-alike h k) (h .workspace) (k .top) (k .there)
 
-  a-file : {p : Path} {d d′ : Place Node} → Seen (stored (h .entries)) (leaf rep-node) (h .workspace) p d d′ → not (is-directory (d .here .kind)) ≡ true → Outside p
+  a-file : {p : Path} {d d′ : Place Node} → Meets p d d′ → not (is-directory (d .here .kind)) ≡ true → Outside p
   a-file = file-outside c (stored (h .entries)) (leaf rep-node) top-node out (rep-alike h k) (h .workspace) (k .top) (k .there)
 
   -- there is room for a new node in both
@@ -218,12 +235,15 @@ module _ (u : Setup) (c : Caller) (out : Kept-out c top-node (leaf rep-node .her
 
   -- a shell command
   shell-agrees : (command : Shell-command)
-      → Agree (Alike (stored (h .entries)) (leaf rep-node) top-node) (run-shell c 0 (embed h .tree) command) (run-shell c (size (h .entries)) (h .workspace) command)
+      → Agree (Alike (stored (h .entries)) (leaf rep-node) top-node)
+      (run-shell c 0 (embed h .tree) command)
+      (run-shell c (size (h .entries)) (h .workspace) command)
   unfolding embed
   shell-agrees = run-shell-alike c (stored (h .entries)) (leaf rep-node) top-node out (rep-alike h k) (h .workspace) (k .top) (k .there) 0 (size (h .entries)) (count h k)
 
   -- the parts that commands share
-  working-agrees : (right : Right) (p : Path) → Agree (λ a b. (a ≡ b) × Outside p) (working-file store u (embed h) c right p) (working-file abstract u h c right p)
+  working-agrees : (right : Right) (p : Path)
+      → Agree (λ a b. (a ≡ b) × Outside p) (working-file store u (embed h) c right p) (working-file abstract u h c right p)
   unfolding working-file
   working-agrees right p =
       bind (person-walk p) λ d e s.
@@ -233,7 +253,8 @@ module _ (u : Setup) (c : Caller) (out : Kept-out c top-node (leaf rep-node .her
       each (present (e .here .tag) Untagged) λ t _.
       both (refl, a-file s i))
 
-  original-agrees : (z : Bounded-role) (e : Entry-path) → Agree (λ d b. d ≡ map-place met b) (original store u (embed h) c z e) (original abstract u h c z e)
+  original-agrees : (z : Bounded-role) (e : Entry-path)
+      → Agree (λ d b. d ≡ map-place met b) (original store u (embed h) c z e) (original abstract u h c z e)
   unfolding original
   original-agrees z e =
       bind (account-walk u z h k (below-rep e)) λ d b y.
@@ -317,7 +338,8 @@ module _ (u : Setup) (c : Caller) (out : Kept-out c top-node (leaf rep-node .her
       check NotEmpty (empty-map met (b .below)) λ _.
       both (changed (remove-tie (start h k) e))))))
 
-  run-repository-agrees : (command : Repository-command) → Agree Tied (run-repository store u (embed h) c command) (run-repository abstract u h c command)
+  run-repository-agrees : (command : Repository-command)
+      → Agree Tied (run-repository store u (embed h) c command) (run-repository abstract u h c command)
   unfolding run-repository
   run-repository-agrees (login z password) = login-agrees z password
   run-repository-agrees logout = logout-agrees

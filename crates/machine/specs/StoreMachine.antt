@@ -1,4 +1,4 @@
--- The store: one tree, in which persons and accounts alike are judged by owners, groups and modes.
+-- The store as a machine: one tree, in which persons and accounts alike are judged by owners, groups and modes.
 use mathlib.Core.Option.{none}
 use Prim.Native.Nat.{ℕ, suc}
 use Rattle.buffers.specs.Text.{Text}

@@ -23,20 +23,20 @@ use Rattle.tree.specs.declared.Kind.{Kind}
 use Rattle.tree.specs.declared.Cause.{Cause}
 use Rattle.tree.specs.declared.Cause.the-variants.{Access, Unsound, ShortAnswer}
 use Rattle.tree.specs.Result.{refused, done, Outcome}
-use Rattle.tree.specs.Agree.{Ensures}
+use Rattle.tree.specs.Gives.{Ensures}
 use Rattle.tree.specs.Forest.{Place, place-at}
 use Rattle.tree.specs.Node.{Node}
 use Rattle.tree.specs.WellFormed.{is-tree}
 use Rattle.shell.specs.Privacy.{Private, Unaltered, walks-first}
-use Rattle.store.specs.State.{Store, State, well-formed}
+use Rattle.store.specs.State.{Store, State, state-of, well-formed}
 use Rattle.store.specs.Initial.{initial-store}
 use Rattle.store.specs.InitialLaws
 use Rattle.store.specs.StoreBytes.{encode, decode}
 use Rattle.store.specs.SoundStore.{Sound}
 use Rattle.store.specs.SoundStoreLaws
 use Rattle.machine.specs.Machine.{Machine, caller, run}
-use Rattle.machine.specs.StoreMachine.{store, entry-node}
-use Rattle.machine.specs.AbstractMachine.{Abstract, Filed, abstract, dominated, initial-abstract}
+use Rattle.machine.specs.StoreMachine.{store}
+use Rattle.machine.specs.AbstractMachine.{Abstract, Filed, dominated, abstract, initial-abstract}
 use Rattle.machine.specs.Embedding.{met, embed}
 use Rattle.machine.specs.Runs.{Call, after, step, runs, root's}
 use Rattle.machine.specs.RunsLaws
@@ -47,7 +47,7 @@ use Rattle.machine.specs.Simulation.{Kept}
 use Rattle.machine.specs.ComparedLaws
 use Rattle.machine.specs.EntryAccess.{names-entry, May-read, Reads-all, More-pairs}
 use Rattle.machine.specs.KeptOutLaws
-use Rattle.machine.specs.EntryChanges.{node-of, Rightful, Change, Making}
+use Rattle.machine.specs.EntryChanges.{node-of, Filed-as, Rightful, Change, Making}
 use Rattle.machine.specs.EntryChangesLaws
 use Rattle.machine.specs.EntryMakingLaws
 use Rattle.machine.specs.ReadingLaws
@@ -73,25 +73,24 @@ no-call-is-18 = MachineAnswerLaws.never-18
 pub only-short-is-20 : {S A : Type 0} (M : Machine S A) (u : Setup) (s : S) (call : Call) → step M u s call ≡ refused ShortAnswer → call .room < 4096
 only-short-is-20 = MachineAnswerLaws.short-is-20
 
--- Bytes are read as a state just if they are sound, as document 01's sentence has it.
+-- Soundness. Bytes are read as a state just if they are sound, as document 01's sentence has it.
 pub sound-is-read : (b : List ℕ) → Sound b → (s : State) × (decode b ≡ some s)
 sound-is-read = SoundStoreLaws.sound-is-decoded
 
 pub read-is-sound : (b : List ℕ) (s : State) → decode b ≡ some s → Sound b
 read-is-sound = SoundStoreLaws.decoded-is-sound
 
--- Soundness. Every accepted setup gives a well-formed store,
-pub initial-is-sound : (text : Text) (u : Setup) → setup text ≡ accepted u → well-formed (record { setup = u; store = initial-store u }) ≡ true
+-- Every accepted setup gives a well-formed store,
+pub initial-is-sound : (text : Text) (u : Setup) → setup text ≡ accepted u → well-formed (state-of u (initial-store u)) ≡ true
 initial-is-sound text u e = InitialLaws.initial-well-formed u (accepted-is-setup text u e)
 
 -- and every call by anyone, root included, keeps it well-formed.
-pub calls-keep-sound : (u : Setup) → is-setup u ≡ true → (s : Store) → well-formed (record { setup = u; store = s }) ≡ true → (call : Call) →
-    well-formed (record { setup = u; store = after s (step store u s call) }) ≡ true
+pub calls-keep-sound : (u : Setup) → is-setup u ≡ true → (s : Store) → well-formed (state-of u s) ≡ true → (call : Call) →
+    well-formed (state-of u (after s (step store u s call))) ≡ true
 calls-keep-sound = MachineKeepingLaws.step-keeps
 
 -- So the bytes of a store that is reached from an initial one by calls of anyone are read back.
-pub reached-is-read-back : (u : Setup) (s : Store) → Reached u s →
-    decode (encode (record { setup = u; store = s })) ≡ some (record { setup = u; store = s })
+pub reached-is-read-back : (u : Setup) (s : Store) → Reached u s → decode (encode (state-of u s)) ≡ some (state-of u s)
 reached-is-read-back = MachineKeepingLaws.reached-decodes
 
 -- The stores that the following speak of are there: that of every accepted setup is one.
@@ -108,8 +107,8 @@ shell-reaches-no-entry = KeptOutLaws.shell-refused
 -- file tagged with its path and revision, which gives it the file's content and the next revision, or the `del` that removes it.
 pub entry-changed-by-right : (u : Setup) (s : Store) → Reached-without-root u s → (v : Uid) (c : Caller) → is-root v ≡ false → caller u v ≡ done c →
     (command : Command) (o : Outcome Store) → run store u s c command ≡ done o →
-    (e : Entry-path) (kind : Kind) (r : Bounded-role) (revision : ℕ) (content : Text) → node-of s e ≡ some (entry-node kind r revision content) →
-    (node-of (o .state) e ≡ some (entry-node kind r revision content)) ⊎ (Change s (o .state) e kind r revision command × Rightful u (s .sessions) c r)
+    (e : Entry-path) (kind : Kind) (r : Bounded-role) (revision : ℕ) (content : Text) → Filed-as s e kind r revision content →
+    Filed-as (o .state) e kind r revision content ⊎ (Change s (o .state) e kind r revision command × Rightful u (s .sessions) c r)
 entry-changed-by-right = EntryChangesLaws.stored-entry-changed
 
 -- Where nothing stands, a person's done command leaves nothing, or is an `add` there in a session whose role dominates that of the
@@ -130,7 +129,8 @@ pub more-pairs-refuse-nothing : (u u′ : Setup) → is-setup u ≡ true → is-
     (store .judge u z .passes (met x) ≡ true → store .judge u′ z .passes (met x) ≡ true)
     × (store .judge u z .readable (met x) ≡ true → store .judge u′ z .readable (met x) ≡ true)
     × (store .judge u z .writable (met x) ≡ true → store .judge u′ z .writable (met x) ≡ true)
-more-pairs-refuse-nothing u u′ s s′ more z x = (ReadingLaws.more-passes u u′ s s′ more z x, ReadingLaws.more-readable u u′ s s′ more z x, ReadingLaws.more-writable u u′ s s′ more z x)
+more-pairs-refuse-nothing u u′ s s′ more z x =
+    (ReadingLaws.more-passes u u′ s s′ more z x, ReadingLaws.more-readable u u′ s s′ more z x, ReadingLaws.more-writable u u′ s s′ more z x)
 
 -- and the entries that it may walk to and read it still may.
 pub more-pairs-hide-nothing : (u u′ : Setup) → is-setup u ≡ true → is-setup u′ ≡ true → More-pairs u u′ →
@@ -140,17 +140,21 @@ more-pairs-hide-nothing = ReadingLaws.more-may-read
 -- A command by anyone but its owner and root leaves a directory of mode 0700 owned by a person the same with all below it: at its path,
 -- or where a `mv` of it or of a directory above it carries it; or nothing lay below it, and `rmdir` of it took it out. What is so moved
 -- or taken out stood in a directory in which the caller may write.
-pub private-directory-stays : (u : Setup) (s : Store) (c : Caller) (p : Path) (d : Place Node) → is-tree (s .tree) ≡ true → place-at (s .tree) p ≡ some d →
-    Private (c .account) d → ltb (d .here .owner .0) 16 ≡ true → (command : Command) → Ensures (λ o. Unaltered (c .account) (s .tree) d p command (o .state .tree)) (run store u s c command)
+pub private-directory-stays : (u : Setup) (s : Store) (c : Caller) (p : Path) (d : Place Node) →
+    is-tree (s .tree) ≡ true → place-at (s .tree) p ≡ some d →
+    Private (c .account) d → ltb (d .here .owner .0) 16 ≡ true → (command : Command) →
+    Ensures (λ o. Unaltered (c .account) (s .tree) d p command (o .state .tree)) (run store u s c command)
 private-directory-stays u s c p d whole there v small = MachinePrivacyLaws.run-private u s c p d there v small whole
 
 -- Such a command is refused if a path that its caller walks lies below the directory,
 pub private-directory-is-not-passed : (u : Setup) (s : Store) (c : Caller) (p : Path) (d : Place Node) → place-at (s .tree) p ≡ some d →
-    Private (c .account) d → (command : Command) → some-walked-path (lies-below p) command ≡ true → (why : Cause) × (run store u s c command ≡ refused why)
+    Private (c .account) d → (command : Command) → some-walked-path (lies-below p) command ≡ true →
+    (why : Cause) × (run store u s c command ≡ refused why)
 private-directory-is-not-passed = MachinePrivacyLaws.run-refused
 
 -- and refused 5 if it is a shell command that walks before it refuses a path other than `/`: all but `rm`, `rmdir` and `mv`.
-pub private-directory-refuses-access : (u : Setup) (s : Store) (c : Caller) (p : Path) (d : Place Node) → is-tree (s .tree) ≡ true → place-at (s .tree) p ≡ some d →
+pub private-directory-refuses-access : (u : Setup) (s : Store) (c : Caller) (p : Path) (d : Place Node) →
+    is-tree (s .tree) ≡ true → place-at (s .tree) p ≡ some d →
     Private (c .account) d → (command : Shell-command) → walks-first command ≡ true → some-path (lies-below p) command ≡ true →
     run store u s c (shell command) ≡ refused Access
 private-directory-refuses-access u s c p d whole there v = MachinePrivacyLaws.run-through u s c p d there v whole

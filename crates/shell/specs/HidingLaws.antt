@@ -23,7 +23,7 @@ use Rattle.tree.specs.declared.Cause.the-variants.{Access, Exists, WrongKind, N
 use Rattle.tree.specs.Result.{done, Outcome}
 use Rattle.tree.specs.Forest.{Place, get, is-empty, update}
 use Rattle.tree.specs.Node.{is-directory, same-kind, Node, allows, owns}
-use Rattle.tree.specs.Walk.{by-modes, walk, parent-walk}
+use Rattle.tree.specs.Walk.{Judge, by-modes, walk, parent-walk}
 use Rattle.tree.specs.WellFormed.{nodes}
 use Rattle.tree.specs.Agree.{Agree, both, bind, check, guard}
 use Rattle.tree.specs.JudgeLaws.{passes-by-modes}
@@ -87,12 +87,14 @@ module _ (c : Caller) (e f : Place Node) (top : Node) (out : Kept-out c top (f .
   not-passed : by-modes (c .account) .passes (e .here) ≡ false
   not-passed = passes-by-modes (c .account) (e .here) ∙ shut X
 
+  abbrev judge : Judge Node
+  judge = by-modes (c .account)
+
   -- a walk sees both alike
   pub walk-alike : (p : Path) → Agree (Seen e f t p) (walk (by-modes (c .account)) (graft e t) p) (walk (by-modes (c .account)) t p)
   walk-alike = walk-graft e f t alike there (by-modes (c .account)) not-passed
 
-  parent-walk-alike : (p : Path)
-      → Agree (Passed (by-modes (c .account)) e f t (parent p)) (parent-walk (by-modes (c .account)) (graft e t) p) (parent-walk (by-modes (c .account)) t p)
+  parent-walk-alike : (p : Path) → Agree (Passed judge e f t (parent p)) (parent-walk judge (graft e t) p) (parent-walk judge t p)
   parent-walk-alike = parent-walk-graft e f t alike there (by-modes (c .account)) not-passed
 
   -- a test that the nodes at `/` and `/rep` do not pass leads outside
@@ -136,7 +138,8 @@ module _ (c : Caller) (e f : Place Node) (top : Node) (out : Kept-out c top (f .
     unfolding fit
     fit-alike k = rw count
 
-    create-alike : (kind : Kind) (p : Path) (mode : ℕ) → Agree (Alike e f top) (run-create c m (graft e t) kind p mode) (run-create c m′ t kind p mode)
+    create-alike : (kind : Kind) (p : Path) (mode : ℕ)
+        → Agree (Alike e f top) (run-create c m (graft e t) kind p mode) (run-create c m′ t kind p mode)
     unfolding run-create
     create-alike kind p mode =
         bind (room-alike p) λ d d′ s.

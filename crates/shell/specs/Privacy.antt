@@ -31,7 +31,8 @@ pub data Unaltered (account : Account) (s d : Place Node) (p : Path) : Command �
   in-place : {command : Command} {t : Place Node} → place-at t p ≡ some d → Unaltered account s d p command t
   moved-along : {a b : Path} {t : Place Node} → Writes account s (parent a) → within a p ≡ true → place-at t (carried a b p) ≡ some d
       → Unaltered account s d p (shell (mv a b)) t
-  taken-out : {t : Place Node} → Writes account s (parent p) → is-empty (d .below) ≡ true → place-at t p ≡ none → Unaltered account s d p (shell (rmdir p)) t
+  taken-out : {t : Place Node} → Writes account s (parent p) → is-empty (d .below) ≡ true
+      → place-at t p ≡ none → Unaltered account s d p (shell (rmdir p)) t
 
 -- whether the command walks before it refuses a path other than `/`
 unfoldable pub walks-first : Shell-command → Bool

@@ -25,7 +25,7 @@ use Rattle.tree.specs.Forest.{Place, get, update, put, leaf, size, height}
 use Rattle.tree.specs.Node.{is-directory, Node, set-owner, set-group, set-mode, set-content, new-node}
 use Rattle.tree.specs.Walk.{by-modes, walk}
 use Rattle.tree.specs.WellFormed.{nodes, is-node, is-place, is-tree}
-use Rattle.tree.specs.Agree.{Ensures, ensured, ensured-done, after-do, after-check, after-guard}
+use Rattle.tree.specs.Gives.{gives, Ensures, any-outcome, done-with, then-check, then-guard, then-do}
 use Rattle.tree.specs.JudgeLaws.{file-is-none, directory-is-one}
 use Rattle.tree.specs.StepLaws.{was-unused, parent-walked}
 use Rattle.tree.specs.PlaceLaws.{leaf-size}
@@ -48,16 +48,16 @@ module _ (c : Caller) (m : ℕ) (t : Place Node) where
   room-ensures : (p : Path) → Ensures (Room c t p) (room c m t p)
   unfolding room
   room-ensures p =
-      after-check Exists _ λ a.
-      after-do _ λ d e.
-      after-guard _ λ b.
-      after-check Access _ λ _.
+      then-check Exists tt _ λ a.
+      then-do _ λ d e.
+      then-guard (any-outcome _) λ b.
+      then-check Access tt _ λ _.
       let i = parent-walked (by-modes (c .account)) t p e in
-      ensured (i .0, entered-directory (c .account) (d .here) (i .1), was-unused (last p) (d .below) b, not-true (is-top p) a)
+      gives (i .0, entered-directory (c .account) (d .here) (i .1), was-unused (last p) (d .below) b, not-true (is-top p) a)
 
   -- the room for a new node is a directory that the walk to the parent leads to, without that name
   pub room-found : (p : Path) (d : Place Node) → room c m t p ≡ done d → Room c t p d
-  room-found p d e = ensured-done (rw e at (room-ensures p))
+  room-found p d e = done-with (room-ensures p) e
 
   -- what fits is at most 256 nodes
   pub fit-most : (k : ℕ) → fit c m t k ≡ true → nodes t + k ≤ 256
@@ -79,88 +79,90 @@ module _ (c : Caller) (m : ℕ) (t : Place Node) where
     node-at : (p : Path) (d : Place Node) → walk (by-modes (c .account)) t p ≡ done d → is-node (d .here) ≡ true
     node-at p d e = place-node d (walked-place (by-modes (c .account)) t p d h e)
 
-    create-keeps : (kind : Kind) (p : Path) (mode : ℕ) → is-path p ≡ true → is-mode mode ≡ true → (is-directory kind || not (set-gid mode)) ≡ true → Keeps (run-create c m t kind p mode)
+    create-keeps : (kind : Kind) (p : Path) (mode : ℕ) → is-path p ≡ true → is-mode mode ≡ true
+        → (is-directory kind || not (set-gid mode)) ≡ true → Keeps (run-create c m t kind p mode)
     unfolding run-create
     create-keeps kind p mode a b g =
-        after-do _ λ d e.
-        after-check Full _ λ f.
+        then-do _ λ d e.
+        then-check Full tt _ λ f.
         let x = new-node c (d .here) kind mode in
-        ensured (room-keeps p d (leaf x) h a e (leaf-place x (new-node-fits c (d .here) kind mode o (node-at (parent p) d (room-found p d e .0)) b g))
+        gives (room-keeps p d (leaf x) h a e (leaf-place x (new-node-fits c (d .here) kind mode o (node-at (parent p) d (room-found p d e .0)) b g))
         (omega (arith, leaf-height x, path-depth p a)) (omega (arith, leaf-size x, fit-most 1 f)))
 
     read-keeps : (p : Path) → Keeps (run-read c m t p)
     unfolding run-read
     read-keeps p =
-        after-do _ λ d _.
-        after-check Access _ λ _.
-        ensured h
+        then-do _ λ d _.
+        then-check Access tt _ λ _.
+        gives h
 
     write-keeps : (p : Path) (content : Text) → is-content content ≡ true → Keeps (run-write c m t p content)
     unfolding run-write
     write-keeps p content a =
-        after-do _ λ d e.
-        after-check WrongKind _ λ b.
-        after-check Access _ λ _.
-        ensured (keep-alter (by-modes (c .account)) t p d (set-content content) h e
+        then-do _ λ d e.
+        then-check WrongKind tt _ λ b.
+        then-check Access tt _ λ _.
+        gives (keep-alter (by-modes (c .account)) t p d (set-content content) h e
         (node-of-content content (d .here) (node-at p d e) (not-true (is-directory (d .here .kind)) b) a) (kind-of-set-content content (d .here)))
 
     rm-keeps : (kind : Kind) (p : Path) → Keeps (run-rm c m t kind p)
     unfolding run-rm
     rm-keeps kind p =
-        after-check Reserved _ λ _.
-        after-do _ λ d _.
-        after-check WrongKind _ λ _.
-        after-do _ λ e _.
-        after-check Access _ λ _.
-        after-check NotEmpty _ λ _.
-        ensured (keep-drop t (parent p) (last p) h)
+        then-check Reserved tt _ λ _.
+        then-do _ λ d _.
+        then-check WrongKind tt _ λ _.
+        then-do _ λ e _.
+        then-check Access tt _ λ _.
+        then-check NotEmpty tt _ λ _.
+        gives (keep-drop t (parent p) (last p) h)
 
     mv-keeps : (a b : Path) → is-path b ≡ true → Keeps (run-mv c m t a b)
     unfolding run-mv reserved parent last most-names
-    mv-keeps root b g = after-check Reserved _ λ i. contra refl (sym i)
+    mv-keeps root b g = then-check Reserved tt _ λ i. contra refl (sym i)
     mv-keeps (a ▹ n) b g =
-        after-check Reserved _ λ i.
-        after-do _ λ d e.
-        after-do _ λ f k.
-        after-guard _ λ free.
-        after-do _ λ _ _.
-        after-check Access _ λ _.
-        after-check Access _ λ _.
-        after-check IntoItself _ λ _.
-        after-check TooDeep _ λ l.
+        then-check Reserved tt _ λ i.
+        then-do _ λ d e.
+        then-do _ λ f k.
+        then-guard (any-outcome _) λ free.
+        then-do _ λ _ _.
+        then-check Access tt _ λ _.
+        then-check Access tt _ λ _.
+        then-check IntoItself tt _ λ _.
+        then-check TooDeep tt _ λ l.
         let to = parent-walked (by-modes (c .account)) t b k in
         let top = not-reserved b (neither (reserved (a ▹ n)) (reserved b) i .1) in
-        ensured (keep-move (by-modes (c .account)) t a n (parent b) (last b) d f h e (to .0) (entered-directory (c .account) (f .here) (to .1))
+        gives (keep-move (by-modes (c .account)) t a n (parent b) (last b) d f h e (to .0) (entered-directory (c .account) (f .here) (to .1))
         (was-unused (last b) (f .below) free) (last-is-name b g top)
         (omega (arith, parent-depth b top, leb-true (depth b + height (d .below)) 6 l)))
 
     chmod-keeps : (p : Path) (mode : ℕ) → is-mode mode ≡ true → Keeps (run-chmod c m t p mode)
     unfolding run-chmod
     chmod-keeps p mode a =
-        after-do _ λ d e.
-        after-check WrongKind _ λ b.
-        after-check Reserved _ λ _.
-        ensured (keep-alter (by-modes (c .account)) t p d (set-mode mode) h e
+        then-do _ λ d e.
+        then-check WrongKind tt _ λ b.
+        then-check Reserved tt _ λ _.
+        gives (keep-alter (by-modes (c .account)) t p d (set-mode mode) h e
         (node-of-mode mode (d .here) (node-at p d e) a b) (kind-of-set-mode mode (d .here)))
 
     chgrp-keeps : (p : Path) (group : Gid) → ltb (group .0) 25 ≡ true → Keeps (run-chgrp c m t p group)
     unfolding run-chgrp
     chgrp-keeps p group a =
-        after-do _ λ d e.
-        after-check Reserved _ λ _.
-        ensured (keep-alter (by-modes (c .account)) t p d (set-group group) h e
+        then-do _ λ d e.
+        then-check Reserved tt _ λ _.
+        gives (keep-alter (by-modes (c .account)) t p d (set-group group) h e
         (node-of-group group (d .here) (node-at p d e) a) (kind-of-set-group group (d .here)))
 
     chown-keeps : (p : Path) (owner : Uid) → ltb (owner .0) 24 ≡ true → Keeps (run-chown c m t p owner)
     unfolding run-chown
     chown-keeps p owner a =
-        after-do _ λ d e.
-        after-check Reserved _ λ _.
-        ensured (keep-alter (by-modes (c .account)) t p d (set-owner owner) h e
+        then-do _ λ d e.
+        then-check Reserved tt _ λ _.
+        gives (keep-alter (by-modes (c .account)) t p d (set-owner owner) h e
         (node-of-owner owner (d .here) (node-at p d e) a) (kind-of-set-owner owner (d .here)))
 
     -- a shell command of a caller in range keeps the tree well-formed
-    pub run-shell-keeps : (command : Shell-command) → is-shell-command command ≡ true → Ensures (λ o. is-tree (o .state) ≡ true) (run-shell c m t command)
+    pub run-shell-keeps : (command : Shell-command) → is-shell-command command ≡ true
+        → Ensures (λ o. is-tree (o .state) ≡ true) (run-shell c m t command)
     unfolding run-shell is-shell-command
     run-shell-keeps (create p mode) k =
         let i = and-both (is-path p) (ltb mode 512) k in

@@ -29,7 +29,7 @@ use Rattle.tree.specs.Forest.{Place, is-empty, update, place-at, put, drop}
 use Rattle.tree.specs.Node.{same-kind, Node, allows, set-mode, set-group, set-content, owns}
 use Rattle.tree.specs.Walk.{by-modes, unused, walk, parent-walk}
 use Rattle.tree.specs.WellFormed.{is-tree}
-use Rattle.tree.specs.Agree.{Ensures, ensured, ensured-so, after-do, after-facts, after-check, after-guard}
+use Rattle.tree.specs.Gives.{gives, Ensures, any-outcome, weaker, then-step, then-check, then-guard, then-do}
 use Rattle.tree.specs.ResultLaws.{done-then, refused-bind, require-true}
 use Rattle.tree.specs.JudgeLaws.{directory-not-file, allows-is, kind-by-modes, passes-by-modes}
 use Rattle.tree.specs.StepLaws.{was-unused, parent-walked}
@@ -56,7 +56,8 @@ not-passed {a} {d} v = passes-by-modes a (d .here) ∙ private-shut v X
 
 module _ {a : Account} (t : Place Node) (p : Path) (d : Place Node) (there : place-at t p ≡ some d) (v : Private a d) where
   -- a walk to a place that passes a test which the directory does not pass leads outside it
-  pub private-outside : (T : Node → Bool) → T (d .here) ≡ false → (q : Path) (e : Place Node) → walk (by-modes a) t q ≡ done e → T (e .here) ≡ true → within p q ≡ false
+  pub private-outside : (T : Node → Bool) → T (d .here) ≡ false → (q : Path) (e : Place Node)
+      → walk (by-modes a) t q ≡ done e → T (e .here) ≡ true → within p q ≡ false
   private-outside T o q e w = walk-outside (by-modes a) t p d there (not-passed v) q e w T o
 
   -- so does one to where the account may write
@@ -64,7 +65,8 @@ module _ {a : Account} (t : Place Node) (p : Path) (d : Place Node) (there : pla
   written-outside = private-outside (allows a W) (private-shut v W)
 
   -- a new node where the account may write leaves the directory
-  pub put-private : (q : Path) (e : Place Node) → parent-walk (by-modes a) t q ≡ done e → unused (last q) (e .below) ≡ done tt → allows a W (e .here) ≡ true
+  pub put-private : (q : Path) (e : Place Node) → parent-walk (by-modes a) t q ≡ done e
+      → unused (last q) (e .below) ≡ done tt → allows a W (e .here) ≡ true
       → (x : Place Node) → place-at (update (parent q) (put (last q) x) t) p ≡ some d
   put-private q e w n b x =
       let i = parent-walked (by-modes a) t q w .0 in
@@ -72,26 +74,36 @@ module _ {a : Account} (t : Place Node) (p : Path) (d : Place Node) (there : pla
       (at-child t (parent q) (last q) e (walked-at t (by-modes a) (parent q) e i) ∙ was-unused (last q) (e .below) n)
 
   -- and so does the removal of another that has nothing below it
-  pub drop-private : (q : Path) (n : Name) (x e : Place Node) → walk (by-modes a) t (q ▹ n) ≡ done x → walk (by-modes a) t q ≡ done e → allows a W (e .here) ≡ true
+  pub drop-private : (q : Path) (n : Name) (x e : Place Node) → walk (by-modes a) t (q ▹ n) ≡ done x
+      → walk (by-modes a) t q ≡ done e → allows a W (e .here) ≡ true
       → is-empty (x .below) ≡ true → same-path p (q ▹ n) ≡ false → place-at (update q (drop n) t) p ≡ some d
   drop-private q n x e w i b z = drop-empty-keeps t p d q n x there (written-outside q e i b) (walked-at t (by-modes a) (q ▹ n) x w) z
+
+-- the directory d of the path p in the tree s was what an `rm` or `rmdir` of q was to take out, and is gone in the tree t
+record Removed (a : Account) (s d : Place Node) (p : Path) (kind : Kind) (q : Path) (t : Place Node) : Type 0 where
+  itself : q ≡ p
+  writes : Writes a s (parent q)
+  of-kind : same-kind (d .here .kind) kind ≡ true
+  bare : is-empty (d .below) ≡ true
+  gone : place-at t p ≡ none
 
 module _ (c : Caller) (m : ℕ) (t : Place Node) (p : Path) (d : Place Node) (there : place-at t p ≡ some d) (v : Private (c .account) d) where
   -- a new node in the room found for it leaves the directory
   pub room-private : (q : Path) → Ensures (λ e. (x : Place Node) → place-at (update (parent q) (put (last q) x) t) p ≡ some d) (room c m t q)
   unfolding room
   room-private q =
-      after-check Exists _ λ _.
-      after-do (parent-walk (by-modes (c .account)) t q) λ e w.
-      after-guard (unused (last q) (e .below)) λ n.
-      after-check Access _ λ b.
-      ensured (put-private t p d there v q e w n b)
+      then-check Exists tt _ λ _.
+      then-do (parent-walk (by-modes (c .account)) t q) λ e w.
+      then-guard (any-outcome (unused (last q) (e .below))) λ n.
+      then-check Access tt _ λ b.
+      gives (put-private t p d there v q e w n b)
 
   module _ (whole : is-tree t ≡ true) where
     -- ---- paths below it
 
     -- a step after a walk through it is refused
-    walk-through : {A : Type 0} (k : Place Node → Result A) (q : Path) → lies-below p q ≡ true → (walk (by-modes (c .account)) t q >>= k) ≡ refused Access
+    walk-through : {A : Type 0} (k : Place Node → Result A) (q : Path) → lies-below p q ≡ true
+        → (walk (by-modes (c .account)) t q >>= k) ≡ refused Access
     walk-through k q b = rw (walk-shut (by-modes (c .account)) (kind-by-modes (c .account)) t whole p d there (v .directory) (not-passed v) q b, refused-bind)
 
     create-through : (kind : Kind) (q : Path) (mode : ℕ) → lies-below p q ≡ true → run-create c m t kind q mode ≡ refused Access
@@ -106,7 +118,8 @@ module _ (c : Caller) (m : ℕ) (t : Place Node) (p : Path) (d : Place Node) (th
     )
 
     -- a command that walks first is refused for want of x where its path lies below it
-    pub run-shell-through : (command : Shell-command) → walks-first command ≡ true → some-path (lies-below p) command ≡ true → run-shell c m t command ≡ refused Access
+    pub run-shell-through : (command : Shell-command) → walks-first command ≡ true
+        → some-path (lies-below p) command ≡ true → run-shell c m t command ≡ refused Access
     unfolding walks-first some-path run-shell run-read run-write run-chmod run-chgrp run-chown
     run-shell-through (create q mode) i b = create-through File q mode b
     run-shell-through (mkdir q mode) i b = create-through Directory q mode b
@@ -124,99 +137,105 @@ module _ (c : Caller) (m : ℕ) (t : Place Node) (p : Path) (d : Place Node) (th
     create-private : (kind : Kind) (q : Path) (mode : ℕ) → Ensures (λ o. place-at (o .state) p ≡ some d) (run-create c m t kind q mode)
     unfolding run-create
     create-private kind q mode =
-        after-facts (room-private q) λ e k.
-        after-check Full _ λ _.
-        ensured (k _)
+        then-step (room-private q) λ e k.
+        then-check Full tt _ λ _.
+        gives (k _)
 
     read-private : (q : Path) → Ensures (λ o. place-at (o .state) p ≡ some d) (run-read c m t q)
     unfolding run-read
     read-private q =
-        after-do (walk (by-modes (c .account)) t q) λ e w.
-        after-check Access _ λ _.
-        ensured there
+        then-do (walk (by-modes (c .account)) t q) λ e w.
+        then-check Access tt _ λ _.
+        gives there
 
     write-private : (q : Path) (content : Text) → Ensures (λ o. place-at (o .state) p ≡ some d) (run-write c m t q content)
     unfolding run-write
     write-private q content =
-        after-do (walk (by-modes (c .account)) t q) λ e w.
-        after-check WrongKind _ λ _.
-        after-check Access _ λ b.
-        ensured (alter-keeps t p d q (set-content content) there (written-outside t p d there v q e w b))
+        then-do (walk (by-modes (c .account)) t q) λ e w.
+        then-check WrongKind tt _ λ _.
+        then-check Access tt _ λ b.
+        gives (alter-keeps t p d q (set-content content) there (written-outside t p d there v q e w b))
 
     -- it stays, or was what was to be removed
     rm-private : (kind : Kind) (q : Path)
-        → Ensures (λ o. (place-at (o .state) p ≡ some d)
-        ⊎ ((q ≡ p) × Writes (c .account) t (parent q) × (same-kind (d .here .kind) kind ≡ true) × (is-empty (d .below) ≡ true) × (place-at (o .state) p ≡ none))) (run-rm c m t kind q)
+        → Ensures (λ o. (place-at (o .state) p ≡ some d) ⊎ Removed (c .account) t d p kind q (o .state)) (run-rm c m t kind q)
     unfolding run-rm reserved parent last
-    rm-private kind root = after-check Reserved _ λ i. contra i refl
+    rm-private kind root = then-check Reserved tt _ λ i. contra i refl
     rm-private kind (q ▹ n) =
-        after-check Reserved _ λ _.
-        after-do (walk (by-modes (c .account)) t (q ▹ n)) λ x w.
-        after-check WrongKind _ λ k.
-        after-do (walk (by-modes (c .account)) t q) λ e s.
-        after-check Access _ λ b.
-        after-check NotEmpty _ λ z.
-        ensured (case (same-path p (q ▹ n))
+        then-check Reserved tt _ λ _.
+        then-do (walk (by-modes (c .account)) t (q ▹ n)) λ x w.
+        then-check WrongKind tt _ λ k.
+        then-do (walk (by-modes (c .account)) t q) λ e s.
+        then-check Access tt _ λ b.
+        then-check NotEmpty tt _ λ z.
+        gives (case (same-path p (q ▹ n))
         (λ i.
         let o = same-path-sound p (q ▹ n) i in
         let y = answered (sym (rw o at there) ∙ walked-at t (by-modes (c .account)) (q ▹ n) x w) in
-        inr (sym o, record { place = e; stands = walked-at t (by-modes (c .account)) q e s; allowed = b }, rw y at k, rw y at z, rw o (drop-gone t whole q n)))
+        inr (record {
+          itself = sym o;
+          writes = record { place = e; stands = walked-at t (by-modes (c .account)) q e s; allowed = b };
+          of-kind = rw y at k;
+          bare = rw y at z;
+          gone = rw o (drop-gone t whole q n);
+        }))
         (λ i. inl (drop-private t p d there v q n x e w s b z i)))
 
     mv-private : (a b : Path) → Ensures (λ o. Unaltered (c .account) t d p (shell (mv a b)) (o .state)) (run-mv c m t a b)
     unfolding run-mv reserved parent last
-    mv-private root b = after-check Reserved _ λ i. contra i refl
-    mv-private (q ▹ n) root = after-check Reserved _ λ i. contra i (ap not (or-true (reserved (q ▹ n))))
+    mv-private root b = then-check Reserved tt _ λ i. contra i refl
+    mv-private (q ▹ n) root = then-check Reserved tt _ λ i. contra i (ap not (or-true (reserved (q ▹ n))))
     mv-private (q ▹ n) (r ▹ k) =
-        after-check Reserved _ λ _.
-        after-do (walk (by-modes (c .account)) t (q ▹ n)) λ x w.
-        after-do (parent-walk (by-modes (c .account)) t (r ▹ k)) λ f s.
-        after-guard (unused k (f .below)) λ u.
-        after-do (walk (by-modes (c .account)) t q) λ e i.
-        after-check Access _ λ b.
-        after-check Access _ λ g.
-        after-check IntoItself _ λ o.
-        after-check TooDeep _ λ _.
+        then-check Reserved tt _ λ _.
+        then-do (walk (by-modes (c .account)) t (q ▹ n)) λ x w.
+        then-do (parent-walk (by-modes (c .account)) t (r ▹ k)) λ f s.
+        then-guard (any-outcome (unused k (f .below))) λ u.
+        then-do (walk (by-modes (c .account)) t q) λ e i.
+        then-check Access tt _ λ b.
+        then-check Access tt _ λ g.
+        then-check IntoItself tt _ λ o.
+        then-check TooDeep tt _ λ _.
         let l = parent-walked (by-modes (c .account)) t (r ▹ k) s .0 in
         let h = walked-at t (by-modes (c .account)) r f l in
         let free = at-child t r k f h ∙ was-unused k (f .below) u in
         let off = not-true (within (q ▹ n) (r ▹ k)) o in
-        ensured (case (within (q ▹ n) p)
+        gives (case (within (q ▹ n) p)
         (λ y. moved-along (record { place = e; stands = walked-at t (by-modes (c .account)) q e i; allowed = b }) y (move-carries t p d q n x r f k there free off (walked-at t (by-modes (c .account)) (q ▹ n) x w) h y))
         (λ y. in-place (move-keeps t p d q n x r f k there free off (written-outside t p d there v q e i b) (written-outside t p d there v r f l g) y)))
 
     chmod-private : (q : Path) (mode : ℕ) → Ensures (λ o. place-at (o .state) p ≡ some d) (run-chmod c m t q mode)
     unfolding run-chmod
     chmod-private q mode =
-        after-do (walk (by-modes (c .account)) t q) λ e w.
-        after-check WrongKind _ λ _.
-        after-check Reserved _ λ b.
-        ensured (alter-keeps t p d q (set-mode mode) there (private-outside t p d there v (owns (c .account)) (private-foreign v) q e w b))
+        then-do (walk (by-modes (c .account)) t q) λ e w.
+        then-check WrongKind tt _ λ _.
+        then-check Reserved tt _ λ b.
+        gives (alter-keeps t p d q (set-mode mode) there (private-outside t p d there v (owns (c .account)) (private-foreign v) q e w b))
 
     chgrp-private : (q : Path) (group : Gid) → Ensures (λ o. place-at (o .state) p ≡ some d) (run-chgrp c m t q group)
     unfolding run-chgrp
     chgrp-private q group =
-        after-do (walk (by-modes (c .account)) t q) λ e w.
-        after-check Reserved _ λ b.
-        ensured (alter-keeps t p d q (set-group group) there (private-outside t p d there v
+        then-do (walk (by-modes (c .account)) t q) λ e w.
+        then-check Reserved tt _ λ b.
+        gives (alter-keeps t p d q (set-group group) there (private-outside t p d there v
         (λ n. is-root (c .account .uid) || (same-uid (c .account .uid) (n .owner) && member group (c .account .groups))) (rw (v .not-root, v .foreign)) q e w b))
 
     chown-private : (q : Path) (owner : Uid) → Ensures (λ o. place-at (o .state) p ≡ some d) (run-chown c m t q owner)
     unfolding run-chown
     chown-private q owner =
-        after-do (walk (by-modes (c .account)) t q) λ e w.
-        after-check Reserved _ λ b. contra b (v .not-root)
+        then-do (walk (by-modes (c .account)) t q) λ e w.
+        then-check Reserved tt _ λ b. contra b (v .not-root)
 
     -- every shell command leaves the directory unaltered
-    pub run-shell-private : (command : Shell-command) → Ensures (λ o. Unaltered (c .account) t d p (shell command) (o .state)) (run-shell c m t command)
+    pub run-shell-private : (command : Shell-command)
+        → Ensures (λ o. Unaltered (c .account) t d p (shell command) (o .state)) (run-shell c m t command)
     unfolding run-shell
-    run-shell-private (create q mode) = ensured-so (λ o. in-place) (create-private File q mode)
-    run-shell-private (mkdir q mode) = ensured-so (λ o. in-place) (create-private Directory q mode)
-    run-shell-private (read q) = ensured-so (λ o. in-place) (read-private q)
-    run-shell-private (write q content) = ensured-so (λ o. in-place) (write-private q content)
-    run-shell-private (rm q) = ensured-so (λ o. ⊎-elim in-place (λ k. contra (k .2) (directory-not-file (d .here .kind) (v .directory)))) (rm-private File q)
-    run-shell-private (rmdir q) = ensured-so (λ o. ⊎-elim in-place (λ k. rw (k .0) (taken-out (rw (k .0) at (k .1)) (k .3) (k .4)))) (rm-private Directory q)
+    run-shell-private (create q mode) = weaker (λ o. in-place) (create-private File q mode)
+    run-shell-private (mkdir q mode) = weaker (λ o. in-place) (create-private Directory q mode)
+    run-shell-private (read q) = weaker (λ o. in-place) (read-private q)
+    run-shell-private (write q content) = weaker (λ o. in-place) (write-private q content)
+    run-shell-private (rm q) = weaker (λ o. ⊎-elim in-place (λ k. contra (k .of-kind) (directory-not-file (d .here .kind) (v .directory)))) (rm-private File q)
+    run-shell-private (rmdir q) = weaker (λ o. ⊎-elim in-place (λ k. rw (k .itself) (taken-out (rw (k .itself) at (k .writes)) (k .bare) (k .gone)))) (rm-private Directory q)
     run-shell-private (mv a b) = mv-private a b
-    run-shell-private (chmod q mode) = ensured-so (λ o. in-place) (chmod-private q mode)
-    run-shell-private (chgrp q group) = ensured-so (λ o. in-place) (chgrp-private q group)
-    run-shell-private (chown q owner) = ensured-so (λ o. in-place) (chown-private q owner)
+    run-shell-private (chmod q mode) = weaker (λ o. in-place) (chmod-private q mode)
+    run-shell-private (chgrp q group) = weaker (λ o. in-place) (chgrp-private q group)
+    run-shell-private (chown q owner) = weaker (λ o. in-place) (chown-private q owner)

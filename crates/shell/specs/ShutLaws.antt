@@ -16,7 +16,7 @@ use Rattle.tree.specs.Result.{Result, done, _>>=_}
 use Rattle.tree.specs.Forest.{Place, place-at}
 use Rattle.tree.specs.Node.{Node, allows}
 use Rattle.tree.specs.Walk.{by-modes, enter, walk, parent-walk}
-use Rattle.tree.specs.Agree.{Ensures, after-do, after-facts, after-check}
+use Rattle.tree.specs.Gives.{Ensures, then-step, then-check, then-do}
 use Rattle.tree.specs.JudgeLaws.{passes-by-modes}
 use Rattle.tree.specs.StepLaws.{entered, walked, parent-walked}
 use Rattle.tree.specs.PathLaws.{walk-outside}
@@ -24,7 +24,8 @@ use Rattle.shell.specs.Steps.{room, run-create, run-read, run-write, run
 
 module _ (c : Caller) (t : Place Node) (p : Path) (d : Place Node) (there : place-at t p ≡ some d) (shut : allows (c .account) X (d .here) ≡ false) where
   -- a directory that the caller enters is neither that at p nor below it
-  not-entered : (q : Path) (e : Place Node) → walk (by-modes (c .account)) t q ≡ done e → enter (by-modes (c .account)) (e .here) ≡ done tt → within p q ≡ false
+  not-entered : (q : Path) (e : Place Node) → walk (by-modes (c .account)) t q ≡ done e
+      → enter (by-modes (c .account)) (e .here) ≡ done tt → within p q ≡ false
   not-entered q e w i =
       let j = by-modes (c .account) in
       let s = passes-by-modes (c .account) (d .here) ∙ shut in
@@ -46,32 +47,34 @@ module _ (c : Caller) (t : Place Node) (p : Path) (d : Place Node) (there : plac
       contra (below-parent p q n b) (not-entered q e (i .0) (i .1))
 
   -- so a step after such a walk is never taken
-  pub never-walked : {A : Type 0} (k : Place Node → Result A) (q : Path) → lies-below p q ≡ true → Ensures (λ _. ⊥) (walk (by-modes (c .account)) t q >>= k)
-  never-walked k q b = after-do (walk (by-modes (c .account)) t q) λ e w. absurd (no-walk q b e w)
+  pub never-walked : {A : Type 0} (k : Place Node → Result A) (q : Path) → lies-below p q ≡ true
+      → Ensures (λ _. ⊥) (walk (by-modes (c .account)) t q >>= k)
+  never-walked k q b = then-do (walk (by-modes (c .account)) t q) λ e w. absurd (no-walk q b e w)
 
   -- nor one after such a walk to the parent
-  never-parent-walked : {A : Type 0} (k : Place Node → Result A) (q : Path) → lies-below p q ≡ true → Ensures (λ _. ⊥) (parent-walk (by-modes (c .account)) t q >>= k)
-  never-parent-walked k q b = after-do (parent-walk (by-modes (c .account)) t q) λ e w. absurd (no-parent-walk q b e w)
+  never-parent-walked : {A : Type 0} (k : Place Node → Result A) (q : Path) → lies-below p q ≡ true
+      → Ensures (λ _. ⊥) (parent-walk (by-modes (c .account)) t q >>= k)
+  never-parent-walked k q b = then-do (parent-walk (by-modes (c .account)) t q) λ e w. absurd (no-parent-walk q b e w)
 
   module _ (m : ℕ) where
     -- no room for a new node is found there
     pub never-room : (q : Path) → lies-below p q ≡ true → Ensures (λ _. ⊥) (room c m t q)
     unfolding room
-    never-room q b = after-check Exists _ λ _. never-parent-walked _ q b
+    never-room q b = then-check Exists tt _ λ _. never-parent-walked _ q b
 
     never-made : (kind : Kind) (q : Path) (mode : ℕ) → lies-below p q ≡ true → Ensures (λ _. ⊥) (run-create c m t kind q mode)
     unfolding run-create
-    never-made kind q mode b = after-facts (never-room q b) λ e z. absurd z
+    never-made kind q mode b = then-step (never-room q b) λ e z. absurd z
 
     never-removed : (kind : Kind) (q : Path) → lies-below p q ≡ true → Ensures (λ _. ⊥) (run-rm c m t kind q)
     unfolding run-rm
-    never-removed kind q b = after-check Reserved _ λ _. never-walked _ q b
+    never-removed kind q b = then-check Reserved tt _ λ _. never-walked _ q b
 
     never-moved : (q r : Path) → (lies-below p q || lies-below p r) ≡ true → Ensures (λ _. ⊥) (run-mv c m t q r)
     unfolding run-mv
-    never-moved q r b = after-check Reserved _ λ _. case (lies-below p q)
+    never-moved q r b = then-check Reserved tt _ λ _. case (lies-below p q)
         (λ i. never-walked _ q i)
-        (λ i. after-do (walk (by-modes (c .account)) t q) λ _ _. never-parent-walked _ r (rw i at b))
+        (λ i. then-do (walk (by-modes (c .account)) t q) λ _ _. never-parent-walked _ r (rw i at b))
 
     -- a shell command with a path below p is never done
     pub never-run : (command : Shell-command) → some-path (lies-below p) command ≡ true → Ensures (λ _. ⊥) (run-shell c m t command)

@@ -23,7 +23,6 @@ use Rattle.syntax.specs.Field.{bounded, bounded-by}
 use Rattle.syntax.specs.Form.{is-some}
 use Rattle.setup.specs.Setup.{Person, Grant, Setup, accounts, most-pairs, most-grants, person, is-person, is-slot, is-pair, is-grant, is-setup}
 use Rattle.setup.specs.SetupLaws.{apart}
-use Rattle.tree.specs.Layout.{name-width}
 use Rattle.store.specs.State.{Sessions}
 use Rattle.store.specs.StoreBytes.{header-width, slot-bytes, slot-of, session-byte, session-of, pair-bytes, pair-of, grant-bytes, grant-of, header-bytes, setup-of, sessions-of}
 
@@ -83,13 +82,13 @@ grant-password u g h =
 
 length-grant : (u : Setup) (g : Grant) → is-grant u g ≡ true → length (grant-bytes g) ≡ 10
 unfolding grant-bytes
-length-grant u g h = rw (length-padded name-width (g .password) (grant-password u g h .0))
+length-grant u g h = rw (length-padded 8 (g .password) (grant-password u g h .0))
 
 grant-back : (u : Setup) (g : Grant) → is-grant u g ≡ true → grant-of (grant-bytes g) ≡ g
 unfolding grant-bytes grant-of
 grant-back u g h =
     let f = grant-password u g h in
-    let t : text-at 2 8 (g .uid .0 ∷ g .role .0 ∷ padded name-width (g .password)) ≡ g .password =
+    let t : text-at 2 8 (g .uid .0 ∷ g .role .0 ∷ padded 8 (g .password)) ≡ g .password =
     rw append-nil at (text-at-padded (g .uid .0 ∷ g .role .0 ∷ []) [] 2 8 (g .password) refl (f .0) (f .1)) in
     λ i. record { uid = g .uid; role = g .role; password = t i }
 

@@ -28,10 +28,10 @@ use Rattle.tree.specs.UpdateLaws.{leaf-height}
 use Rattle.tree.specs.NodeLaws.{plain-node}
 use Rattle.tree.specs.WellFormedLaws.{leaf-place, leaf-tree}
 use Rattle.tree.specs.ChangeLaws.{keep-insert}
-use Rattle.store.specs.State.{well-formed}
+use Rattle.store.specs.State.{state-of, well-formed}
 use Rattle.store.specs.StateLaws.{formed}
 use Rattle.store.specs.PersonLaws.{person-in-range}
-use Rattle.store.specs.Initial.{directory-of, top-node, rep-node, home-node, home-name, with-home, homes, topped, initial-tree, initial-store, no-sessions}
+use Rattle.store.specs.Initial.{directory-of, top-node, rep-node, home-node, home-name, with-home, homes, topped, initial-tree, no-sessions, initial-store}
 use Rattle.store.specs.InitialRows.{Open}
 
 -- whether a name is neither `rep` nor the home of an account below k
@@ -79,7 +79,8 @@ pub rep-alone : insert rep (leaf rep-node) nil ≡ node rep rep-node nil nil
 rep-alone = insert-nil rep (leaf rep-node) ∙ rw (leaf-here rep-node, leaf-below rep-node)
 
 -- a name apart from a home's is not used by the home
-unused-home : (n : Name) (v : Uid) (p : Option Person) (F : Forest Node) → same-text n (home-name v) ≡ false → get n F ≡ none → get n (with-home v p F) ≡ none
+unused-home : (n : Name) (v : Uid) (p : Option Person) (F : Forest Node) → same-text n (home-name v) ≡ false
+    → get n F ≡ none → get n (with-home v p F) ≡ none
 unfolding with-home
 unused-home n v none F d h = h
 unused-home n v (some p) F d h = get-insert-other (home-name v) (leaf (home-node v p)) n d F ∙ h
@@ -102,7 +103,8 @@ abbrev Begun : ℕ → Forest Node → Type 0
 Begun k F = (is-tree (topped F) ≡ true) × (size F ≤ k)
 
 -- one more directory in it
-begun-with : (k : ℕ) (n : Name) (x : Node) (F : Forest Node) → k < 255 → is-name n ≡ true → get n F ≡ none → is-node x ≡ true → Begun k F → Begun (suc k) (insert n (leaf x) F)
+begun-with : (k : ℕ) (n : Name) (x : Node) (F : Forest Node) → k < 255 → is-name n ≡ true → get n F ≡ none
+    → is-node x ≡ true → Begun k F → Begun (suc k) (insert n (leaf x) F)
 begun-with k n x F b a free w h =
     let t : Place Node = topped F in (
       keep-insert t n (leaf x) (h .0) free a (leaf-place x w) (omega (arith, leaf-height x)) (omega (arith, nodes-below t, leaf-size x, h .1)),
@@ -190,6 +192,6 @@ unfolding initial-tree
 initial-by-persons u v e = ap topped (homes-by-persons u v e accounts)
 
 -- the initial store is well-formed
-pub initial-well-formed : (u : Setup) → is-setup u ≡ true → well-formed (record { setup = u; store = initial-store u }) ≡ true
+pub initial-well-formed : (u : Setup) → is-setup u ≡ true → well-formed (state-of u (initial-store u)) ≡ true
 unfolding initial-store no-sessions accounts
 initial-well-formed u g = formed u g (initial-store u) refl (initial-is-tree u g)

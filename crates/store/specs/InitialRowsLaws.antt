@@ -26,7 +26,6 @@ use Rattle.setup.specs.Reader.{slot-value}
 use Rattle.setup.specs.ReaderLaws.{no-slot}
 use Rattle.tree.specs.declared.Child.{Child}
 use Rattle.tree.specs.declared.Child.the-variants.{Found, Missing}
-use Rattle.tree.specs.Layout.{tree-width}
 use Rattle.tree.specs.Forest.{Forest, nil, Place, insert, put, leaf, size}
 use Rattle.tree.specs.Node.{Node}
 use Rattle.tree.specs.Rows.{rows}
@@ -35,6 +34,7 @@ use Rattle.tree.specs.RowContext.{index-of, around}
 use Rattle.tree.specs.RowEdits.{lesser, before, after, length-before, put-rows}
 use Rattle.tree.specs.RowScan.{index-bound}
 use Rattle.tree.specs.RowAt.{row-count, all-rows, child-at}
+use Rattle.tree.specs.TreeBytes.{Wide}
 use Rattle.tree.specs.RowAtLaws.{row-count-of-tree}
 use Rattle.tree.specs.TreeAtLaws.{tree-sized, no-child-at-place}
 use Rattle.tree.specs.PlaceLaws.{nodes-below, put-here, put-below, update-root}
@@ -45,7 +45,7 @@ use Rattle.edits.specs.Changes.{rows-put, fresh-node}
 use Rattle.edits.specs.EditLaws.{child-law}
 use Rattle.store.specs.Initial.{directory-of, top-node, rep-node, home-node, home-name, with-home, homes, topped, initial-tree}
 use Rattle.store.specs.InitialRows.{slot-in-range, Opens}
-use Rattle.store.specs.InitialLaws.{Primaries, setup-primaries, top-alone, rep-open, rep-alone, home-open, initial-by-persons}
+use Rattle.store.specs.InitialLaws.{top-alone, rep-alone, Primaries, setup-primaries, rep-open, home-open, initial-by-persons}
 
 -- a name may be given in other words
 pub opens-named : {b : List ℕ} {n m : Name} {t : Place Node} → n ≡ m → Opens b m t → Opens b n t
@@ -71,7 +71,7 @@ spot-is n t = omega (arith, index-top t)
 
 module _ (b : List ℕ) (n : Name) (t : Place Node) (h : Opens b n t) where
   -- how many bytes and rows there are
-  pub opens-sized : (length b ≡ tree-width) × (0 < row-count b) × (row-count b < 256)
+  pub opens-sized : (Wide b) × (0 < row-count b) × (row-count b < 256)
   opens-sized =
       let s = tree-sized t (h .ready .sound) in
       rw (h .encoded) (s .wide, s .some-rows, omega (arith, row-count-of-tree t (h .ready .sound), length-rows t, h .ready .room))
@@ -104,7 +104,8 @@ module _ (b : List ℕ) (n : Name) (t : Place Node) (h : Opens b n t) where
         omega (arith, found-spot, spot-is n t, length-before c n, length-append xs ys)
 
     -- and the row put in there is the directory put in
-    pub directory-put : (f : Fresh) → rows-put b j 1 (row-bytes (record { depth = 1; name = n; here = fresh-node f })) ≡ encode-tree (put n (leaf (fresh-node f)) t)
+    pub directory-put : (f : Fresh)
+        → rows-put b j 1 (row-bytes (record { depth = 1; name = n; here = fresh-node f })) ≡ encode-tree (put n (leaf (fresh-node f)) t)
     unfolding depth
     directory-put f =
         let r = row-bytes (record { depth = 1; name = n; here = fresh-node f }) in
@@ -189,7 +190,8 @@ module _ (ps : List Slot) where
   slot-person u v e = ap (λ (l : List (Option Person)). getD l (v .0) none) e ∙ List·getD-map slot-value ps (v .0) no-slot
 
   -- with the home of account k there are the homes of one account more
-  pub turn-home : (k : ℕ) → topped (with-home (record { 0 = k }) (slot-value (getD ps k no-slot)) (homes of-slots k)) ≡ topped (homes of-slots (k + 1))
+  pub turn-home : (k : ℕ)
+      → topped (with-home (record { 0 = k }) (slot-value (getD ps k no-slot)) (homes of-slots k)) ≡ topped (homes of-slots (k + 1))
   unfolding homes
   turn-home k =
       let v : Uid = record { 0 = k } in
@@ -214,10 +216,12 @@ module _ (ps : List Slot) where
         rw q at (ltb-true (s .primary .0) 16 (every-getD slot-in-range ps (v .0) no-slot fit refl))
 
     -- the home of account k may be put in
-    pub turn-opens : (b : List ℕ) (k : ℕ) → k < 16 → b ≡ encode-tree (topped (homes of-slots k)) → Opens b (home-name (record { 0 = k })) (topped (homes of-slots k))
+    pub turn-opens : (b : List ℕ) (k : ℕ) → k < 16 → b ≡ encode-tree (topped (homes of-slots k))
+        → Opens b (home-name (record { 0 = k })) (topped (homes of-slots k))
     turn-opens b k h e = record { encoded = e; ready = home-open of-slots slots-primaries k h }
 
 -- behind the last account the tree is the initial tree of every setup with the same persons
-pub turned-all : (u v : Setup) (b : List ℕ) (k : ℕ) → k ≡ 16 → b ≡ encode-tree (topped (homes u k)) → v .persons ≡ u .persons → b ≡ encode-tree (initial-tree v)
+pub turned-all : (u v : Setup) (b : List ℕ) (k : ℕ) → k ≡ 16 → b ≡ encode-tree (topped (homes u k))
+    → v .persons ≡ u .persons → b ≡ encode-tree (initial-tree v)
 unfolding initial-tree accounts
 turned-all u v b k q e s = e ∙ ap (λ (m : ℕ). encode-tree (topped (homes u m))) q ∙ ap encode-tree (initial-by-persons u v (sym s))

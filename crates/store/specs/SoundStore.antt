@@ -7,8 +7,8 @@ use mathlib.Core.Path.{_≡_}
 use mathlib.Core.List.{List}
 use Prim.Native.Nat.{ℕ}
 use lib.ListN.{length}
-use Rattle.tree.specs.SoundTree.{Sound-tree}
 use Rattle.setup.specs.SoundSetup.{Sound-setup}
+use Rattle.tree.specs.SoundTree.{Sound-tree}
 use Rattle.store.specs.State.{State}
 use Rattle.store.specs.StoreBytes.{encode}
 

@@ -8,9 +8,9 @@ use borrow.Author.Tests.{eq-eqb}
 use lib.ListN.{length}
 use Rattle.syntax.specs.FormLaws.{both}
 use Rattle.setup.specs.Setup.{accounts}
+use Rattle.setup.specs.SoundSetupLaws.{setup-is-sound, sound-is-setup}
 use Rattle.tree.specs.SoundTreeLaws.{tree-is-sound, sound-is-tree}
 use Rattle.tree.specs.UpdateLaws.{by-option}
-use Rattle.setup.specs.SoundSetupLaws.{setup-is-sound, sound-is-setup}
 use Rattle.store.specs.State.{State, well-formed}
 use Rattle.store.specs.StateLaws.{parts}
 use Rattle.store.specs.StoreBytes.{store-width, decode}

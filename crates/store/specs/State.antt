@@ -14,6 +14,7 @@ use Rattle.tree.specs.WellFormed.{is-tree}
 abbrev pub Sessions : Type 0
 Sessions = List (Option Bounded-role)
 
+-- what commands change: the tree and the sessions
 pub record Store : Type 0 where
   pub tree : Place Node
   pub sessions : Sessions
@@ -22,6 +23,9 @@ pub record Store : Type 0 where
 pub record State : Type 0 where
   pub setup : Setup
   pub store : Store
+
+abbrev pub state-of : Setup → Store → State
+state-of u s = record { setup = u; store = s }
 
 -- well-formed (document 01's sound): every value of the setup in range, 16 sessions, a well-formed tree
 unfoldable pub well-formed : State → Bool

@@ -7,10 +7,11 @@ use borrow.Author.Tests.{eqb-true, eq-eqb}
 use Rattle.buffers.specs.Cases.{and-both}
 use Rattle.setup.specs.Setup.{Setup, accounts, is-setup}
 use Rattle.tree.specs.WellFormed.{is-tree}
-use Rattle.store.specs.State.{Store, State, well-formed}
+use Rattle.store.specs.State.{Store, State, state-of, well-formed}
 
 -- a well-formed state's setup, sessions and tree
-pub parts : (s : State) → well-formed s ≡ true → (is-setup (s .setup) ≡ true) × ((length (s .store .sessions) ≡ 16) × (is-tree (s .store .tree) ≡ true))
+pub parts : (s : State) → well-formed s ≡ true
+    → (is-setup (s .setup) ≡ true) × ((length (s .store .sessions) ≡ 16) × (is-tree (s .store .tree) ≡ true))
 unfolding well-formed accounts
 parts s h =
     let i = and-both (is-setup (s .setup)) (eqb (length (s .store .sessions)) 16 && is-tree (s .store .tree)) h in
@@ -18,6 +19,6 @@ parts s h =
     (i .0, (eqb-true (length (s .store .sessions)) 16 (j .0), j .1))
 
 -- a state with its parts well-formed is well-formed
-pub formed : (u : Setup) → is-setup u ≡ true → (s : Store) → length (s .sessions) ≡ 16 → is-tree (s .tree) ≡ true → well-formed (record { setup = u; store = s }) ≡ true
+pub formed : (u : Setup) → is-setup u ≡ true → (s : Store) → length (s .sessions) ≡ 16 → is-tree (s .tree) ≡ true → well-formed (state-of u s) ≡ true
 unfolding well-formed accounts
 formed u g s n t = rw (g, eq-eqb (length (s .sessions)) 16 n) t

@@ -23,7 +23,6 @@ use Rattle.accounts.specs.Dominance.{Bounded-role}
 use Rattle.syntax.specs.Form.{_>>=_, _>>_, check}
 use Rattle.syntax.specs.Field.{bounded}
 use Rattle.setup.specs.Setup.{Person, Grant, Setup, accounts, most-pairs, most-grants}
-use Rattle.tree.specs.Layout.{name-width}
 use Rattle.tree.specs.Encoding.{encode-tree, decode-tree}
 use Rattle.store.specs.State.{Sessions, State, well-formed}
 
@@ -55,7 +54,7 @@ unfoldable pub pair-of : List ℕ → Pair
 pair-of b = record { senior = record { 0 = getD b 0 0 }; junior = record { 0 = getD b 1 0 } }
 
 unfoldable pub grant-bytes : Grant → List ℕ
-grant-bytes g = g .uid .0 ∷ g .role .0 ∷ padded name-width (g .password)
+grant-bytes g = g .uid .0 ∷ g .role .0 ∷ padded 8 (g .password)
 
 unfoldable pub grant-of : List ℕ → Grant
 grant-of b = record { uid = record { 0 = getD b 0 0 }; role = record { 0 = getD b 1 0 }; password = text-at 2 8 b }

@@ -31,7 +31,8 @@ length-encode s h =
     length-append H (encode-tree (s .store .tree)) ∙ omega (arith, a, b, tree-width-is)
 
 -- what bytes are read as whose parts are known
-read-as : (b : List ℕ) (s : State) → decode-tree (drop header-width b) ≡ some (s .store .tree) → setup-of b ≡ s .setup → sessions-of b ≡ s .store .sessions →
+read-as : (b : List ℕ) (s : State) → decode-tree (drop header-width b) ≡ some (s .store .tree) →
+    setup-of b ≡ s .setup → sessions-of b ≡ s .store .sessions →
     decode b ≡ (check (well-formed s && same-text (encode s) b) >> some s)
 unfolding decode _>>=_
 read-as b s t u z = rw (t, u, z)

@@ -1,12 +1,9 @@
--- Two outcomes agree: the same refusal, or two related things done; one outcome ensures something: refused, or done with a
--- thing of which it holds. A proof about a command goes through its steps line by line.
+-- Two outcomes agree: the same refusal, or two related things done. A proof about a command goes through its steps line by line.
 use mathlib.Core.Path.{_≡_, refl}
 use mathlib.Core.Bool.{Bool, true, false}
 use Rattle.tree.specs.declared.Cause.{Cause}
 use Rattle.tree.specs.Result.{Result, refused, done, _>>=_, _>>_, require}
 use Rattle.tree.specs.ResultLaws.{not-done}
-
--- ---- two outcomes
 
 -- the same refusal, or two things done that are related by R
 pub data Agree {X Y : Type 0} (R : X → Y → Type 0) : Result X → Result Y → Type 0 where
@@ -60,49 +57,3 @@ module _ {C D : Type 0} {Q : C → D → Type 0} where
   -- a check that comes to the same on both sides
   pub guard : {v : Result C} {w : Result D} {a b : Result (Unit {0})} → a ≡ b → (a ≡ done tt → Agree Q v w) → Agree Q (a >> v) (b >> w)
   guard {a} e k = rw (← e) (guard-one a k)
-
--- ---- one outcome
-
--- refused, or done with something of which P holds
-pub data Ensures {X : Type 0} (P : X → Type 0) : Result X → Type 0 where
-  no-matter : (why : Cause) → Ensures P (refused why)
-  ensured : {x : X} → P x → Ensures P (done x)
-
--- what is done has what is ensured
-pub ensured-done : {X : Type 0} {P : X → Type 0} {x : X} → Ensures P (done x) → P x
-ensured-done (ensured h) = h
-
--- what follows is ensured too
-pub ensured-so : {X : Type 0} {P Q : X → Type 0} {r : Result X} → ((x : X) → P x → Q x) → Ensures P r → Ensures Q r
-ensured-so f (no-matter why) = no-matter why
-ensured-so f (ensured {x = x} h) = ensured (f x h)
-
--- what ensures the impossible is refused
-pub never-done : {X : Type 0} {r : Result X} → Ensures (λ _. ⊥) r → (why : Cause) × (r ≡ refused why)
-never-done (no-matter why) = (why, refl)
-never-done (ensured h) = absurd h
-
-module _ {Y : Type 0} {P : Y → Type 0} where
-  -- after a step that is done
-  pub after-do : {X : Type 0} {f : X → Result Y} (a : Result X) → ((x : X) → a ≡ done x → Ensures P (f x)) → Ensures P (a >>= f)
-  unfolding _>>=_
-  after-do (refused why) k = no-matter why
-  after-do (done x) k = k x refl
-
-  -- after a step that ensures something
-  pub after-facts : {X : Type 0} {Q : X → Type 0} {a : Result X} {f : X → Result Y} → Ensures Q a → ((x : X) → Q x → Ensures P (f x)) → Ensures P (a >>= f)
-  unfolding _>>=_
-  after-facts (no-matter why) k = no-matter why
-  after-facts (ensured {x = x} h) k = k x h
-
-  -- after a test that passes
-  pub after-check : {r : Result Y} (why : Cause) (b : Bool) → (b ≡ true → Ensures P r) → Ensures P (require b why >> r)
-  unfolding _>>_ require
-  after-check why true k = k refl
-  after-check why false k = no-matter why
-
-  -- after a check that is done
-  pub after-guard : {r : Result Y} (a : Result (Unit {0})) → (a ≡ done tt → Ensures P r) → Ensures P (a >> r)
-  unfolding _>>_
-  after-guard (refused why) k = no-matter why
-  after-guard (done u) k = k refl

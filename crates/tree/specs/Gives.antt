@@ -12,9 +12,23 @@ pub data Gives {X : Type 0} (R : Cause → Type 0) (P : X → Type 0) : Result X
   refuses : {why : Cause} → R why → Gives R P (refused why)
   gives : {x : X} → P x → Gives R P (done x)
 
+-- refused for whatever cause, or done with something of which P holds
+abbrev pub Ensures : {X : Type 0} → (X → Type 0) → Result X → Type 0
+Ensures P a = Gives (λ _. Unit {0}) P a
+
 -- refused by a cause of which R holds, or done
 abbrev pub Refuses : {X : Type 0} → (Cause → Type 0) → Result X → Type 0
 Refuses R a = Gives R (λ x. a ≡ done x) a
+
+-- every outcome is one of the two
+pub any-outcome : {X : Type 0} (a : Result X) → Refuses (λ _. Unit {0}) a
+any-outcome (refused why) = refuses tt
+any-outcome (done x) = gives refl
+
+-- what ensures the impossible is refused
+pub never-done : {X : Type 0} {a : Result X} → Ensures (λ _. ⊥) a → (why : Cause) × (a ≡ refused why)
+never-done (refuses {why = why} r) = (why, refl)
+never-done (gives h) = absurd h
 
 module _ {R : Cause → Type 0} where
   -- of the cause of a refusal R holds
@@ -73,3 +87,8 @@ module _ {R : Cause → Type 0} where
     unfolding _>>_
     then-guard (refuses r) k = refuses r
     then-guard (gives e) k = k e
+
+-- after a step of which nothing is known
+pub then-do : {X Y : Type 0} {P : Y → Type 0} {f : X → Result Y} (a : Result X)
+    → ((x : X) → a ≡ done x → Ensures P (f x)) → Ensures P (a >>= f)
+then-do a k = then-step (any-outcome a) k

@@ -6,8 +6,8 @@ use native.Mathlib.Omega.{arith}
 use lib.ListN.{length}
 use Rattle.setup.specs.declared.Person.{Person as Slot}
 use Rattle.setup.specs.Reader.{slot-value}
-use Rattle.tree.specs.Layout.{tree-width}
 use Rattle.tree.specs.Encoding.{encode-tree}
+use Rattle.tree.specs.TreeBytes.{Wide}
 use Rattle.store.specs.Initial.{homes, topped}
 use Rattle.store.specs.InitialRowsLaws.{with-persons, turn-opens, turn-home, turned-all}
 use borrow.Author.Needs.{needs}
@@ -17,7 +17,7 @@ use Rattle.store.proofs.initial.write_initial.Tie as tie
 -- before the turn of account k
 record Turned (persons : List Slot) (b : List ℕ) (k : ℕ) : Type 0 where
   le : k ≤ 16
-  wide : length b ≡ tree-width
+  wide : Wide b
   encoded : b ≡ encode-tree (topped (homes (with-persons (map slot-value persons)) k))
 
 abbrev Inv-loop : tie.InvT-loop
