@@ -11,23 +11,22 @@ use lib.ListN.{length, getElem?, drop, length-append, length-drop}
 use Rattle.buffers.specs.Cases.{and-both, contra}
 use Rattle.buffers.specs.Text.{Text, every}
 use Rattle.syntax.specs.FormLaws.{answered, no-answer}
-use Rattle.tree.specs.declared.Cause.the-variants.{Missing, Unsound, ShortAnswer}
+use Rattle.tree.specs.declared.Cause.the-variants.{Missing}
 use Rattle.tree.specs.Result.{Result, refused, done, present, Outcome}
 use Rattle.tree.specs.ResultLaws.{present-some}
-use Rattle.tree.specs.Gives.{gives, Ensures, done-with, then-check, then-do}
+use Rattle.tree.specs.Gives.{gives, Ensures, done-with, then-do}
 use Rattle.shell.specs.Steps.{longest-text}
 use Rattle.store.specs.State.{state-of}
 use Rattle.store.specs.StateLaws.{parts}
-use Rattle.store.specs.StoreBytes.{decode}
 use Rattle.store.specs.StoreBytesLaws.{length-encode, encode-decode, decode-length}
 use Rattle.machine.specs.StoreMachine.{store}
 use Rattle.machine.specs.Runs.{Reply, ok, refusal, reply, after, perform}
-use Rattle.machine.specs.RunsLaws.{least-room-is}
 use Rattle.machine.specs.MachineAnswerLaws.{perform-fits}
 use Rattle.machine.specs.MachineKeepingLaws.{perform-keeps}
 use Rattle.calls.specs.Listing.{longest-listing-line, listing}
 use Rattle.calls.specs.ListingLaws.{lines-fit}
-use Rattle.calls.specs.Calls.{written, called, encoded, run-result, run-call, listing-result, listing-call}
+use Rattle.calls.specs.Calls.{written, called, encoded, line-on, run-result, run-call, listing-on, listing-result, listing-call}
+use Rattle.calls.specs.CallsLaws.{on-state-ensures}
 
 -- ---- buffers
 
@@ -64,18 +63,15 @@ bounded-called b answer most (done o) h =
 -- ---- run
 
 run-bounded : (b : List ℕ) (line : Text) (room : ℕ) → Ensures (Bounded b room longest-text) (run-result b line room)
-unfolding run-result longest-text encoded
-run-bounded b line room =
-    then-check ShortAnswer tt _ λ l.
-    then-do (present (decode b) Unsound) λ s e.
-    let d = present-some (decode b) Unsound e in
+unfolding run-result line-on longest-text encoded
+run-bounded b line room = on-state-ensures (line-on line) b room λ s d l.
     let w = encode-decode b s d .1 in
     let p = parts s w in
     then-do (perform store (s .setup) (s .store) line) λ o i.
     gives (record {
       stays = length-encode (state-of (s .setup) (o .state)) (done-with (perform-keeps (s .setup) (p .0) (s .store) w line) i) ∙ sym (decode-length b s d);
       short = perform-fits (s .setup) (s .store) (p .1 .1) line o i;
-      roomy = omega (arith, leb-true 4096 room (rw least-room-is at l));
+      roomy = omega (arith, l);
     })
 
 -- the text of a done call has at most 2294 bytes
@@ -100,15 +96,13 @@ every-found f (a ∷ l) zero t h e = ap f (answered e) ∙ and-both (f a) (every
 every-found f (a ∷ l) (suc n) t h e = every-found f l n t (and-both (f a) (every f l) h .1) e
 
 listing-bounded : (b : List ℕ) (n room : ℕ) → Ensures (Bounded b room longest-listing-line) (listing-result b n room)
-unfolding listing-result longest-listing-line
-listing-bounded b n room =
-    then-check ShortAnswer tt _ λ l.
-    then-do (present (decode b) Unsound) λ s e.
-    let w = encode-decode b s (present-some (decode b) Unsound e) .1 in
-    then-do (present (getElem? (listing (s .store .tree)) n) Missing) λ t i.
-    let f = every-found (λ x. leb (length x) longest-listing-line) (listing (s .store .tree)) n t (lines-fit (s .store .tree) (parts s w .1 .1))
-    (present-some (getElem? (listing (s .store .tree)) n) Missing i) in
-    gives (record { stays = refl; short = λ x e. let q : x ≡ t = cc in rw q (leb-true (length t) 192 f); roomy = omega (arith, leb-true 4096 room (rw least-room-is at l)) })
+unfolding listing-result listing-on longest-listing-line
+listing-bounded b n room = on-state-ensures (listing-on b n) b room λ s d l.
+    let lines = listing (s .store .tree) in
+    then-do (present (getElem? lines n) Missing) λ t i.
+    let f = every-found (λ x. leb (length x) longest-listing-line) lines n t (lines-fit (s .store .tree) (parts s (encode-decode b s d .1) .1 .1))
+    (present-some (getElem? lines n) Missing i) in
+    gives (record { stays = refl; short = λ x e. let q : x ≡ t = cc in rw q (leb-true (length t) 192 f); roomy = omega (arith, l) })
 
 -- a line has at most 192 bytes
 pub listing-text-fits : (b : List ℕ) (n room : ℕ) (o : Outcome (List ℕ)) → listing-result b n room ≡ done o

@@ -30,8 +30,8 @@ use Rattle.machine.specs.Observed.{without-root}
 use Rattle.machine.specs.MachineKeepingLaws.{step-keeps, runs-keep}
 use Rattle.machine.specs.ComparedLaws.{compared-lists}
 use Rattle.calls.specs.declared.Answer.the-variants.{Done, Refused, WrongLine}
-use Rattle.calls.specs.Calls.{Told, told, answer-of, written, set-up, setup-call, Called, called, encoded, run-result, run-call}
-use Rattle.calls.specs.CallsLaws.{run-on-encoding}
+use Rattle.calls.specs.Calls.{Told, told, answer-of, written, set-up, setup-call, Called, called, encoded, line-on, run-result, run-call}
+use Rattle.calls.specs.CallsLaws.{on-encoding}
 use Rattle.calls.specs.CallLists.{Request, run-calls, call-for, rootless, response, responses-to, all-sound, Calls-compared}
 
 -- ---- one call
@@ -39,8 +39,10 @@ use Rattle.calls.specs.CallLists.{Request, run-calls, call-for, rootless
 -- a call on bytes is the machine's step, with the state after it as bytes
 run-is-step : (u : Setup) (s : Store) → well-formed (state-of u s) ≡ true → (q : Request)
     → run-result (encode (state-of u s)) (q .line) (length (q .answer)) ≡ (step store u s (call-for q) >>= λ o. done (encoded u o))
-unfolding step call-for
-run-is-step u s h q = run-on-encoding (state-of u s) h (q .line) (length (q .answer)) ∙ sym (then-bind (require (leb least-room (length (q .answer))) ShortAnswer) (perform store u s (q .line)) (λ o. done (encoded u o)))
+unfolding run-result line-on step call-for
+run-is-step u s h q =
+    on-encoding (line-on (q .line)) (state-of u s) h (length (q .answer))
+    ∙ sym (then-bind (require (leb least-room (length (q .answer))) ShortAnswer) (perform store u s (q .line)) (λ o. done (encoded u o)))
 
 -- what such a call tells and leaves
 abbrev pub step-called : Setup → Store → List ℕ → Result (Outcome Store) → Called

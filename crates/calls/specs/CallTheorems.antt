@@ -20,7 +20,7 @@ use Rattle.store.specs.SoundStoreLaws
 use Rattle.calls.specs.declared.Answer.the-variants.{Done, Refused}
 use Rattle.calls.specs.Listing.{listing}
 use Rattle.calls.specs.Transcript.{transcript}
-use Rattle.calls.specs.Calls.{told, setup-call, only-tells, run-result, run-call, listing-result, listing-call}
+use Rattle.calls.specs.Calls.{told, setup-call, only-tells, line-on, run-result, run-call, listing-on, listing-result, listing-call}
 use Rattle.calls.specs.CallsLaws
 use Rattle.calls.specs.CallBoundsLaws
 use Rattle.calls.specs.CallLists.{Request, run-calls, rootless, Calls-compared}
@@ -59,21 +59,25 @@ program-is-transcript = ProgramLaws.program-is-transcript
 -- Before a command: 20 where the answer buffer has less than 4,096 bytes,
 pub short-answer-is-20 : (b : List ℕ) (line : Text) (answer : List ℕ) → length answer < 4096 →
     run-call b line answer ≡ only-tells 20 b answer
-short-answer-is-20 = CallsLaws.short-answer-is-20
+unfolding run-call run-result
+short-answer-is-20 b line = CallsLaws.short-is-20 (line-on line) b
 
 -- then 18 where the store's bytes are not sound.
 pub unsound-is-18 : (b : List ℕ) → (Sound b → ⊥) → (line : Text) (answer : List ℕ) → 4096 ≤ length answer →
     run-call b line answer ≡ only-tells 18 b answer
-unsound-is-18 b h line answer l = CallsLaws.unsound-is-18 b (SoundStoreLaws.unsound-is-none b h) line answer l
+unfolding run-call run-result
+unsound-is-18 b h line = CallsLaws.unsound-is-18 (line-on line) b (SoundStoreLaws.unsound-is-none b h)
 
 -- A listing likewise: 20, then 18, then 3 past the last line; none changes a byte.
 pub listing-short-answer-is-20 : (b : List ℕ) (n : ℕ) (answer : List ℕ) → length answer < 4096 →
     listing-call b n answer ≡ only-tells 20 b answer
-listing-short-answer-is-20 = CallsLaws.short-answer-lists-20
+unfolding listing-call listing-result
+listing-short-answer-is-20 b n = CallsLaws.short-is-20 (listing-on b n) b
 
 pub listing-unsound-is-18 : (b : List ℕ) → (Sound b → ⊥) → (n : ℕ) (answer : List ℕ) → 4096 ≤ length answer →
     listing-call b n answer ≡ only-tells 18 b answer
-listing-unsound-is-18 b h n answer l = CallsLaws.unsound-lists-18 b (SoundStoreLaws.unsound-is-none b h) n answer l
+unfolding listing-call listing-result
+listing-unsound-is-18 b h n = CallsLaws.unsound-is-18 (listing-on b n) b (SoundStoreLaws.unsound-is-none b h)
 
 pub listing-past-the-end-is-3 : (s : State) → well-formed s ≡ true → (n : ℕ) (answer : List ℕ) →
     4096 ≤ length answer → getElem? (listing (s .store .tree)) n ≡ none →
@@ -87,7 +91,8 @@ listing-changes-no-store = CallsLaws.listing-changes-no-store
 -- and a refused call changes nothing: neither the store's bytes nor the answer buffer's.
 pub refused-changes-nothing : (b : List ℕ) (line : Text) (answer : List ℕ) (why : Cause) → run-result b line (length answer) ≡ refused why →
     run-call b line answer ≡ record { tells = told (Refused why); store = b; answer = answer }
-refused-changes-nothing = CallsLaws.refused-changes-nothing
+unfolding run-call
+refused-changes-nothing b line answer why = CallsLaws.refused-changes-nothing b answer
 
 -- Texts fit. A done command's text has at most 2294 bytes,
 pub text-fits : (b : List ℕ) (line : Text) (room : ℕ) (o : Outcome (List ℕ)) → run-result b line room ≡ done o →

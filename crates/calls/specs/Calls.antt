@@ -10,7 +10,7 @@ use Rattle.setup.specs.Setup.{Setup, Setup-answer, accepted, wrong-line, setup}
 use Rattle.tree.specs.declared.Cause.the-variants.{Missing, Unsound, ShortAnswer}
 use Rattle.tree.specs.Causes.{number, wrong-setup}
 use Rattle.tree.specs.Result.{Result, done, _>>=_, _>>_, require, present, Outcome}
-use Rattle.store.specs.State.{Store, state-of}
+use Rattle.store.specs.State.{Store, State, state-of}
 use Rattle.store.specs.Initial.{initial-store}
 use Rattle.store.specs.StoreBytes.{store-width, encode, decode}
 use Rattle.machine.specs.StoreMachine.{store}
@@ -81,24 +81,33 @@ called b answer r = record { tells = told (answer-of (reply r)); store = after b
 unfoldable pub encoded : Setup → Outcome Store → Outcome (List ℕ)
 encoded setup o = record { text = o .text; state = encode (state-of setup (o .state)) }
 
--- run: 20, 18, 1, 2, then the command
-unfoldable pub run-result : List ℕ → Text → ℕ → Result (Outcome (List ℕ))
-run-result b line room = do
+-- what is done on the state that the bytes hold: before it 20, 18
+unfoldable pub on-state : List ℕ → ℕ → (State → Result (Outcome (List ℕ))) → Result (Outcome (List ℕ))
+on-state b room act = do
   require (leb least-room room) ShortAnswer
   s ← present (decode b) Unsound
+  act s
+
+-- a command line on a state: 1, 2, then the command
+unfoldable pub line-on : Text → State → Result (Outcome (List ℕ))
+line-on line s = do
   o ← perform store (s .setup) (s .store) line
   done (encoded (s .setup) o)
+
+unfoldable pub run-result : List ℕ → Text → ℕ → Result (Outcome (List ℕ))
+run-result b line room = on-state b room (line-on line)
 
 unfoldable pub run-call : List ℕ → Text → List ℕ → Called
 run-call b line answer = called b answer (run-result b line (length answer))
 
--- listing: 20, 18, then 3 past the last line; no store is changed
-unfoldable pub listing-result : List ℕ → ℕ → ℕ → Result (Outcome (List ℕ))
-listing-result b n room = do
-  require (leb least-room room) ShortAnswer
-  s ← present (decode b) Unsound
+-- a line of a state's listing: 3 past the last; the store's bytes stay
+unfoldable pub listing-on : List ℕ → ℕ → State → Result (Outcome (List ℕ))
+listing-on b n s = do
   t ← present (getElem? (listing (s .store .tree)) n) Missing
   done (record { text = some t; state = b })
+
+unfoldable pub listing-result : List ℕ → ℕ → ℕ → Result (Outcome (List ℕ))
+listing-result b n room = on-state b room (listing-on b n)
 
 unfoldable pub listing-call : List ℕ → ℕ → List ℕ → Called
 listing-call b n answer = called b answer (listing-result b n (length answer))

@@ -5,7 +5,7 @@ use Rattle.store.specs.Compute.{compute-bytes as compute-store-bytes}
 use Rattle.machine.specs.Compute.{compute as compute-machine}
 use Rattle.calls.specs.Listing.{kind-text, tag-fields, node-line, forest-lines, listing}
 use Rattle.calls.specs.Transcript.{after-end, parts, command-lines, reply-line, lines-text, call-of, session-text, output, transcript}
-use Rattle.calls.specs.Calls.{told, answer-of, written, set-up, setup-call, called, run-result, run-call, listing-result, listing-call}
+use Rattle.calls.specs.Calls.{told, answer-of, written, set-up, setup-call, called, on-state, line-on, run-result, run-call, listing-on, listing-result, listing-call}
 
 unfoldable pub compute : Unit {0}
 unfolding compute-machine kind-text tag-fields node-line forest-lines listing after-end parts command-lines reply-line lines-text call-of session-text output transcript
@@ -13,5 +13,5 @@ compute = tt
 
 -- and those of the calls on bytes beside them
 unfoldable pub compute-calls : Unit {0}
-unfolding compute-tree-bytes compute-store-bytes accounts most-pairs most-grants no-setup told answer-of written set-up setup-call called run-result run-call listing-result listing-call
+unfolding compute-tree-bytes compute-store-bytes accounts most-pairs most-grants no-setup told answer-of written set-up setup-call called on-state line-on run-result run-call listing-on listing-result listing-call
 compute-calls = tt

@@ -5,7 +5,6 @@ use mathlib.Core.Option.{none, some}
 use mathlib.Core.Bool.{true}
 use Prim.Native.Nat.{ℕ, zero, suc, _+_, _-_, _≤_, _<_}
 use native.Mathlib.Omega.{arith}
-use borrow.Author.Tests.{eq-eqb}
 use lib.ListN.{length, drop, getElem?, drop-of-length-le}
 use lib.Seq.{take-append-seam}
 use Rattle.buffers.specs.Text.{Text}
@@ -15,9 +14,8 @@ use Rattle.syntax.specs.Number.{digits-before, decimal-text}
 use Rattle.setup.specs.Setup.{Setup, Setup-answer, accepted, wrong-line, setup, is-setup}
 use Rattle.setup.specs.SetupLaws.{accepted-is-setup}
 use Rattle.tree.specs.declared.Cause.the-variants.{Missing}
-use Rattle.tree.specs.Causes.{number}
-use Rattle.tree.specs.CausesLaws.{wrong-setup-is, number-not-0}
-use Rattle.tree.specs.ResultLaws.{require-true, done-then, present-of, present-none, done-bind, refused-bind}
+use Rattle.tree.specs.CausesLaws.{wrong-setup-is, missing-number, number-not-0}
+use Rattle.tree.specs.ResultLaws.{require-true, done-then, present-of, done-bind}
 use Rattle.tree.specs.UpdateLaws.{by-option}
 use Rattle.tree.specs.WellFormedLaws.{most-nodes-is}
 use Rattle.store.specs.State.{Store, State, state-of, well-formed}
@@ -31,8 +29,8 @@ use Rattle.machine.specs.MachineKeepingLaws.{step-keeps, runs-keep}
 use Rattle.calls.specs.Listing.{listing}
 use Rattle.calls.specs.ListingLaws.{listing-few}
 use Rattle.calls.specs.Transcript.{parts, command-lines, reply-line, call-of, session-text, output, transcript}
-use Rattle.calls.specs.Calls.{told, answer-of, written, setup-call, called, run-call, listing-call}
-use Rattle.calls.specs.CallsLaws.{listing-on-encoding}
+use Rattle.calls.specs.Calls.{told, answer-of, written, setup-call, called, run-call, listing-on, listing-result, listing-call}
+use Rattle.calls.specs.CallsLaws.{on-encoding, past-the-end-is-3}
 use Rattle.calls.specs.CallBoundsLaws.{run-keeps-lengths, listing-keeps-lengths}
 use Rattle.calls.specs.CallLists.{Request, call-for}
 use Rattle.calls.specs.CallListsLaws.{step-called, run-on-state, set-up-takes, set-up-wrong}
@@ -100,21 +98,15 @@ module _ (s : State) (w : well-formed s ≡ true) where
   -- with an answer buffer of 4,096 bytes a line that is there is answered
   listed : (n : ℕ) (t : Text) (answer : List ℕ) → length answer ≡ 4096 → getElem? lines n ≡ some t →
       listing-call (encode s) n answer ≡ record { tells = told (answer-of (ok (some t))); store = encode s; answer = written (ok (some t)) answer }
-  unfolding listing-call called reply after least-room
-  listed n t answer l e = rw (listing-on-encoding s w n (length answer), l, e, require-true, done-then, present-of, done-bind)
-
-  -- and one past the last is 3
-  past : (n : ℕ) (answer : List ℕ) → length answer ≡ 4096 → getElem? lines n ≡ none →
-      listing-call (encode s) n answer ≡ record { tells = told (answer-of (refusal Missing)); store = encode s; answer = answer }
-  unfolding listing-call called reply after written least-room
-  past n answer l e = rw (listing-on-encoding s w n (length answer), l, e, require-true, done-then, present-none, refused-bind)
+  unfolding listing-call listing-result listing-on called reply after least-room
+  listed n t answer l e = rw (on-encoding (listing-on (encode s) n) s w (length answer), l, e, require-true, done-then, present-of, done-bind)
 
   -- the lines from n on
   list-from : (calls n : ℕ) (answer : List ℕ) → length answer ≡ 4096 → length lines < calls + n → list-lines calls (encode s) answer n ≡ drop n lines
   unfolding list-lines told answer-of written text-told
   list-from zero n answer l h = let k : length lines ≤ n = omega arith in sym (drop-of-length-le lines k)
   list-from (suc calls) n answer l h = by-option (getElem? lines n)
-      (λ e. rw (past n answer l e, drop-none lines n e) (rw (eq-eqb (number Missing) (number Missing) refl)))
+      (λ e. rw (past-the-end-is-3 s w n answer (omega (arith, l)) e, drop-none lines n e) (rw missing-number))
       (λ t e.
       let m = ap (λ x. length (x .answer)) (sym (listed n t answer l e)) ∙ listing-keeps-lengths (encode s) n answer .1 ∙ l in
       rw (listed n t answer l e, drop-some lines n t e)
