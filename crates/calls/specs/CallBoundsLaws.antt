@@ -69,8 +69,8 @@ run-bounded b line room = on-state-ensures (line-on line) b room λ s d l.
     let p = parts s w in
     then-do (perform store (s .setup) (s .store) line) λ o i.
     gives (record {
-      stays = length-encode (state-of (s .setup) (o .state)) (done-with (perform-keeps (s .setup) (p .0) (s .store) w line) i) ∙ sym (decode-length b s d);
-      short = perform-fits (s .setup) (s .store) (p .1 .1) line o i;
+      stays = length-encode (state-of (s .setup) (o .state)) (done-with (perform-keeps (s .setup) (p .setup) (s .store) w line) i) ∙ sym (decode-length b s d);
+      short = perform-fits (s .setup) (s .store) (p .tree) line o i;
       roomy = omega (arith, l);
     })
 
@@ -100,7 +100,7 @@ unfolding listing-result listing-on longest-listing-line
 listing-bounded b n room = on-state-ensures (listing-on b n) b room λ s d l.
     let lines = listing (s .store .tree) in
     then-do (present (getElem? lines n) Missing) λ t i.
-    let f = every-found (λ x. leb (length x) longest-listing-line) lines n t (lines-fit (s .store .tree) (parts s (encode-decode b s d .1) .1 .1))
+    let f = every-found (λ x. leb (length x) longest-listing-line) lines n t (lines-fit (s .store .tree) (parts s (encode-decode b s d .1) .tree))
     (present-some (getElem? lines n) Missing i) in
     gives (record { stays = refl; short = λ x e. let q : x ≡ t = cc in rw q (leb-true (length t) 192 f); roomy = omega (arith, l) })
 

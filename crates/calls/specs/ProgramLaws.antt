@@ -125,7 +125,7 @@ module _ (b answer : List ℕ) (width : length b ≡ 65536) (room : length answe
       let r = lines-of-runs u g commands s (initial-well-formed u g) answer room in
       let w = runs-keep u g s (initial-well-formed u g) (map call-of commands) in
       let L = listing (ran .state .tree) in
-      let few = listing-few (ran .state .tree) (state-parts (state-of u (ran .state)) w .1 .1) in
+      let few = listing-few (ran .state .tree) (state-parts (state-of u (ran .state)) w .tree) in
       let all = list-from (state-of u (ran .state)) w 257 0 (r .0) (r .1) (omega arith) in
       rw (set-up-takes b width text u e) (rw (most-nodes-is, r .2, all))
   printed text commands (wrong-line n) e =

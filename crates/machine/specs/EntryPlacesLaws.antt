@@ -197,7 +197,7 @@ in-both u s reached v c n i command o ran =
     record {
       apart = h;
       tie = t .1;
-      whole = parts (state-of u s) (reached-well-formed u s (reached .reached)) .1 .1;
+      whole = parts (state-of u s) (reached-well-formed u s (reached .reached)) .tree;
       file-outside = file-is-outside u setup v c n i h k;
       owned-outside = owned-is-outside u setup v c n i h k;
       outcome = a .0;

@@ -62,10 +62,10 @@ module _ (u : Setup) (g : is-setup u ≡ true) (s : Store) (w : well-formed (sta
   Keeps r = Ensures (λ o. well-formed (state-of u (o .state)) ≡ true) r
 
   tree : is-tree (s .tree) ≡ true
-  tree = parts (state-of u s) w .1 .1
+  tree = parts (state-of u s) w .tree
 
   count : length (s .sessions) ≡ 16
-  count = parts (state-of u s) w .1 .0
+  count = parts (state-of u s) w .sessions
 
   -- done with another well-formed tree
   changed : (x : Option Text) (t : Place Node) → is-tree t ≡ true

@@ -40,9 +40,9 @@ decoded-is-sound b s e =
       width = decode-length b s e;
       state = s;
       bytes = i .0;
-      tree = tree-is-sound (s .store .tree) (w .1 .1);
-      setup = setup-is-sound (s .setup) (w .0);
-      sixteen-sessions = w .1 .0;
+      tree = tree-is-sound (s .store .tree) (w .tree);
+      setup = setup-is-sound (s .setup) (w .setup);
+      sixteen-sessions = w .sessions;
     }
 
 -- bytes that are not sound are not read

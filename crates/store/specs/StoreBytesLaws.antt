@@ -26,8 +26,8 @@ unfolding encode header-width store-width
 length-encode s h =
     let i = parts s h in
     let H = header-bytes (s .setup) (s .store .sessions) in
-    let a = length-header (s .setup) (s .store .sessions) (i .0) (i .1 .0) in
-    let b = length-encode-tree (s .store .tree) (i .1 .1) in
+    let a = length-header (s .setup) (s .store .sessions) (i .setup) (i .sessions) in
+    let b = length-encode-tree (s .store .tree) (i .tree) in
     length-append H (encode-tree (s .store .tree)) ∙ omega (arith, a, b, tree-width-is)
 
 -- what bytes are read as whose parts are known
@@ -46,8 +46,8 @@ decode-encode s h =
     let z = s .store .sessions in
     let B = encode-tree (s .store .tree) in
     let t : decode-tree (drop header-width (header-bytes u z ++ B)) ≡ some (s .store .tree) =
-    rw (drop-at (header-bytes u z) B header-width (length-header u z (i .0) (i .1 .0))) (decode-encode-tree (s .store .tree) (i .1 .1)) in
-    read-as (encode s) s t (setup-of-header u z B (i .0) (i .1 .0)) (sessions-of-header u z B (i .0) (i .1 .0))
+    rw (drop-at (header-bytes u z) B header-width (length-header u z (i .setup) (i .sessions))) (decode-encode-tree (s .store .tree) (i .tree)) in
+    read-as (encode s) s t (setup-of-header u z B (i .setup) (i .sessions)) (sessions-of-header u z B (i .setup) (i .sessions))
     ∙ rw (h, same-text-refl (encode s))
 
 -- bytes that are read as a state are its encoding, and it is well-formed
