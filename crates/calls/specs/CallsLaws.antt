@@ -8,7 +8,6 @@ use Prim.Native.Nat.{ℕ, _≤_, _<_}
 use borrow.Author.Tests.{leb-true, le-leb, lt-leb}
 use lib.Dec.{leb}
 use lib.ListN.{length, getElem?}
-use Rattle.buffers.specs.Text.{Text}
 use Rattle.tree.specs.declared.Cause.{Cause}
 use Rattle.tree.specs.declared.Cause.the-variants.{Missing, Unsound, ShortAnswer}
 use Rattle.tree.specs.CausesLaws.{missing-number, unsound-number, short-answer-number}
