@@ -23,7 +23,7 @@ use Rattle.tree.specs.Encoding.{kind-byte, tag-bytes, row-bytes, row-of}
 use Rattle.tree.specs.RowAt.{row-bytes-at, row-at, tag-text-at}
 use Rattle.edits.specs.declared.Fresh.{Fresh}
 use Rattle.edits.specs.Changes.{field-put, fresh-node}
-use Rattle.edits.specs.EncodedRows.{all-append, field-pieces}
+use Rattle.edits.specs.EncodedRowsLaws.{all-append, field-pieces}
 use Rattle.copying.specs.declared.Copier.{Copier}
 use Rattle.copying.specs.Copying.{below-rep, copy-mode}
 use Rattle.copying.specs.CopyRows.{child-entry, untagged, tagged-row, copy-of-row, Written}

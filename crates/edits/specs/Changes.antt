@@ -5,8 +5,10 @@ use Prim.Native.Nat.{ℕ, _+_, _-_, _*_}
 use lib.ListN.{length, take, drop, replicate}
 use lib.Seq.{paste}
 use Rattle.buffers.specs.Fields.{two-bytes}
+use Rattle.syntax.specs.Path.{Name}
 use Rattle.tree.specs.Layout.{row-width, row-start}
 use Rattle.tree.specs.Node.{Node}
+use Rattle.tree.specs.Rows.{Row}
 use Rattle.tree.specs.Encoding.{kind-byte}
 use Rattle.tree.specs.RowAt.{row-count}
 use Rattle.edits.specs.declared.Fresh.{Fresh}
@@ -30,8 +32,8 @@ rows-taken b i n =
     ++ drop (row-start (row-count b)) b)))
 
 -- the n bytes of the row at index i that stand k bytes into it
-unfoldable pub field-at : List ℕ → ℕ → ℕ → ℕ → List ℕ
-field-at b i k n = take n (drop (row-start i + k) b)
+unfoldable pub field-bytes : List ℕ → ℕ → ℕ → ℕ → List ℕ
+field-bytes b i k n = take n (drop (row-start i + k) b)
 
 -- bytes written into that row, k bytes into it
 unfoldable pub field-put : List ℕ → ℕ → ℕ → List ℕ → List ℕ
@@ -48,6 +50,10 @@ fresh-node f = record {
   tag = none;
   content = [];
 }
+
+-- its row
+abbrev pub fresh-row : ℕ → Name → Fresh → Row Node
+fresh-row depth name f = record { depth = depth; name = name; here = fresh-node f }
 
 -- the bytes of a new node's row before its name
 unfoldable pub head-bytes : ℕ → Fresh → List ℕ

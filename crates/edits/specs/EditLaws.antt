@@ -34,17 +34,17 @@ use Rattle.tree.specs.Encoding.{kind-byte, tag-bytes, row-bytes, encode-rows, e
 use Rattle.tree.specs.RowBytesLaws.{length-tag-bytes, node-parts}
 use Rattle.tree.specs.EncodingLaws.{fits, fits-parts, fits-of, forest-fits, tree-fits, length-fitting}
 use Rattle.edits.specs.declared.Fresh.{Fresh}
-use Rattle.edits.specs.Changes.{rows-put, rows-taken, field-at, field-put, fresh-node}
-use Rattle.edits.specs.Written.{fresh-row, length-fresh}
-use Rattle.edits.specs.EncodedRows.{Wide, encode-tree-rows, table-put, table-part, table-taken, table-field-at, table-field-put}
+use Rattle.edits.specs.Changes.{rows-put, rows-taken, field-bytes, field-put, fresh-node, fresh-row}
+use Rattle.edits.specs.WrittenLaws.{length-fresh}
+use Rattle.edits.specs.EncodedRowsLaws.{Rows-wide, encode-tree-rows, table-put, table-part, table-taken, table-field-at, table-field-put}
 
 -- ---- rows that take their widths
 
-fitting-wide : (rs : List (Row Node)) → every fits rs ≡ true → Wide rs
+fitting-wide : (rs : List (Row Node)) → every fits rs ≡ true → Rows-wide rs
 fitting-wide rs h = length-all-bytes row-width fits row-bytes length-fitting rs h
 
 -- the rows of a well-formed place
-place-wide : (k : ℕ) (n : Name) (d : Place Node) → is-name n ≡ true → is-place d ≡ true → Wide (place-rows k n d)
+place-wide : (k : ℕ) (n : Name) (d : Place Node) → is-name n ≡ true → is-place d ≡ true → Rows-wide (place-rows k n d)
 unfolding place-rows every
 place-wide k n d a w =
     let v = place-parts d w in
@@ -72,7 +72,7 @@ module _ (t : Place Node) (p : Path) (d : Place Node) (n : Name) (h : is-tree t 
       omega (arith, lt, length-before c n)
 
   -- rows of the width of rows, put where the child belongs
-  put-wide : (e : Place Node) (Q : List ℕ) → get n (d .below) ≡ none → Wide (place-rows (suc (depth p)) n e) → nodes t + suc (size (e .below)) ≤ 256
+  put-wide : (e : Place Node) (Q : List ℕ) → get n (d .below) ≡ none → Rows-wide (place-rows (suc (depth p)) n e) → nodes t + suc (size (e .below)) ≤ 256
       → rows-put (encode-tree t) (suc (index-of t p + size (lesser n (d .below)))) (suc (size (e .below))) (all-bytes row-bytes (place-rows (suc (depth p)) n e) ++ Q)
       ≡ encode-tree (update p (put n e) t)
   put-wide e Q g w few =
@@ -102,7 +102,7 @@ module _ (t : Place Node) (p : Path) (d : Place Node) (n : Name) (h : is-tree t 
   pub child-law : (f : Fresh) → get n (d .below) ≡ none → is-name n ≡ true → nodes t < 256
       → rows-put (encode-tree t) (suc (index-of t p + size (lesser n (d .below)))) 1 (row-bytes (record { depth = suc (depth p); name = n; here = fresh-node f }))
       ≡ encode-tree (update p (put n (leaf (fresh-node f))) t)
-  unfolding fresh-row leaf size place-rows flatten all-bytes
+  unfolding leaf size place-rows flatten all-bytes
   child-law f g a few =
       let r = row-bytes (fresh-row (suc (depth p)) n f) in
       let l : length r ≡ row-width = length-fresh (suc (depth p)) n f (name-fits n a .0) in
@@ -172,14 +172,14 @@ module _ (t : Place Node) (p : Path) (d : Place Node) (h : is-tree t ≡ true) (
 
   module _ (k : ℕ) (P old Q : List ℕ) (l : length P ≡ k) (was : row-bytes (row-there p (d .here)) ≡ P ++ (old ++ Q)) where
     -- what stands in a field of the row
-    field-law : field-at (encode-tree t) (index-of t p) k (length old) ≡ old
+    field-law : field-bytes (encode-tree t) (index-of t p) k (length old) ≡ old
     field-law =
         let c = around t p d there in
         let rest = flatten (suc (depth p)) (d .below) ++ c .post in
         let e = alter-rows c (λ x. x) .0 in
         let f = cut-fits t h (c .pre) (row-there p (d .here) ∷ rest) e in
-        ap (λ (b : List ℕ). field-at b (index-of t p) k (length old)) (encode-tree-rows t ∙ ap encode-rows e)
-        ∙ ap (λ (i : ℕ). field-at (encode-rows (c .pre ++ row-there p (d .here) ∷ rest)) i k (length old)) (sym (c .index))
+        ap (λ (b : List ℕ). field-bytes b (index-of t p) k (length old)) (encode-tree-rows t ∙ ap encode-rows e)
+        ∙ ap (λ (i : ℕ). field-bytes (encode-rows (c .pre ++ row-there p (d .here) ∷ rest)) i k (length old)) (sym (c .index))
         ∙ table-field-at (c .pre) rest P Q (fitting-wide (c .pre) (f .0)) k l (row-there p (d .here)) old was
 
     -- and the node whose row differs in that field alone
@@ -314,15 +314,15 @@ module _ (t : Place Node) (p : Path) (d : Place Node) (h : is-tree t ≡ true) (
       change-law t p d h there 72 (head-of p x ++ (name-of p ++ tag-bytes (x .tag))) (padded content-width (x .content)) spare length-before-content (content-parts x)
       (set-content c) (padded content-width c) (length-content ∙ sym (length-padded content-width c l)) (content-parts (set-content c x))
 
-  content-read : field-at (encode-tree t) (index-of t p) content-offset content-width ≡ padded content-width (d .here .content)
+  content-read : field-bytes (encode-tree t) (index-of t p) content-offset content-width ≡ padded content-width (d .here .content)
   content-read =
       let x = d .here in
-      ap (field-at (encode-tree t) (index-of t p) 72) (sym length-content)
+      ap (field-bytes (encode-tree t) (index-of t p) 72) (sym length-content)
       ∙ field-law t p d h there 72 (head-of p x ++ (name-of p ++ tag-bytes (x .tag))) (padded content-width (x .content)) spare length-before-content (content-parts x)
 
 -- the content of another place
 pub copy-content-law : (t : Place Node) (p q : Path) (d f : Place Node) → is-tree t ≡ true → place-at t p ≡ some d → place-at t q ≡ some f
-    → field-put (encode-tree t) (index-of t p) content-offset (field-at (encode-tree t) (index-of t q) content-offset content-width) ≡ encode-tree (update p (alter (set-content (f .here .content))) t)
+    → field-put (encode-tree t) (index-of t p) content-offset (field-bytes (encode-tree t) (index-of t q) content-offset content-width) ≡ encode-tree (update p (alter (set-content (f .here .content))) t)
 copy-content-law t p q d f h there from =
     ap (field-put (encode-tree t) (index-of t p) content-offset) (content-read t q f h from)
     ∙ content-law t p d h there (f .here .content) (content-fits-there t q f h from)

@@ -1,4 +1,4 @@
 pub mod Changes
-pub mod Written
-pub mod EncodedRows
+pub mod WrittenLaws
+pub mod EncodedRowsLaws
 pub mod EditLaws

@@ -7,7 +7,7 @@ ghost use Rattle.buffers.specs.Fields.{two-bytes, padded};
 ghost use Rattle.tree.specs.Layout.{owner-offset, group-offset, mode-offset, revision-offset, tag-offset, tag-width, tag-revision-offset, content-offset, content-width};
 ghost use Rattle.tree.specs.RowAt.{tag-text-at};
 ghost use Rattle.tree.specs.TreeBytes.{Has-row};
-ghost use Rattle.edits.specs.Changes.{field-at, field-put};
+ghost use Rattle.edits.specs.Changes.{field-bytes, field-put};
 use accounts::Gid;
 use accounts::Uid;
 use buffers::move_bytes;
@@ -104,7 +104,7 @@ pub fn set_content(tree: &mut [u8], i: usize, content: &[u8])
 pub fn copy_content(tree: &mut [u8], from: usize, to: usize)
     requires { ⌜ Has-row (now tree) from ⌝ }
     requires { ⌜ Has-row (now tree) to ⌝ }
-    ensures { λ _. ⌜ now (tree .exit) ≡ field-put (now (tree .entry)) to content-offset (field-at (now (tree .entry)) from content-offset content-width) ⌝ }
+    ensures { λ _. ⌜ now (tree .exit) ≡ field-put (now (tree .entry)) to content-offset (field-bytes (now (tree .entry)) from content-offset content-width) ⌝ }
 {
     move_bytes(
         tree,

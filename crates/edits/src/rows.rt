@@ -7,7 +7,7 @@ ghost use Rattle.tree.specs.Layout.{row-width, name-width};
 ghost use Rattle.tree.specs.Forest.{leaf};
 ghost use Rattle.tree.specs.Encoding.{kind-byte, row-bytes, encode-tree};
 ghost use Rattle.tree.specs.TreeBytes.{Wide, Gap, Stretch};
-ghost use Rattle.edits.specs.Changes.{rows-put, rows-taken, fresh-node, head-bytes};
+ghost use Rattle.edits.specs.Changes.{rows-put, rows-taken, fresh-node, fresh-row, head-bytes};
 use crate::Fresh;
 use buffers::clear;
 use buffers::move_bytes;
@@ -80,7 +80,7 @@ fn write_head(tree: &mut [u8], at: usize, depth: u8, node: Fresh)
 pub fn write_row(tree: &mut [u8], at: usize, depth: u8, name: &[u8], node: Fresh)
     requires { ⌜ at + row-width ≤ length (now tree) ⌝ }
     requires { ⌜ length (now name) ≤ name-width ⌝ }
-    ensures { λ _. ⌜ now (tree .exit) ≡ paste (now (tree .entry)) at (row-bytes (record { depth = depth; name = now (name .entry); here = fresh-node node })) row-width ⌝ }
+    ensures { λ _. ⌜ now (tree .exit) ≡ paste (now (tree .entry)) at (row-bytes (fresh-row depth (now (name .entry)) node)) row-width ⌝ }
 {
     write_head(tree, at, depth, node);
     write_padded(tree, at + NAME, NAME_WIDTH, name);
@@ -91,7 +91,7 @@ pub fn write_row(tree: &mut [u8], at: usize, depth: u8, name: &[u8], node: Fresh
 pub fn put_child(tree: &mut [u8], at: usize, depth: u8, name: &[u8], node: Fresh)
     requires { ⌜ Gap (now tree) at 1 ⌝ }
     requires { ⌜ length (now name) ≤ name-width ⌝ }
-    ensures { λ _. ⌜ now (tree .exit) ≡ rows-put (now (tree .entry)) at 1 (row-bytes (record { depth = depth; name = now (name .entry); here = fresh-node node })) ⌝ }
+    ensures { λ _. ⌜ now (tree .exit) ≡ rows-put (now (tree .entry)) at 1 (row-bytes (fresh-row depth (now (name .entry)) node)) ⌝ }
 {
     let c = count(tree);
     let start = FIRST + ROW * at;

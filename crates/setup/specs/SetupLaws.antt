@@ -23,9 +23,9 @@ use Rattle.accounts.specs.Access.{is-root}
 use Rattle.accounts.specs.Dominance.{falls}
 use Rattle.syntax.specs.Pieces.{bytes, comma, newline, pieces}
 use Rattle.syntax.specs.Form.{_>>=_, _>>_, check, is-some}
+use Rattle.syntax.specs.FormLaws.{no-answer, both-read, checked, answered, both, Answers-pass, any-gives, two-gives, three-gives, Forms-give, no-form, _also_, by-form-gives}
 use Rattle.syntax.specs.Path.{is-name}
 use Rattle.setup.specs.Setup.{Person, Grant, Setup, accounts, most-pairs, most-grants, longest-line, person, Setup-line, p-line, g-line, r-line, l-line, person-uid, person-or-root, person-gid, plain-role, setup-form, setup-forms, setup-line-of, setup-line, Reading, with-person, with-pair, with-grant, joining, accept, no-setup, Setup-answer, accepted, wrong-line, stops, continue, read-lines, setup, is-person, is-slot, is-pair, is-grant, is-setup}
-use Rattle.syntax.specs.FormLaws.{no-answer, both-read, checked, answered, both, Gives, any-gives, two-gives, three-gives, Forms-give, no-form, _also_, by-form-gives}
 use Rattle.syntax.specs.FieldLaws.{number-gives, within-bound, password-gives}
 
 -- a number of a person or a person's group
@@ -39,15 +39,15 @@ in-range (g-line u g) = one-to-15 (u .0) && one-to-15 (g .0)
 in-range (r-line senior junior) = ltb (junior .0) 8
 in-range (l-line u r w) = ltb (r .0) 8 && is-name w
 
-person-uid-gives : Gives person-uid (λ u. one-to-15 (u .0))
+person-uid-gives : Answers-pass person-uid (λ u. one-to-15 (u .0))
 unfolding person-uid one-to-15
 person-uid-gives = number-gives (λ u. one-to-15 (u .0)) 1 15 (λ n. record { 0 = n }) (λ n h. h)
 
-person-gid-gives : Gives person-gid (λ g. one-to-15 (g .0))
+person-gid-gives : Answers-pass person-gid (λ g. one-to-15 (g .0))
 unfolding person-gid one-to-15
 person-gid-gives = number-gives (λ g. one-to-15 (g .0)) 1 15 (λ n. record { 0 = n }) (λ n h. h)
 
-plain-role-gives : Gives plain-role (λ r. ltb (r .0) 8)
+plain-role-gives : Answers-pass plain-role (λ r. ltb (r .0) 8)
 unfolding plain-role
 plain-role-gives = number-gives (λ r. ltb (r .0) 8) 0 7 (λ n. record { 0 = n }) (within-bound 0 7)
 
@@ -60,12 +60,12 @@ forms-give =
     three-gives in-range (any-gives person-or-root) plain-role-gives password-gives (λ u r w h. both) also
     no-form
 
-line-of-gives : Gives setup-line-of in-range
+line-of-gives : Answers-pass setup-line-of in-range
 unfolding setup-line-of
 line-of-gives [] l e = no-answer e
 line-of-gives (w ∷ arguments) l e = by-form-gives in-range forms-give w arguments l e
 
-line-gives : Gives setup-line in-range
+line-gives : Answers-pass setup-line in-range
 unfolding setup-line
 line-gives t l e = line-of-gives (pieces comma t) l (checked (leb (length t) longest-line) (setup-line-of (pieces comma t)) l e .1)
 

@@ -2,7 +2,7 @@
 -- and zeros behind the last.
 use mathlib.Core.List.{List, [], _∷_}
 use mathlib.Core.Bool.{Bool, true, false, _&&_, cond}
-use Prim.Native.Nat.{ℕ, suc, _+_, _-_, _*_}
+use Prim.Native.Nat.{ℕ, suc, _-_}
 use lib.Dec.{eqb, leb}
 use lib.ListN.{length, take, drop}
 use Rattle.buffers.specs.Text.{same-text, precedes, every}
@@ -52,13 +52,13 @@ in-order names kind [] = true
 in-order names kind (r ∷ rs) = follows names kind r && in-order (r .name ∷ outermost (r .depth - 1) names) (r .here .kind) rs
 
 -- whether a row is that of `/`
-unfoldable pub is-top : Row Node → Bool
-is-top r = (eqb (r .depth) 0 && eqb (length (r .name)) 0) && is-directory (r .here .kind)
+unfoldable pub is-top-row : Row Node → Bool
+is-top-row r = (eqb (r .depth) 0 && eqb (length (r .name)) 0) && is-directory (r .here .kind)
 
 -- whether rows are `/` and others in order behind it; at least `/` must be there
 unfoldable pub form-tree : List (Row Node) → Bool
 form-tree [] = false
-form-tree (r ∷ rs) = is-top r && in-order [] (r .here .kind) rs
+form-tree (r ∷ rs) = is-top-row r && in-order [] (r .here .kind) rs
 
 -- whether the number of rows stands in its two bytes as it is written, and is not too large
 unfoldable pub is-count : List ℕ → Bool

@@ -5,7 +5,7 @@ use mathlib.Core.Option.{Option, none, some}
 use mathlib.Core.Bool.{true, _&&_}
 use Prim.Native.Nat.{ℕ, zero, suc, _+_, _-_, _*_, _≤_}
 use native.Mathlib.Omega.{arith}
-use native.Mathlib.Nat.{zero-mul, suc-mul, add-comm}
+use native.Mathlib.Nat.{suc-mul, add-comm}
 use lib.Dec.{eqb, leb}
 use lib.ListN.{length, take, drop, replicate, take-append-drop, length-drop}
 use lib.Seq.{take-add, take-at, drop-at, drop-drop}
@@ -28,7 +28,7 @@ use Rattle.tree.specs.Encoding.{row-bytes, row-of, encode-rows, encode-tree, de
 use Rattle.tree.specs.EncodingLaws.{fits, fits-parts, tree-fits, length-fitting, fitting-back, tree-width-is, length-encode-tree, decode-encode, encode-decode}
 use Rattle.tree.specs.RowAt.{row-count, all-rows}
 use Rattle.tree.specs.RowAtLaws.{length-all-rows, all-rows-of-tree, row-count-of-tree}
-use Rattle.soundness.specs.Sound.{is-row, row-stretches, in-order, is-top, form-tree, is-count, is-sound}
+use Rattle.soundness.specs.Sound.{is-row, row-stretches, in-order, is-top-row, form-tree, is-count, is-sound}
 use Rattle.soundness.specs.OrderLaws.{forest-of-rows, forest-in-order}
 
 -- ---- zeros
@@ -80,11 +80,11 @@ no-name (b ∷ n) h = let z : ⊥ = omega arith in absurd z
 -- rows that form a tree are those of a well-formed one
 tree-of-form : (rs : List (Row Node)) → form-tree rs ≡ true → every (λ r. is-node (r .here)) rs ≡ true → length rs ≤ 256
     → (t : Place Node) × ((is-tree t ≡ true) × (rows t ≡ rs))
-unfolding form-tree is-top every rows
+unfolding form-tree is-top-row every rows
 tree-of-form [] h v l = contra {b = true} refl (sym h)
 tree-of-form (r ∷ rs) h v l =
     let k = r .here .kind in
-    let i = and-both (is-top r) (in-order [] k rs) h in
+    let i = and-both (is-top-row r) (in-order [] k rs) h in
     let j = and-both (eqb (r .depth) 0 && eqb (length (r .name)) 0) (is-directory k) (i .0) in
     let m = and-both (eqb (r .depth) 0) (eqb (length (r .name)) 0) (j .0) in
     let w = and-both (is-node (r .here)) (every (λ r. is-node (r .here)) rs) v in
@@ -109,7 +109,7 @@ tree-of-form (r ∷ rs) h v l =
 
 -- the rows of a well-formed tree form one
 form-of-tree : (t : Place Node) → is-tree t ≡ true → form-tree (rows t) ≡ true
-unfolding form-tree is-top rows
+unfolding form-tree is-top-row rows
 form-of-tree t h =
     let p = tree-parts t h in
     rw (p .directory) (forest-in-order (t .here .kind) (t .below) (p .directory) (place-parts t (p .whole) .forest) (p .low))

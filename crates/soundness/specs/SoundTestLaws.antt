@@ -2,7 +2,7 @@
 use mathlib.Core.Path.{_≡_, refl, sym, _∙_, ap, ap₂}
 use mathlib.Core.List.{List, []}
 use mathlib.Core.Bool.{Bool, true, false, _&&_, and-false}
-use Prim.Native.Nat.{ℕ, _+_, _-_, _*_, _≤_, _<_}
+use Prim.Native.Nat.{ℕ, _-_, _≤_, _<_}
 use native.Mathlib.Omega.{arith}
 use lib.Dec.{eqb}
 use lib.ListN.{length, getD, take, drop, length-drop}
@@ -17,7 +17,7 @@ use Rattle.tree.specs.Node.{is-directory, Node}
 use Rattle.tree.specs.Rows.{Row}
 use Rattle.tree.specs.WellFormed.{most-nodes}
 use Rattle.tree.specs.RowAt.{row-count, row-bytes-at, row-at, all-rows}
-use Rattle.soundness.specs.Sound.{is-row, row-stretches, in-order, is-top, form-tree, is-count, is-sound}
+use Rattle.soundness.specs.Sound.{is-row, row-stretches, in-order, is-top-row, form-tree, is-count, is-sound}
 use Rattle.soundness.specs.Tests.{rest-in-order}
 use Rattle.soundness.specs.RowTestLaws.{same-number}
 use Rattle.soundness.specs.OrderTestLaws.{stretches-from, rows-from}
@@ -26,22 +26,22 @@ use Rattle.soundness.specs.OrderTestLaws.{stretches-from, rows-from}
 
 module _ (r : Row Node) where
   -- it has depth 0
-  pub top-depth : (r .depth ≡ 0 → ⊥) → is-top r ≡ false
-  unfolding is-top
+  pub top-depth : (r .depth ≡ 0 → ⊥) → is-top-row r ≡ false
+  unfolding is-top-row
   top-depth e = rw (ne-eqb (r .depth) 0 e)
 
   -- and no name
-  pub top-name : (length (r .name) ≡ 0 → ⊥) → is-top r ≡ false
-  unfolding is-top
+  pub top-name : (length (r .name) ≡ 0 → ⊥) → is-top-row r ≡ false
+  unfolding is-top-row
   top-name e = simp (ne-eqb (length (r .name)) 0 e, and-false)
 
   -- and is a directory
-  pub top-kind : r .depth ≡ 0 → length (r .name) ≡ 0 → is-top r ≡ is-directory (r .here .kind)
-  unfolding is-top
+  pub top-kind : r .depth ≡ 0 → length (r .name) ≡ 0 → is-top-row r ≡ is-directory (r .here .kind)
+  unfolding is-top-row
   top-kind d n = rw (eq-eqb (r .depth) 0 d, eq-eqb (length (r .name)) 0 n)
 
   -- so its depth is 0
-  pub top-at-zero : is-top r ≡ true → r .depth ≡ 0
+  pub top-at-zero : is-top-row r ≡ true → r .depth ≡ 0
   top-at-zero h = case (eqb (r .depth) 0) (λ t. eqb-true (r .depth) 0 t) (λ t. contra h (top-depth (eqb-false (r .depth) 0 t)))
 
 -- ---- all bytes
@@ -75,7 +75,7 @@ module _ (b : List ℕ) where
 
   -- `/`, the rows behind it, and the unused bytes
   pub sound-in-parts : length b ≡ tree-width → 1 ≤ row-count b → row-count b ≤ 256 → ((k : ℕ) → getD b k 0 < 256)
-      → is-sound b ≡ ((is-row (row-bytes-at b 0) && is-top (row-at b 0))
+      → is-sound b ≡ ((is-row (row-bytes-at b 0) && is-top-row (row-at b 0))
       && (rest-in-order b 1 [] (row-at b 0 .here .kind) && zeros-at (row-start (row-count b)) (tree-width - (row-start (row-count b))) b))
   unfolding is-sound is-count most-nodes form-tree every rest-in-order zeros-at
   sound-in-parts l o f small =
@@ -89,5 +89,5 @@ module _ (b : List ℕ) where
       let e : is-sound b ≡ E (row-stretches b) (all-rows b) = rw (eq-eqb (length b) tree-width l, le-leb n 256 f, c) in
       e
       ∙ ap₂ E (stretches-from b 0 (omega arith)) (rows-from b 0 (omega arith))
-      ∙ regrouped (is-row (row-bytes-at b 0)) (every is-row S) (is-top (row-at b 0)) (in-order [] (row-at b 0 .here .kind) R) (all-zero D)
-      ∙ ap (λ (d : List ℕ). (is-row (row-bytes-at b 0) && is-top (row-at b 0)) && ((every is-row S && in-order [] (row-at b 0 .here .kind) R) && all-zero d)) z
+      ∙ regrouped (is-row (row-bytes-at b 0)) (every is-row S) (is-top-row (row-at b 0)) (in-order [] (row-at b 0 .here .kind) R) (all-zero D)
+      ∙ ap (λ (d : List ℕ). (is-row (row-bytes-at b 0) && is-top-row (row-at b 0)) && ((every is-row S && in-order [] (row-at b 0 .here .kind) R) && all-zero d)) z

@@ -4,7 +4,7 @@ ghost use Rattle.syntax.specs.Form.{is-some};
 ghost use Rattle.tree.specs.Encoding.{decode-tree};
 ghost use Rattle.tree.specs.RowAt.{row-at};
 ghost use Rattle.tree.specs.TreeBytes.{Wide};
-ghost use Rattle.soundness.specs.Sound.{is-top};
+ghost use Rattle.soundness.specs.Sound.{is-top-row};
 
 mod order;
 mod row;
@@ -19,9 +19,9 @@ use tree::ROW;
 use tree::TREE;
 
 // Whether the first row is that of `/`.
-fn is_top(tree: &[u8]) -> bool
+fn is_top_row(tree: &[u8]) -> bool
     requires { ⌜ Wide (now tree) ⌝ }
-    ensures { λ r. ⌜ r ≡ is-top (row-at (now (tree .entry)) 0) ⌝ }
+    ensures { λ r. ⌜ r ≡ is-top-row (row-at (now (tree .entry)) 0) ⌝ }
 {
     if tree::depth_at(tree, 0) != 0 {
         return false;
@@ -49,7 +49,7 @@ pub fn holds_tree(tree: &[u8]) -> bool
     if !is_row(tree, 0) {
         return false;
     }
-    if !is_top(tree) {
+    if !is_top_row(tree) {
         return false;
     }
     if !in_order(tree, n) {

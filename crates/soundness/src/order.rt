@@ -11,7 +11,7 @@ use crate::row::is_row;
 use buffers::Order;
 
 // Whether a row may follow the one before it, where the row at its depth last seen is given.
-fn follows(tree: &[u8], i: usize, beside: usize) -> bool
+fn may_follow(tree: &[u8], i: usize, beside: usize) -> bool
     requires { ⌜ Has-row (now tree) i ⌝ }
     requires { ⌜ Has-row (now tree) beside ⌝ }
     requires { ⌜ 1 ≤ i ⌝ }
@@ -57,7 +57,7 @@ pub fn in_order(tree: &[u8], n: usize) -> bool
         if 6 < depth {
             return false;
         }
-        if !follows(tree, i, last[depth]) {
+        if !may_follow(tree, i, last[depth]) {
             return false;
         }
         last[depth] = i;

@@ -12,14 +12,14 @@ use Rattle.buffers.specs.Cases.{case, and-both, contra}
 use Rattle.buffers.specs.Text.{Text, every, lacks}
 use Rattle.buffers.specs.TextLaws.{every-implies}
 use Rattle.syntax.specs.Number.{digit, value-after, decimal, between, mode-digits, mode, set-gid, is-mode}
+use Rattle.syntax.specs.FormLaws.{both-read, checked, answered, Answers-pass, checked-gives}
 use Rattle.syntax.specs.NumberLaws.{digit-bounds}
 use Rattle.syntax.specs.Form.{_>>=_, _>>_, check}
 use Rattle.syntax.specs.Path.{is-name}
 use Rattle.syntax.specs.Field.{uid, gid, plain-mode, password, content-limit, content-byte, is-content, content}
-use Rattle.syntax.specs.FormLaws.{both-read, checked, answered, Gives, checked-gives}
 
 -- a number read between two bounds is between them
-pub between-gives : (low high : ℕ) → Gives (between low high) (λ n. leb low n && leb n high)
+pub between-gives : (low high : ℕ) → Answers-pass (between low high) (λ n. leb low n && leb n high)
 unfolding between
 between-gives low high t n e =
     let i : _ = both-read (decimal t) (λ m. check (leb low m && leb m high) >> some m) n e in
@@ -27,7 +27,7 @@ between-gives low high t n e =
 
 -- a number between two bounds, made a value, passes what every such value passes
 pub number-gives : {X : Type 0} (test : X → Bool) (low high : ℕ) (x : ℕ → X) →
-    ((n : ℕ) → (leb low n && leb n high) ≡ true → test (x n) ≡ true) → Gives (λ s. between low high s >>= λ n. some (x n)) test
+    ((n : ℕ) → (leb low n && leb n high) ≡ true → test (x n) ≡ true) → Answers-pass (λ s. between low high s >>= λ n. some (x n)) test
 number-gives test low high x h s y e =
     let i : _ = both-read (between low high s) (λ n. some (x n)) y e in
     rw (answered (i .2)) (h (i .0) (between-gives low high s (i .0) (i .1)))
@@ -37,12 +37,12 @@ pub within-bound : (low high n : ℕ) → (leb low n && leb n high) ≡ true →
 within-bound low high n h = lt-ltb n (suc high) (omega (arith, leb-true n high (and-both (leb low n) (leb n high) h .1)))
 
 -- a uid is 0 to 23
-pub uid-gives : Gives uid (λ u. ltb (u .0) 24)
+pub uid-gives : Answers-pass uid (λ u. ltb (u .0) 24)
 unfolding uid
 uid-gives = number-gives (λ u. ltb (u .0) 24) 0 23 (λ n. record { 0 = n }) (within-bound 0 23)
 
 -- a gid is 0 to 24
-pub gid-gives : Gives gid (λ g. ltb (g .0) 25)
+pub gid-gives : Answers-pass gid (λ g. ltb (g .0) 25)
 unfolding gid
 gid-gives = number-gives (λ g. ltb (g .0) 25) 0 24 (λ n. record { 0 = n }) (within-bound 0 24)
 
@@ -79,7 +79,7 @@ digits-are-mode (d ∷ ds) h =
     case (ltb m 512) (λ l. rw l) (λ l. rw (l, s)))
 
 -- a mode is four octal digits of which the first is 0 or 2
-pub mode-gives : Gives mode is-mode
+pub mode-gives : Answers-pass mode is-mode
 unfolding mode
 mode-gives t m e =
     let i : _ = checked (mode-digits t) (some (value-after 8 0 t)) m e in
@@ -90,7 +90,7 @@ unfolding is-mode
 plain-small m h k = case (ltb m 512) (λ t. t) (λ t. contra (rw t at h) k)
 
 -- the mode of a new file has first digit 0
-pub plain-mode-gives : Gives plain-mode (λ m. ltb m 512)
+pub plain-mode-gives : Answers-pass plain-mode (λ m. ltb m 512)
 unfolding plain-mode
 plain-mode-gives t n e =
     let i : _ = both-read (mode t) (λ m. check (not (set-gid m)) >> some m) n e in
@@ -98,12 +98,12 @@ plain-mode-gives t n e =
     rw (answered (j .1)) (plain-small (i .0) (mode-gives t (i .0) (i .1)) (not-true (set-gid (i .0)) (j .0)))
 
 -- a password is a name
-pub password-gives : Gives password is-name
+pub password-gives : Answers-pass password is-name
 unfolding password
 password-gives = checked-gives is-name
 
 -- content is content
-pub content-gives : Gives content is-content
+pub content-gives : Answers-pass content is-content
 unfolding content
 content-gives = checked-gives is-content
 

@@ -41,27 +41,27 @@ pub both : {a b : Bool} → a ≡ true → b ≡ true → (a && b) ≡ true
 both h k = rw (h, k)
 
 -- all that a reader answers passes a test
-abbrev pub Gives : {S X : Type 0} → (S → Option X) → (X → Bool) → Type 0
-Gives {S = S} {X = X} read test = (s : S) (x : X) → read s ≡ some x → test x ≡ true
+abbrev pub Answers-pass : {S X : Type 0} → (S → Option X) → (X → Bool) → Type 0
+Answers-pass {S = S} {X = X} read test = (s : S) (x : X) → read s ≡ some x → test x ≡ true
 
 -- the test that nothing fails
-pub any-gives : {S X : Type 0} (read : S → Option X) → Gives read (λ x. true)
+pub any-gives : {S X : Type 0} (read : S → Option X) → Answers-pass read (λ x. true)
 any-gives read s x e = refl
 
 -- a reader that checks a text and answers it
-pub checked-gives : {S : Type 0} (test : S → Bool) → Gives (λ s. check (test s) >> some s) test
+pub checked-gives : {S : Type 0} (test : S → Bool) → Answers-pass (λ s. check (test s) >> some s) test
 checked-gives test s x e = let i : _ = checked (test s) (some s) x e in rw (answered (i .1)) (i .0)
 
 module _ {X : Type 0} (test : X → Bool) where
   -- a form without arguments
-  pub none-gives : {x : X} → test x ≡ true → Gives (none-of x) test
+  pub none-gives : {x : X} → test x ≡ true → Answers-pass (none-of x) test
   unfolding none-of
   none-gives h [] y e = rw (answered e) h
   none-gives h (s ∷ more) y e = no-answer e
 
   -- a form of one argument
   pub one-gives : {A : Type 0} {read : Text → Option A} {of : A → Bool} {x : A → X} →
-      Gives read of → ((a : A) → of a ≡ true → test (x a) ≡ true) → Gives (one-of read x) test
+      Answers-pass read of → ((a : A) → of a ≡ true → test (x a) ≡ true) → Answers-pass (one-of read x) test
   unfolding one-of
   one-gives h k [] y e = no-answer e
   one-gives {read = read} {x = x} h k (s ∷ more) y e =
@@ -70,8 +70,8 @@ module _ {X : Type 0} (test : X → Bool) where
 
   -- a form of two arguments
   pub two-gives : {A B : Type 0} {read : Text → Option A} {read′ : Text → Option B} {of : A → Bool} {of′ : B → Bool} {x : A → B → X} →
-      Gives read of → Gives read′ of′ →
-      ((a : A) (b : B) → of a ≡ true → of′ b ≡ true → test (x a b) ≡ true) → Gives (two-of read read′ x) test
+      Answers-pass read of → Answers-pass read′ of′ →
+      ((a : A) (b : B) → of a ≡ true → of′ b ≡ true → test (x a b) ≡ true) → Answers-pass (two-of read read′ x) test
   unfolding two-of
   two-gives h h′ k [] y e = no-answer e
   two-gives {read = read} {read′ = read′} {x = x} h h′ k (s ∷ more) y e =
@@ -81,9 +81,9 @@ module _ {X : Type 0} (test : X → Bool) where
   -- a form of three arguments
   pub three-gives : {A B C : Type 0} {read : Text → Option A} {read′ : Text → Option B} {read″ : Text → Option C}
       {of : A → Bool} {of′ : B → Bool} {of″ : C → Bool} {x : A → B → C → X} →
-      Gives read of → Gives read′ of′ → Gives read″ of″ →
+      Answers-pass read of → Answers-pass read′ of′ → Answers-pass read″ of″ →
       ((a : A) (b : B) (c : C) → of a ≡ true → of′ b ≡ true → of″ c ≡ true → test (x a b c) ≡ true) →
-      Gives (three-of read read′ read″ x) test
+      Answers-pass (three-of read read′ read″ x) test
   unfolding three-of
   three-gives h h′ h″ k [] y e = no-answer e
   three-gives {read = read} {read′ = read′} {read″ = read″} {x = x} h h′ h″ k (s ∷ more) y e =
@@ -94,10 +94,10 @@ module _ {X : Type 0} (test : X → Bool) where
   infixr 20 _also_
   pub data Forms-give : List (Form X) → Type 0 where
     no-form : Forms-give []
-    _also_ : {f : Form X} {fs : List (Form X)} → Gives (f .arguments) test → Forms-give fs → Forms-give (f ∷ fs)
+    _also_ : {f : Form X} {fs : List (Form X)} → Answers-pass (f .arguments) test → Forms-give fs → Forms-give (f ∷ fs)
 
   -- the form with a word
-  pub by-form-gives : {fs : List (Form X)} → Forms-give fs → (w : Text) → Gives (by-form fs w) test
+  pub by-form-gives : {fs : List (Form X)} → Forms-give fs → (w : Text) → Answers-pass (by-form fs w) test
   unfolding by-form
   by-form-gives no-form w s y e = no-answer e
   by-form-gives (_also_ {f = f} h hs) w s y e = case (same-text w (f .word))

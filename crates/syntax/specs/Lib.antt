@@ -13,5 +13,5 @@ pub mod Parts
 pub mod PartsLaws
 pub mod PathPartsLaws
 pub mod ParentLaws
-pub mod FieldAtLaws
+pub mod FieldPartsLaws
 pub mod Compute

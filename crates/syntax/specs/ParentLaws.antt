@@ -19,9 +19,9 @@ use Rattle.syntax.specs.Path.{Name, Path, root, _▹_, Entry-path, paren
 use Rattle.syntax.specs.PathLaws.{name-lacks, path-of-text, path-is-path, entry-at-sound}
 use Rattle.syntax.specs.declared.Names.{Names}
 use Rattle.syntax.specs.declared.NextName.the-variants
-use Rattle.syntax.specs.Parts.{part, next-name, slash-before, last-slash}
+use Rattle.syntax.specs.Parts.{part, next-name, slash-before, last-slash, names-read, path-names}
 use Rattle.syntax.specs.PartsLaws.{piece-end-le, joined-pieces}
-use Rattle.syntax.specs.PathPartsLaws.{names-read, path-names, names-read-past, names-read-next, names-read-path}
+use Rattle.syntax.specs.PathPartsLaws.{names-read-past, names-read-next, names-read-path}
 
 -- ---- the names of a path text
 

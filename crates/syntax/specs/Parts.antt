@@ -1,4 +1,5 @@
 -- What the code's readers answer: parts of a text by their places, fields, numbers and names.
+use mathlib.Core.List.{List, [], _∷_}
 use mathlib.Core.Option.{Option, none, some}
 use mathlib.Core.Bool.{Bool, _&&_, cond}
 use Prim.Native.Nat.{ℕ, zero, suc, _+_, _-_, _≤_}
@@ -63,6 +64,20 @@ unfoldable pub next-name : Text → ℕ → NextName
 next-name t at =
     let end = at + piece-length 47 (drop at t) in
     cond (leb (length t) at) the-variants.End (the-variants.Name at end (record { at = end + 1 }))
+
+-- the next name with those that are read behind it
+unfoldable pub names-of : Text → (ℕ → List Text) → NextName → List Text
+names-of t behind (the-variants.Name start end rest) = part t start end ∷ behind (rest .at)
+names-of t behind the-variants.End = []
+
+-- the names that are read of a path from a place on, at most so many
+unfoldable pub names-read : Text → ℕ → ℕ → List Text
+names-read t at zero = []
+names-read t at (suc n) = names-of t (λ k. names-read t k n) (next-name t at)
+
+-- the names of a path text in order
+unfoldable pub path-names : Text → List Text
+path-names t = names-read t 1 (length t)
 
 -- where the last `/` among the first so many bytes of a text is, or 0
 unfoldable pub slash-before : Text → ℕ → ℕ

@@ -18,9 +18,8 @@ use Rattle.syntax.specs.Form.{_>>=_, _>>_, check, is-some}
 use Rattle.syntax.specs.Path.{Name, Path, root, _▹_, rep, is-name, most-names, extended, names-from-top, path, without-rep, entry-at, entry-path}
 use Rattle.syntax.specs.PathLaws.{name-length}
 use Rattle.syntax.specs.FormLaws.{checked, answered}
-use Rattle.syntax.specs.declared.NextName.{NextName}
 use Rattle.syntax.specs.declared.NextName.the-variants
-use Rattle.syntax.specs.Parts.{part, next-name}
+use Rattle.syntax.specs.Parts.{part, next-name, names-read, names-of}
 use Rattle.syntax.specs.PartsLaws.{piece-end-le, pieces-first-from, pieces-only-from, pieces-some, joined-pieces, some-of-one}
 
 -- whether names still to be read, after some, are names of a path
@@ -201,20 +200,6 @@ entry-is-path t h e =
     let first : take 5 t ≡ bytes "/rep/" = same-text-sound (take 5 t) (bytes "/rep/") e in
     let begins : t ≡ bytes "/rep/" ++ drop 5 t = sym (take-append-drop 5 t) ∙ ap (λ (p : Text). p ++ drop 5 t) first in
     rw begins (path-after-rep (drop 5 t) (omega (arith, length-drop 5 t)))
-
--- the next name with those that are read behind it
-unfoldable pub names-of : Text → (ℕ → List Name) → NextName → List Name
-names-of t behind (the-variants.Name start end rest) = part t start end ∷ behind (rest .at)
-names-of t behind the-variants.End = []
-
--- the names that are read of a path from a place on, at most so many
-unfoldable pub names-read : Text → ℕ → ℕ → List Name
-names-read t at zero = []
-names-read t at (suc n) = names-of t (λ k. names-read t k n) (next-name t at)
-
--- the names of a path text in order
-unfoldable pub path-names : Text → List Name
-path-names t = names-read t 1 (length t)
 
 -- behind the end there are none
 pub names-read-past : (t : Text) (at n : ℕ) → length t ≤ at → names-read t at n ≡ []

@@ -5,8 +5,7 @@ use lib.ListN.{take, drop}
 use Rattle.buffers.specs.Text.{Text}
 use Rattle.accounts.specs.declared.Account.{Account}
 use Rattle.syntax.specs.Path.{Name, Path, parent}
-use Rattle.syntax.specs.Parts.{last-slash}
-use Rattle.syntax.specs.PathPartsLaws.{path-names}
+use Rattle.syntax.specs.Parts.{last-slash, path-names}
 use Rattle.walks.specs.declared.Walked.{Walked}
 use Rattle.walks.specs.declared.Walked.the-variants.{At, Refused}
 use Rattle.tree.specs.declared.Cause.the-variants.{Missing, NotDirectory}

@@ -14,8 +14,7 @@ use Rattle.buffers.specs.Text.{Text}
 use Rattle.accounts.specs.declared.Account.{Account}
 use Rattle.accounts.specs.declared.Right.the-variants.{X}
 use Rattle.syntax.specs.Path.{Name}
-use Rattle.syntax.specs.Parts.{last-slash}
-use Rattle.syntax.specs.PathPartsLaws.{path-names}
+use Rattle.syntax.specs.Parts.{last-slash, path-names}
 use Rattle.syntax.specs.FormLaws.{no-answer, answered}
 use Rattle.tree.specs.declared.Kind.the-variants.{File, Directory}
 use Rattle.tree.specs.declared.Cause.{Cause}

@@ -8,8 +8,7 @@ use lib.ListN.{take, drop}
 use Rattle.buffers.specs.Text.{Text}
 use Rattle.accounts.specs.declared.Account.{Account}
 use Rattle.syntax.specs.Path.{Name, Path, root, _▹_, parent, extended, path}
-use Rattle.syntax.specs.Parts.{last-slash}
-use Rattle.syntax.specs.PathPartsLaws.{path-names}
+use Rattle.syntax.specs.Parts.{last-slash, path-names}
 use Rattle.syntax.specs.ParentLaws.{path-names-of-path, parent-names}
 use Rattle.tree.specs.declared.Cause.{Cause}
 use Rattle.tree.specs.declared.Cause.the-variants.{Missing}

@@ -9,10 +9,10 @@ use borrow.Author.Needs.{needs}
 use Rattle.buffers.specs.Text.{Text}
 use Rattle.syntax.specs.Pieces.{comma, pieces}
 use Rattle.syntax.specs.Form.{by-form}
+use Rattle.syntax.specs.FieldPartsLaws.{Field-at, field-is, field-goes-on, field-inside, last-field, next-field, follow}
 use Rattle.commands.specs.Command.{forms}
 use Rattle.syntax.specs.Parts.{span-text}
 use Rattle.commands.specs.WordLaws.{no-word-more, finds-none}
-use Rattle.syntax.specs.FieldAtLaws.{Field-at, field-is, field-goes-on, field-inside, last-field, next-field, follow}
 use Rattle.commands.specs.ParsedLaws.{word-first}
 use Rattle.syntax.specs.PartsLaws.{pieces-some}
 use Rattle.commands.specs.declared.Found.the-variants.{Nothing}

@@ -9,7 +9,7 @@ use borrow.Author.Needs.{needs}
 use Rattle.buffers.specs.Text.{Text}
 use Rattle.syntax.specs.Pieces.{comma, pieces}
 use Rattle.syntax.specs.Parts.{part, span-text, number-of}
-use Rattle.syntax.specs.FieldAtLaws.{Field-at, field-is, field-goes-on, field-inside, last-piece, next-field}
+use Rattle.syntax.specs.FieldPartsLaws.{Field-at, field-is, field-goes-on, field-inside, last-piece, next-field}
 use Rattle.commands.specs.Parsed.{found}
 use Rattle.commands.specs.ParsedLaws.{uid-not-read, line-short, line-no-caller, line-no-command, line-found}
 use Rattle.commands.proofs.parser.parse.Statement.{statement}

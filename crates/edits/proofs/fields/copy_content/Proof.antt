@@ -2,8 +2,8 @@
 use mathlib.Core.Path.{_∙_}
 use native.Mathlib.Omega.{arith}
 use denote.Ref.{now}
-use Rattle.edits.specs.Written.{content-copied}
 use borrow.Author.Needs.{needs}
+use Rattle.edits.specs.WrittenLaws.{content-copied}
 use Rattle.edits.proofs.fields.copy_content.Statement.{statement}
 use Rattle.edits.proofs.fields.copy_content.Tie as tie
 

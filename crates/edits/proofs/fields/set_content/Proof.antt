@@ -5,7 +5,7 @@ use denote.Ref.{now}
 use Rattle.buffers.specs.Fields.{padded}
 use Rattle.buffers.specs.FieldsLaws.{length-padded}
 use Rattle.tree.specs.Layout.{content-width}
-use Rattle.edits.specs.Written.{piece-put}
+use Rattle.edits.specs.WrittenLaws.{piece-put}
 use borrow.Author.Needs.{needs}
 use Rattle.edits.proofs.fields.set_content.Statement.{statement}
 use Rattle.edits.proofs.fields.set_content.Tie as tie

@@ -1,8 +1,8 @@
 -- `edits::fields::set_group` meets its contract: one byte of the row.
 use native.Mathlib.Omega.{arith}
 use denote.Ref.{now}
-use Rattle.edits.specs.Written.{byte-put}
 use borrow.Author.Needs.{needs}
+use Rattle.edits.specs.WrittenLaws.{byte-put}
 use Rattle.edits.proofs.fields.set_group.Statement.{statement}
 use Rattle.edits.proofs.fields.set_group.Tie as tie
 

@@ -1,8 +1,8 @@
 -- `edits::fields::set_mode` meets its contract: one number of the row.
 use mathlib.Core.Path.{_∙_}
 use denote.Ref.{now}
-use Rattle.edits.specs.Written.{number-put}
 use borrow.Author.Needs.{needs}
+use Rattle.edits.specs.WrittenLaws.{number-put}
 use Rattle.edits.proofs.fields.set_mode.Statement.{statement}
 use Rattle.edits.proofs.fields.set_mode.Tie as tie
 

@@ -1,13 +1,13 @@
 -- `edits::fields::set_tag` meets its contract: a text and the number behind it.
 use mathlib.Core.Path.{ap, _∙_}
 use mathlib.Core.List.{List}
-use Prim.Native.Nat.{ℕ, _+_, _*_}
+use Prim.Native.Nat.{ℕ, _+_}
 use native.Mathlib.Omega.{arith}
 use lib.Seq.{paste}
 use denote.Ref.{now}
 use Rattle.buffers.specs.Fields.{two-bytes}
 use Rattle.tree.specs.Layout.{row-start, tag-revision-offset}
-use Rattle.edits.specs.Written.{tag-put}
+use Rattle.edits.specs.WrittenLaws.{tag-put}
 use borrow.Author.Needs.{needs}
 use Rattle.edits.proofs.fields.set_tag.Statement.{statement}
 use Rattle.edits.proofs.fields.set_tag.Tie as tie

@@ -1,14 +1,14 @@
 -- `edits::fields::set_tag_below` meets its contract: a text copied, a slash and a name behind it, and the number.
 use mathlib.Core.Path.{_≡_, ap, _∙_}
 use mathlib.Core.List.{List}
-use Prim.Native.Nat.{ℕ, _+_, _-_, _*_}
+use Prim.Native.Nat.{ℕ, _+_, _-_}
 use lib.ListN.{length, set, length-set}
 use lib.Seq.{paste}
 use denote.Ref.{now}
 use Rattle.buffers.specs.Fields.{two-bytes, padded}
 use Rattle.tree.specs.Layout.{row-start}
 use Rattle.tree.specs.RowAt.{tag-text-at}
-use Rattle.edits.specs.Written.{tag-below-put}
+use Rattle.edits.specs.WrittenLaws.{tag-below-put}
 use native.Mathlib.Omega.{arith}
 use borrow.Author.Needs.{needs}
 use Rattle.edits.proofs.fields.set_tag_below.Statement.{statement}

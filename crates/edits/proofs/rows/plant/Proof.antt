@@ -9,7 +9,7 @@ use Rattle.buffers.specs.Fields.{two-bytes}
 use Rattle.tree.specs.Layout.{row-width}
 use Rattle.tree.specs.Encoding.{row-bytes}
 use Rattle.edits.specs.Changes.{fresh-node}
-use Rattle.edits.specs.Written.{planted-tree}
+use Rattle.edits.specs.WrittenLaws.{planted-tree}
 use borrow.Author.Needs.{needs}
 use Rattle.edits.proofs.rows.plant.Statement.{statement}
 use Rattle.edits.proofs.rows.plant.Tie as tie

@@ -1,7 +1,7 @@
 -- `edits::rows::put_child` meets its contract: the rows behind move up, the row is written, and the count.
 use mathlib.Core.Path.{ap, _∙_}
 use mathlib.Core.List.{List}
-use Prim.Native.Nat.{ℕ, _+_, _*_}
+use Prim.Native.Nat.{ℕ, _+_}
 use native.Mathlib.Omega.{arith}
 use lib.Seq.{paste}
 use denote.Ref.{now}
@@ -9,7 +9,7 @@ use Rattle.buffers.specs.Fields.{two-bytes}
 use Rattle.tree.specs.Layout.{row-width, row-start}
 use Rattle.tree.specs.Encoding.{row-bytes}
 use Rattle.edits.specs.Changes.{fresh-node}
-use Rattle.edits.specs.Written.{put-written}
+use Rattle.edits.specs.WrittenLaws.{put-written}
 use borrow.Author.Needs.{needs}
 use Rattle.edits.proofs.rows.put_child.Statement.{statement}
 use Rattle.edits.proofs.rows.put_child.Tie as tie

@@ -7,7 +7,7 @@ use lib.Seq.{paste}
 use denote.Ref.{now}
 use Rattle.buffers.specs.Fields.{two-bytes}
 use Rattle.tree.specs.Layout.{row-width, row-start}
-use Rattle.edits.specs.Written.{put-written}
+use Rattle.edits.specs.WrittenLaws.{put-written}
 use borrow.Author.Needs.{needs}
 use Rattle.edits.proofs.rows.put_rows.Statement.{statement}
 use Rattle.edits.proofs.rows.put_rows.Tie as tie

@@ -1,14 +1,14 @@
 -- `edits::rows::take_rows` meets its contract: the rows behind move down, zeros follow them, and the count is written.
 use mathlib.Core.Path.{ap, _∙_}
 use mathlib.Core.List.{List}
-use Prim.Native.Nat.{ℕ, _+_, _-_, _*_}
+use Prim.Native.Nat.{ℕ, _-_, _*_}
 use native.Mathlib.Omega.{arith}
 use lib.ListN.{replicate}
 use lib.Seq.{paste}
 use denote.Ref.{now}
 use Rattle.buffers.specs.Fields.{two-bytes}
 use Rattle.tree.specs.Layout.{row-width, row-start}
-use Rattle.edits.specs.Written.{taken-written}
+use Rattle.edits.specs.WrittenLaws.{taken-written}
 use borrow.Author.Needs.{needs}
 use Rattle.edits.proofs.rows.take_rows.Statement.{statement}
 use Rattle.edits.proofs.rows.take_rows.Tie as tie

@@ -6,7 +6,7 @@ use native.Mathlib.Omega.{arith}
 use lib.Seq.{paste}
 use denote.Ref.{now}
 use Rattle.buffers.specs.Fields.{two-bytes}
-use Rattle.edits.specs.Written.{head-written}
+use Rattle.edits.specs.WrittenLaws.{head-written}
 use borrow.Author.Needs.{needs}
 use Rattle.edits.proofs.rows.write_head.Statement.{statement}
 use Rattle.edits.proofs.rows.write_head.Tie as tie

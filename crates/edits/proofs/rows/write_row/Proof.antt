@@ -8,7 +8,7 @@ use lib.Seq.{paste}
 use denote.Ref.{now}
 use Rattle.buffers.specs.Fields.{padded}
 use Rattle.tree.specs.Layout.{name-width}
-use Rattle.edits.specs.Written.{fresh-row, row-written}
+use Rattle.edits.specs.WrittenLaws.{row-written}
 use borrow.Author.Needs.{needs}
 use Rattle.edits.proofs.rows.write_row.Statement.{statement}
 use Rattle.edits.proofs.rows.write_row.Tie as tie
@@ -32,7 +32,7 @@ same-length : tie.Need-same-length
 same-length c = search needs
 
 returns : tie.Need-returns
-unfolding fresh-row
+unfolding
 returns c =
     let z = c .before .before in
     let p = z .before .before .before .before in

@@ -5,8 +5,8 @@ use denote.Ref.{now}
 use Prim.Native.Nat.{_+_, _≤_}
 use lib.ListN.{length}
 use Rattle.buffers.specs.Text.{Text}
+use Rattle.syntax.specs.FieldPartsLaws.{Field-at, field-is, field-goes-on, field-inside, last-piece, next-piece, last-field, next-field, follow}
 use Rattle.setup.specs.Reader.{reading-value}
-use Rattle.syntax.specs.FieldAtLaws.{Field-at, field-is, field-goes-on, field-inside, last-piece, next-piece, last-field, next-field, follow}
 use Rattle.setup.specs.ReaderLaws.{unread}
 use Rattle.setup.specs.SetupLineLaws.{line-long, line-fields, line-of-one, line-of-two, line-of-more}
 use borrow.Author.Needs.{needs}

@@ -102,19 +102,19 @@ cast-depth c = omega arith
 returns-2 : tie.Need-returns-2 Inv-loop μ-loop
 returns-2 c = too-deep (c .before .before .before .before .before .loop .inv) (omega arith) (omega arith)
 
-mul-follows : tie.Need-mul-follows Inv-loop μ-loop
-mul-follows c = omega arith
+mul-may-follow : tie.Need-mul-may-follow Inv-loop μ-loop
+mul-may-follow c = omega arith
 
-array-read-follows : tie.Need-array-read-follows Inv-loop μ-loop
-array-read-follows c = omega arith
+array-read-may-follow : tie.Need-array-read-may-follow Inv-loop μ-loop
+array-read-may-follow c = omega arith
 
-follows-requires : tie.Need-follows-requires Inv-loop μ-loop
-follows-requires c κs = let g = c .before .before .before .before .before .loop .inv in (omega arith, (record { wide = omega arith; low = seen g (c .before .depth-at .result) }, (g .some, omega arith)))
+may-follow-requires : tie.Need-may-follow-requires Inv-loop μ-loop
+may-follow-requires c κs = let g = c .before .before .before .before .before .loop .inv in (omega arith, (record { wide = omega arith; low = seen g (c .before .depth-at .result) }, (g .some, omega arith)))
 
 returns-3 : tie.Need-returns-3 Inv-loop μ-loop
 returns-3 c =
     let d = c .before .before .before .depth-at in
-    astray (c .before .before .before .before .before .before .before .loop .inv) (d .result) (d .ensures) (omega arith) (c .before .follows .ensures) (c .if3 .taken)
+    astray (c .before .before .before .before .before .before .before .loop .inv) (d .result) (d .ensures) (omega arith) (c .before .may-follow .ensures) (c .if3 .taken)
 
 mul-last : tie.Need-mul-last Inv-loop μ-loop
 mul-last c = omega arith
@@ -132,7 +132,7 @@ loop-again : tie.Need-loop-again Inv-loop μ-loop
 loop-again c =
     let d = c .before .before .before .depth-at in
     let row = answers-true (c .before .before .before .before .before .is-row .ensures) (c .before .before .before .before .if1 .left) in
-    one-more (c .before .before .before .before .before .before .before .loop .inv) (d .result) (d .ensures) (omega arith) (omega arith) (omega arith) row (c .before .follows .ensures) (c .if3 .left)
+    one-more (c .before .before .before .before .before .before .before .loop .inv) (d .result) (d .ensures) (omega arith) (omega arith) (omega arith) row (c .before .may-follow .ensures) (c .if3 .left)
 
 returns-4 : tie.Need-returns-4 Inv-loop μ-loop
 returns-4 c = ends (c .before .loop .inv) (omega arith)
@@ -149,9 +149,9 @@ in-order-spec =
     depth-at-requires
     cast-depth
     returns-2
-    mul-follows
-    array-read-follows
-    follows-requires
+    mul-may-follow
+    array-read-may-follow
+    may-follow-requires
     returns-3
     mul-last
     array-write-last

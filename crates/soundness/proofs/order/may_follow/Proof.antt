@@ -1,4 +1,4 @@
--- `soundness::order::follows` meets its contract: each return by the name, the depth, the kind of the row before, or the order of the names.
+-- `soundness::order::may_follow` meets its contract: each return by the name, the depth, the kind of the row before, or the order of the names.
 use mathlib.Core.Path.{_≡_, sym, _∙_, ap}
 use Prim.Native.Nat.{_-_}
 use native.Mathlib.Omega.{arith}
@@ -11,8 +11,8 @@ use Rattle.tree.specs.RowAt.{row-at}
 use Rattle.soundness.specs.Sound.{may-follow}
 use Rattle.soundness.specs.OrderTestLaws.{follow-name, follow-top, follow-far, follow-below, follow-beside}
 use borrow.Author.Needs.{needs}
-use Rattle.soundness.proofs.order.follows.Statement.{statement}
-use Rattle.soundness.proofs.order.follows.Tie as tie
+use Rattle.soundness.proofs.order.may_follow.Statement.{statement}
+use Rattle.soundness.proofs.order.may_follow.Tie as tie
 
 depth-at-requires : tie.Need-depth-at-requires
 depth-at-requires c κs = search needs
@@ -117,8 +117,8 @@ returns-7 : tie.Need-returns-7
 unfolding is-before
 returns-7 c = sym (by-order ((c .before .before)) ∙ ap is-before (c .enum-told3 .given .1))
 
-pub follows-spec : {M : Type 1} → statement M
-follows-spec =
+pub may-follow-spec : {M : Type 1} → statement M
+may-follow-spec =
     tie.close
     (tie.spec
     depth-at-requires

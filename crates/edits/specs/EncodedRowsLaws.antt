@@ -17,7 +17,7 @@ use Rattle.tree.specs.Rows.{Row, rows}
 use Rattle.tree.specs.WellFormed.{most-nodes}
 use Rattle.tree.specs.Encoding.{row-bytes, encode-rows, encode-tree}
 use Rattle.tree.specs.RowAt.{row-count}
-use Rattle.edits.specs.Changes.{rows-put, rows-taken, field-at, field-put}
+use Rattle.edits.specs.Changes.{rows-put, rows-taken, field-bytes, field-put}
 
 -- ---- bytes in pieces
 
@@ -71,8 +71,8 @@ module _ (C : List ℕ) (lC : length C ≡ 2) where
 
 module _ (A B old : List ℕ) (i k : ℕ) (l : length A ≡ row-start i + k) where
   -- a field is read where it stands
-  field-read : field-at (A ++ (old ++ B)) i k (length old) ≡ old
-  unfolding field-at
+  field-read : field-bytes (A ++ (old ++ B)) i k (length old) ≡ old
+  unfolding field-bytes
   field-read = ap (take (length old)) (drop-at A (old ++ B) (row-start i + k) l) ∙ take-at old B (length old) refl
 
   -- and written there
@@ -88,8 +88,8 @@ unfolding encode-tree
 encode-tree-rows t = refl
 
 -- rows that take their widths
-abbrev pub Wide : List (Row Node) → Type 0
-Wide rs = length (all-bytes row-bytes rs) ≡ length rs * row-width
+abbrev pub Rows-wide : List (Row Node) → Type 0
+Rows-wide rs = length (all-bytes row-bytes rs) ≡ length rs * row-width
 
 -- the bytes of rows one behind the other
 pub all-append : (xs ys : List (Row Node)) → all-bytes row-bytes (xs ++ ys) ≡ all-bytes row-bytes xs ++ all-bytes row-bytes ys
@@ -119,7 +119,7 @@ unfolding row-count
 count-of n R = number-at-bytes [] R 0 n refl
 
 -- rows read from where they stand
-pub table-part : (xs ms ys : List (Row Node)) → Wide xs → Wide ms
+pub table-part : (xs ms ys : List (Row Node)) → Rows-wide xs → Rows-wide ms
     → take (row-width * length ms) (drop (row-start (length xs)) (encode-rows (xs ++ (ms ++ ys)))) ≡ all-bytes row-bytes ms
 table-part xs ms ys wx wm =
     let X = all-bytes row-bytes xs in
@@ -136,7 +136,7 @@ table-part xs ms ys wx wm =
     ∙ take-at M (Y ++ Z) (row-width * length ms) (omega arith)
 
 -- rows put in
-pub table-put : (xs ns ys : List (Row Node)) (Q : List ℕ) → Wide xs → Wide ns → Wide ys → length xs + length ys + length ns ≤ 256
+pub table-put : (xs ns ys : List (Row Node)) (Q : List ℕ) → Rows-wide xs → Rows-wide ns → Rows-wide ys → length xs + length ys + length ns ≤ 256
     → rows-put (encode-rows (xs ++ ys)) (length xs) (length ns) (all-bytes row-bytes ns ++ Q) ≡ encode-rows (xs ++ (ns ++ ys))
 table-put xs ns ys Q wx wn wy few =
     let i = length xs in
@@ -163,7 +163,7 @@ table-put xs ns ys Q wx wn wy few =
     ∙ sym is
 
 -- rows taken out
-pub table-taken : (xs ms ys : List (Row Node)) → Wide xs → Wide ms → Wide ys → length xs + length ms + length ys ≤ 256
+pub table-taken : (xs ms ys : List (Row Node)) → Rows-wide xs → Rows-wide ms → Rows-wide ys → length xs + length ms + length ys ≤ 256
     → rows-taken (encode-rows (xs ++ (ms ++ ys))) (length xs) (length ms) ≡ encode-rows (xs ++ ys)
 table-taken xs ms ys wx wm wy few =
     let i = length xs in
@@ -194,7 +194,7 @@ table-taken xs ms ys wx wm wy few =
     ∙ sym is
 
 -- a field of a row: P stands before it in the row and Q behind it
-module _ (xs ys : List (Row Node)) (P Q : List ℕ) (w : Wide xs) where
+module _ (xs ys : List (Row Node)) (P Q : List ℕ) (w : Rows-wide xs) where
   -- all that stands before the field, and all behind it
   front : List ℕ
   front = two-bytes (length xs + suc (length ys)) ++ (all-bytes row-bytes xs ++ P)
@@ -224,9 +224,9 @@ module _ (xs ys : List (Row Node)) (P Q : List ℕ) (w : Wide xs) where
 
   module _ (k : ℕ) (l : length P ≡ k) (r : Row Node) (old : List ℕ) (e : row-bytes r ≡ P ++ (old ++ Q)) where
     -- read from the encoding
-    pub table-field-at : field-at (encode-rows (xs ++ r ∷ ys)) (length xs) k (length old) ≡ old
+    pub table-field-at : field-bytes (encode-rows (xs ++ r ∷ ys)) (length xs) k (length old) ≡ old
     table-field-at =
-        ap (λ (b : List ℕ). field-at b (length xs) k (length old)) (field-between r old e)
+        ap (λ (b : List ℕ). field-bytes b (length xs) k (length old)) (field-between r old e)
         ∙ field-read front back old (length xs) k (length-front k l)
 
     -- and written into it: the encoding of the rows with that field changed

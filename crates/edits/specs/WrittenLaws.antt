@@ -11,14 +11,13 @@ use Rattle.buffers.specs.FieldsLaws.{length-padded, length-two-bytes, text-part
 use Rattle.buffers.specs.PasteLaws.{paste-two, paste-join, set-paste, set-behind, gap-filled}
 use Rattle.tree.specs.Layout.{row-width, tree-width, row-start, name-width, tag-offset, tag-width, tag-revision-offset, content-offset, content-width}
 use Rattle.tree.specs.Forest.{leaf}
-use Rattle.tree.specs.Node.{Node}
-use Rattle.tree.specs.Rows.{Row, flatten, rows}
+use Rattle.tree.specs.Rows.{flatten, rows}
 use Rattle.tree.specs.WellFormed.{most-nodes}
 use Rattle.tree.specs.Encoding.{kind-byte, tag-bytes, row-bytes, encode-rows, encode-tree}
 use Rattle.tree.specs.RowAt.{row-count, tag-text-at}
 use Rattle.tree.specs.RowAtLaws.{text-in-row}
 use Rattle.edits.specs.declared.Fresh.{Fresh}
-use Rattle.edits.specs.Changes.{rows-put, rows-taken, field-at, field-put, fresh-node, head-bytes}
+use Rattle.edits.specs.Changes.{rows-put, rows-taken, field-bytes, field-put, fresh-node, head-bytes, fresh-row}
 
 -- ---- a field
 
@@ -86,8 +85,8 @@ tag-below-put b m i above n v e h q l =
 
 -- a content copied from another row
 pub content-copied : (b : List ℕ) (from to : ℕ) → length b ≡ tree-width → from < 256
-    → paste b (row-start to + content-offset) (drop (row-start from + content-offset) b) 80 ≡ field-put b to content-offset (field-at b from content-offset content-width)
-unfolding field-at
+    → paste b (row-start to + content-offset) (drop (row-start from + content-offset) b) 80 ≡ field-put b to content-offset (field-bytes b from content-offset content-width)
+unfolding field-bytes
 content-copied b from to e h =
     let D = drop (row-start from + content-offset) b in
     let l : 80 ≤ length D = omega (arith, length-drop (row-start from + content-offset) b) in
@@ -108,20 +107,16 @@ head-written b at depth f h =
     ∙ paste-join b (K ++ M) (two-bytes (f .revision)) at 6 2 refl refl (omega arith)
 
 module _ (depth : ℕ) (name : List ℕ) (f : Fresh) where
-  -- the row of a new node
-  unfoldable pub fresh-row : Row Node
-  fresh-row = record { depth = depth; name = name; here = fresh-node f }
-
   length-head : length (head-bytes depth f) ≡ 8
   unfolding head-bytes two-bytes
   length-head = refl
 
   -- behind the name there are only zeros
-  fresh-parts : row-bytes fresh-row ≡ head-bytes depth f ++ padded name-width name ++ replicate 216 0
-  unfolding fresh-row row-bytes head-bytes two-bytes fresh-node tag-bytes padded
+  fresh-parts : row-bytes (fresh-row depth name f) ≡ head-bytes depth f ++ padded name-width name ++ replicate 216 0
+  unfolding row-bytes head-bytes two-bytes fresh-node tag-bytes padded
   fresh-parts = refl
 
-  pub length-fresh : length name ≤ 8 → length (row-bytes fresh-row) ≡ row-width
+  pub length-fresh : length name ≤ 8 → length (row-bytes (fresh-row depth name f)) ≡ row-width
   length-fresh h =
       let H = head-bytes depth f in
       let N = padded name-width name in
@@ -132,7 +127,7 @@ module _ (depth : ℕ) (name : List ℕ) (f : Fresh) where
 
   -- what is written piece by piece is the row
   pub row-written : (b : List ℕ) (at : ℕ) → at + row-width ≤ length b → length name ≤ 8
-      → paste (paste (paste b at (head-bytes depth f) 8) (at + 8) (padded name-width name) 8) (at + 16) (replicate 216 0) 216 ≡ paste b at (row-bytes fresh-row) row-width
+      → paste (paste (paste b at (head-bytes depth f) 8) (at + 8) (padded name-width name) 8) (at + 16) (replicate 216 0) 216 ≡ paste b at (row-bytes (fresh-row depth name f)) row-width
   row-written b at fits h =
       let H = head-bytes depth f in
       let N = padded name-width name in
@@ -220,7 +215,7 @@ planted b r w n e l =
 pub planted-tree : (b : List ℕ) (f : Fresh) → length b ≡ tree-width
     → paste (paste (paste b 0 (replicate tree-width 0) tree-width) 0 (two-bytes 1) 2) 2 (row-bytes (record { depth = 0; name = []; here = fresh-node f })) row-width
     ≡ encode-tree (leaf (fresh-node f))
-unfolding encode-tree encode-rows all-bytes rows leaf flatten fresh-row most-nodes
+unfolding encode-tree encode-rows all-bytes rows leaf flatten most-nodes
 planted-tree b f e =
     let r = row-bytes (fresh-row 0 [] f) in
     planted b r row-width 59160 e (length-fresh 0 [] f (omega arith))

@@ -1,4 +1,4 @@
--- `soundness::is_top` meets its contract: each return by one field of the row.
+-- `soundness::is_top_row` meets its contract: each return by one field of the row.
 use Rattle.soundness.specs.SoundTestLaws.{top-depth, top-name, top-kind}
 use mathlib.Core.Path.{sym, _∙_, ap}
 use lib.ListN.{length}
@@ -6,8 +6,8 @@ use denote.Ref.{now}
 use Rattle.tree.specs.Node.{is-directory}
 use Rattle.tree.specs.RowAt.{row-at}
 use borrow.Author.Needs.{needs}
-use Rattle.soundness.proofs.is_top.Statement.{statement}
-use Rattle.soundness.proofs.is_top.Tie as tie
+use Rattle.soundness.proofs.is_top_row.Statement.{statement}
+use Rattle.soundness.proofs.is_top_row.Tie as tie
 
 depth-at-requires : tie.Need-depth-at-requires
 depth-at-requires c κs = search needs
@@ -34,8 +34,8 @@ returns-3 c =
     let name = sym (ap length (c .before .before .before .name-at .ensures)) ∙ c .before .before .if2 .left in
     c .is-directory .ensures ∙ ap is-directory (c .before .kind-at .ensures) ∙ sym (top-kind r depth name)
 
-pub is-top-spec : {M : Type 1} → statement M
-is-top-spec =
+pub is-top-row-spec : {M : Type 1} → statement M
+is-top-row-spec =
     tie.close
     (tie.spec
     depth-at-requires
