@@ -1,5 +1,5 @@
 -- Command lines: `uid,command,arguments`, the 17 forms of document 01.
-use mathlib.Core.List.{List, [], _∷_}
+use mathlib.Core.List.{List, [], _∷_, map}
 use mathlib.Core.Option.{Option, none, some}
 use mathlib.Core.Bool.{Bool, true, false, _&&_, _||_}
 use Prim.Native.Nat.{ℕ}
@@ -9,10 +9,15 @@ use Rattle.accounts.specs.declared.Uid.{Uid}
 use Rattle.accounts.specs.declared.Gid.{Gid}
 use Rattle.accounts.specs.Dominance.{Bounded-role}
 use Rattle.syntax.specs.Pieces.{bytes, comma, pieces}
-use Rattle.syntax.specs.Number.{mode, is-mode}
-use Rattle.syntax.specs.Form.{_>>=_, Form, none-of, one-of, two-of, three-of, by-form}
-use Rattle.syntax.specs.Path.{Path, Entry-path, is-name, is-path, is-entry-path, path, entry-path}
-use Rattle.syntax.specs.Field.{uid, gid, role, plain-mode, password, is-content, content}
+use Rattle.syntax.specs.Number.{is-mode}
+use Rattle.syntax.specs.Form.{_>>=_, Form, by-form}
+use Rattle.syntax.specs.Path.{Path, Entry-path, is-name, is-path, is-entry-path}
+use Rattle.syntax.specs.Field.{uid, is-content}
+use Rattle.commands.specs.declared.Word.{Word}
+use Rattle.commands.specs.declared.Word.the-variants.{Create, Mkdir, Read, Write, Rm, Rmdir, Mv, Chmod, Chgrp, Chown, Login, Logout, Add, Co, Commit, Up, Del}
+use Rattle.commands.specs.declared.ArgumentKind.{ArgumentKind}
+use Rattle.commands.specs.declared.ArgumentKind.the-variants as a
+use Rattle.commands.specs.Kinds.{Makes, arguments-of}
 
 pub data Shell-command : Type 0 where
   create mkdir : Path → ℕ → Shell-command
@@ -68,29 +73,46 @@ pub record Line : Type 0 where
   pub caller : Uid
   pub command : Command
 
--- a form of a shell or repository command
-unfoldable pub form : Text → (List Text → Option Command) → Form Command
-form w read-arguments = record { word = w; arguments = read-arguments }
+-- a word, the kinds of its arguments, and the command that they make
+pub record Listed : Type 0 where
+  pub spelling : Text
+  pub kinds : List ArgumentKind
+  pub makes : Makes kinds Command
+
+unfoldable pub takes : Text → (ks : List ArgumentKind) → Makes ks Command → Listed
+takes w ks x = record { spelling = w; kinds = ks; makes = x }
+
+unfoldable pub listed : Word → Listed
+unfolding takes
+listed Create = takes (bytes "create") (a.Path ∷ (a.Plain ∷ [])) (λ p m. shell (create p m))
+listed Mkdir = takes (bytes "mkdir") (a.Path ∷ (a.Mode ∷ [])) (λ p m. shell (mkdir p m))
+listed Read = takes (bytes "read") (a.Path ∷ []) (λ p. shell (read p))
+listed Write = takes (bytes "write") (a.Path ∷ (a.Content ∷ [])) (λ p c. shell (write p c))
+listed Rm = takes (bytes "rm") (a.Path ∷ []) (λ p. shell (rm p))
+listed Rmdir = takes (bytes "rmdir") (a.Path ∷ []) (λ p. shell (rmdir p))
+listed Mv = takes (bytes "mv") (a.Path ∷ (a.Path ∷ [])) (λ a b. shell (mv a b))
+listed Chmod = takes (bytes "chmod") (a.Path ∷ (a.Mode ∷ [])) (λ p m. shell (chmod p m))
+listed Chgrp = takes (bytes "chgrp") (a.Path ∷ (a.Gid ∷ [])) (λ p g. shell (chgrp p g))
+listed Chown = takes (bytes "chown") (a.Path ∷ (a.Uid ∷ [])) (λ p u. shell (chown p u))
+listed Login = takes (bytes "login") (a.Role ∷ (a.Password ∷ [])) (λ r w. repository (login r w))
+listed Logout = takes (bytes "logout") [] (repository logout)
+listed Add = takes (bytes "add") (a.Path ∷ (a.Entry ∷ (a.Role ∷ []))) (λ w e r. repository (add w e r))
+listed Co = takes (bytes "co") (a.Entry ∷ (a.Path ∷ [])) (λ e d. repository (co e d))
+listed Commit = takes (bytes "commit") (a.Path ∷ []) (λ w. repository (commit w))
+listed Up = takes (bytes "up") (a.Path ∷ []) (λ w. repository (up w))
+listed Del = takes (bytes "del") (a.Entry ∷ []) (λ e. repository (del e))
+
+unfoldable pub words : List Word
+words =
+    Create ∷ Mkdir ∷ Read ∷ Write ∷ Rm ∷ Rmdir ∷ Mv ∷ Chmod ∷ Chgrp ∷ Chown ∷
+    Login ∷ Logout ∷ Add ∷ Co ∷ Commit ∷ Up ∷ Del ∷ []
+
+-- the form of a shell or repository command
+unfoldable pub form : Word → Form Command
+form w = record { word = listed w .spelling; arguments = arguments-of (listed w .kinds) (listed w .makes) }
 
 unfoldable pub forms : List (Form Command)
-forms =
-    form (bytes "create") (two-of path plain-mode (λ p m. shell (create p m))) ∷
-    form (bytes "mkdir") (two-of path mode (λ p m. shell (mkdir p m))) ∷
-    form (bytes "read") (one-of path (λ p. shell (read p))) ∷
-    form (bytes "write") (two-of path content (λ p c. shell (write p c))) ∷
-    form (bytes "rm") (one-of path (λ p. shell (rm p))) ∷
-    form (bytes "rmdir") (one-of path (λ p. shell (rmdir p))) ∷
-    form (bytes "mv") (two-of path path (λ a b. shell (mv a b))) ∷
-    form (bytes "chmod") (two-of path mode (λ p m. shell (chmod p m))) ∷
-    form (bytes "chgrp") (two-of path gid (λ p g. shell (chgrp p g))) ∷
-    form (bytes "chown") (two-of path uid (λ p u. shell (chown p u))) ∷
-    form (bytes "login") (two-of role password (λ r w. repository (login r w))) ∷
-    form (bytes "logout") (none-of (repository logout)) ∷
-    form (bytes "add") (three-of path entry-path role (λ w e r. repository (add w e r))) ∷
-    form (bytes "co") (two-of entry-path path (λ e d. repository (co e d))) ∷
-    form (bytes "commit") (one-of path (λ w. repository (commit w))) ∷
-    form (bytes "up") (one-of path (λ w. repository (up w))) ∷
-    form (bytes "del") (one-of entry-path (λ e. repository (del e))) ∷ []
+forms = map form words
 
 -- the caller, the word and the arguments
 unfoldable pub line-of : List Text → Option Line

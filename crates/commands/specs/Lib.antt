@@ -1,6 +1,9 @@
+pub mod Kinds
+pub mod KindsLaws
 pub mod Command
 pub mod CommandLaws
+pub mod Words
+pub mod WordsLaws
 pub mod Parsed
-pub mod WordLaws
 pub mod ParsedLaws
 pub mod Compute

@@ -1,30 +1,32 @@
 -- What the code's commands mean: the command of document 01's forms, with the parts of the line that it holds.
 --
--- `parsed` and `found` give each case its meaning; a part that lies outside the line, or that has not the form of its field, has
--- none, so the promises of `parse` and its helpers also say that every part lies inside and has its form.
+-- `parsed` gives each case its meaning; a part that lies outside the line, or that has not the form of its field, has none, so
+-- the promise of `parse` also says that every part lies inside and has its form.
+use mathlib.Core.Path.{_≡_}
 use mathlib.Core.List.{List, [], _∷_}
 use mathlib.Core.Option.{Option, none, some}
+use mathlib.Core.Bool.{cond}
+use Prim.Native.Nat.{ℕ}
+use lib.Dec.{eqb, leb}
+use lib.ListN.{length, take}
 use Rattle.buffers.specs.Text.{Text}
 use Rattle.accounts.specs.declared.Uid.{Uid}
 use Rattle.syntax.specs.declared.Span.{Span}
 use Rattle.commands.specs.declared.Command.{Command as Parts}
 use Rattle.commands.specs.declared.Command.the-variants.{Create, Mkdir, Read, Write, Rm, Rmdir, Mv, Chmod, Chgrp, Chown, Login, Logout, Add, Co, Commit, Up, Del}
-use Rattle.commands.specs.declared.Found.{Found}
-use Rattle.commands.specs.declared.Found.the-variants.{Command as Is, Nothing}
+use Rattle.commands.specs.declared.Word.{Word}
+use Rattle.commands.specs.declared.Shape.{Shape}
+use Rattle.commands.specs.declared.Fields.{Fields}
+use Rattle.commands.specs.declared.Numbers.{Numbers}
+use Rattle.commands.specs.declared.Numbers.the-variants.{Read as Numbers-read, Wrong}
 use Rattle.commands.specs.declared.Parsed.{Parsed}
 use Rattle.commands.specs.declared.Parsed.the-variants.{Line as Is-line, NoForm}
 use Rattle.syntax.specs.Form.{_>>=_, by-form}
-use Rattle.syntax.specs.Path.{Path, Entry-path, path, entry-path}
+use Rattle.syntax.specs.Path.{Path, Entry-path}
 use Rattle.syntax.specs.Field.{bounded}
-use Rattle.commands.specs.Command.{create, mkdir, read, write, rm, rmdir, mv, chmod, chgrp, chown, login, logout, add, co, commit, up, del, Command, shell, repository, Line, forms}
-use Rattle.syntax.specs.Parts.{Inside, text-in}
-
--- the path and the entry path at a part
-unfoldable pub path-in : Text → Span → Option Path
-path-in t s = text-in t s >>= path
-
-unfoldable pub entry-in : Text → Span → Option Entry-path
-entry-in t s = text-in t s >>= entry-path
+use Rattle.commands.specs.Command.{create, mkdir, read, write, rm, rmdir, mv, chmod, chgrp, chown, login, logout, add, co, commit, up, del, Command, shell, repository, Line, listed, forms}
+use Rattle.syntax.specs.Parts.{Inside, span-text, text-in}
+use Rattle.commands.specs.Kinds.{number-in, path-in, entry-in, Argument, values-of}
 
 -- a command with the one or the other
 unfoldable pub with-path : Text → Span → (Path → Command) → Option Command
@@ -37,7 +39,7 @@ unfoldable pub meaning : Text → Parts → Option Command
 meaning t (Create p m) = with-path t p (λ q. shell (create q m))
 meaning t (Mkdir p m) = with-path t p (λ q. shell (mkdir q m))
 meaning t (Read p) = with-path t p (λ q. shell (read q))
-meaning t (Write p c) = text-in t c >>= λ x. with-path t p (λ q. shell (write q x))
+meaning t (Write p c) = path-in t p >>= λ q. text-in t c >>= λ x. some (shell (write q x))
 meaning t (Rm p) = with-path t p (λ q. shell (rm q))
 meaning t (Rmdir p) = with-path t p (λ q. shell (rmdir q))
 meaning t (Mv a b) = path-in t a >>= λ p. with-path t b (λ q. shell (mv p q))
@@ -46,11 +48,19 @@ meaning t (Chgrp p g) = with-path t p (λ q. shell (chgrp q g))
 meaning t (Chown p u) = with-path t p (λ q. shell (chown q u))
 meaning t (Login r w) = bounded (r .0) >>= λ z. text-in t w >>= λ x. some (repository (login z x))
 meaning t Logout = some (repository logout)
-meaning t (Add w e r) = path-in t w >>= λ p. bounded (r .0) >>= λ z. with-entry t e (λ q. repository (add p q z))
+meaning t (Add w e r) = path-in t w >>= λ p. entry-in t e >>= λ q. bounded (r .0) >>= λ z. some (repository (add p q z))
 meaning t (Co e d) = entry-in t e >>= λ q. with-path t d (λ p. repository (co q p))
 meaning t (Commit w) = with-path t w (λ q. repository (commit q))
 meaning t (Up w) = with-path t w (λ q. repository (up q))
 meaning t (Del e) = with-entry t e (λ q. repository (del q))
+
+-- the arguments of a command that were read, with their numbers
+abbrev pub arguments : Fields → ℕ → ℕ → ℕ → List Argument
+arguments f n m l = record { part = f .first; number = n } ∷ (record { part = f .second; number = m } ∷ (record { part = f .third; number = l } ∷ []))
+
+-- a command is made of a word and its arguments: over every line it means what they make
+pub record Makes-of (w : Word) (vs : List Argument) (c : Parts) : Type 0 where
+  pub means : (t : Text) → meaning t c ≡ values-of (listed w .kinds) (listed w .makes) t vs
 
 -- every part of a command lies inside the line
 unfoldable pub Placed : Text → Parts → Type 0
@@ -72,11 +82,7 @@ Placed t (Commit w) = Inside w t
 Placed t (Up w) = Inside w t
 Placed t (Del e) = Inside e t
 
--- nothing found, or what was found with its meaning
-unfoldable pub found : Text → Found → Option (Option Command)
-found t (Is c) = some (meaning t c)
-found t Nothing = none
-
+-- no form, or the line of a caller and a command with its meaning
 unfoldable pub line-with : Uid → Option Command → Option Line
 line-with u k = k >>= λ c. some (record { caller = u; command = c })
 
@@ -88,3 +94,37 @@ parsed t NoForm = none
 unfoldable pub command-of : List Text → Option Command
 command-of [] = none
 command-of (w ∷ arguments) = by-form forms w arguments
+
+-- a list of at most so many texts
+unfoldable pub at-most : ℕ → List Text → Option (List Text)
+at-most n ts = cond (leb (length ts) n) (some ts) none
+
+-- the texts of a command's fields, where they are not too many
+unfoldable pub argument-texts : Text → Fields → List Text
+argument-texts t f = span-text t (f .first) ∷ (span-text t (f .second) ∷ (span-text t (f .third) ∷ []))
+
+unfoldable pub field-texts : Text → Fields → Option (List Text)
+field-texts t f = cond (leb (f .count) 3) (some (span-text t (f .word) ∷ take (f .count) (argument-texts t f))) none
+
+abbrev pub fields : Span → Span → Span → Span → ℕ → Fields
+fields w s s′ s″ n = record { word = w; first = s; second = s′; third = s″; count = n }
+
+-- every one of its parts lies inside the line
+pub record Fields-inside (f : Fields) (t : Text) : Type 0 where
+  pub word : Inside (f .word) t
+  pub first : Inside (f .first) t
+  pub second : Inside (f .second) t
+  pub third : Inside (f .third) t
+
+-- the numbers of a command's arguments, where these are as many as its shape says and each has its form
+unfoldable pub numbers-of : Option ℕ → Option ℕ → Option ℕ → Numbers
+numbers-of none m l = Wrong
+numbers-of (some n) none l = Wrong
+numbers-of (some n) (some m) none = Wrong
+numbers-of (some n) (some m) (some l) = Numbers-read n m l
+
+unfoldable pub numbers-in : Text → Fields → Shape → Numbers
+numbers-in t f s =
+    cond (eqb (f .count) (s .count))
+    (numbers-of (number-in (s .first) (span-text t (f .first))) (number-in (s .second) (span-text t (f .second))) (number-in (s .third) (span-text t (f .third))))
+    Wrong

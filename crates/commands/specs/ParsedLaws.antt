@@ -1,44 +1,150 @@
--- Laws of command lines: what the readers of arguments give, how a line is its caller, word and arguments, and where the parts of
--- a command lie.
+-- Laws of command lines: what a word and its fields are read as, how a line is its caller, word and arguments, and where the
+-- parts of a command lie.
 use mathlib.Core.Path.{_≡_, refl, sym, ap, _∙_}
 use mathlib.Core.List.{List, [], _∷_}
 use mathlib.Core.Option.{Option, none, some, Option·map}
-use mathlib.Core.Bool.{Bool, true, false, _&&_}
-use Prim.Native.Nat.{ℕ, _/_, _%_, _≤_, _<_}
+use mathlib.Core.Bool.{true, false}
+use Prim.Native.Nat.{ℕ, _%_, _≤_, _<_}
 use native.Mathlib.Omega.{arith}
-use borrow.Author.Tests.{ne-eqb, lt-ltb, le-ltb, le-leb, leb-true, leb-false}
-use lib.Dec.{leb, ltb}
-use Rattle.buffers.specs.Cases.{case, and-both}
-use Rattle.buffers.specs.Text.{Text, same-text}
+use borrow.Author.Tests.{eqb-true, eqb-false, le-leb, lt-leb, leb-false}
+use lib.Dec.{eqb, leb}
+use lib.ListN.{length, take, getD, length-take}
+use Rattle.buffers.specs.Cases.{case}
+use Rattle.buffers.specs.Text.{Text}
 use Rattle.accounts.specs.declared.Uid.{Uid}
 use Rattle.syntax.specs.declared.Span.{Span}
-use Rattle.syntax.specs.Pieces.{bytes, comma, pieces}
+use Rattle.syntax.specs.Pieces.{comma, pieces}
+use Rattle.commands.specs.declared.Word.{Word}
+use Rattle.commands.specs.declared.ArgumentKind.the-variants as a
+use Rattle.commands.specs.declared.Shape.{Shape}
+use Rattle.commands.specs.declared.Fields.{Fields}
+use Rattle.commands.specs.declared.Numbers.the-variants.{Read as Numbers-read, Wrong}
 use Rattle.commands.specs.declared.Command.{Command as Parts}
 use Rattle.commands.specs.declared.Command.the-variants.{Create, Mkdir, Read, Write, Rm, Rmdir, Mv, Chmod, Chgrp, Chown, Login, Logout, Add, Co, Commit, Up, Del}
-use Rattle.commands.specs.declared.Found.{Found}
-use Rattle.commands.specs.declared.Found.the-variants.{Command as Is, Nothing}
+use Rattle.commands.specs.declared.Parsed.{Parsed}
 use Rattle.commands.specs.declared.Parsed.the-variants.{Line as Is-line, NoForm}
-use Rattle.syntax.specs.Number.{decimal, between, mode, set-gid, is-mode}
-use Rattle.syntax.specs.Form.{_>>=_, _>>_, check, is-some, by-form}
+use Rattle.syntax.specs.Number.{between}
+use Rattle.syntax.specs.Form.{_>>=_, is-some, by-form}
 use Rattle.syntax.specs.FormLaws.{no-answer, both-read, answered, then-none, the-some}
-use Rattle.syntax.specs.Path.{Path, Entry-path, path, entry-path, is-name}
-use Rattle.syntax.specs.Field.{uid, gid, role, bounded, bounded-by, plain-mode, password, is-content, content}
-use Rattle.syntax.specs.FieldLaws.{between-gives, mode-gives, read-byte}
-use Rattle.commands.specs.Command.{add, Command, repository, Line, forms, line-of, line}
+use Rattle.syntax.specs.Path.{Path, Entry-path, path, entry-path}
+use Rattle.syntax.specs.Field.{uid, bounded}
+use Rattle.syntax.specs.FieldLaws.{read-byte}
+use Rattle.commands.specs.Command.{Command, Line, listed, forms, line-of, line}
 use Rattle.syntax.specs.Parts.{span-text, Inside, text-in}
-use Rattle.syntax.specs.PartsLaws.{inside-text, text-inside}
-use Rattle.commands.specs.Parsed.{path-in, entry-in, with-path, with-entry, meaning, Placed, found, line-with, parsed, command-of}
-use Rattle.commands.specs.WordLaws.{is-none, same-word, finds-nothing, login-form, add-form, some-of-three, path-inside, entry-inside, two-found}
+use Rattle.syntax.specs.PartsLaws.{text-inside}
+use Rattle.commands.specs.Kinds.{arguments-of, number-in, path-in, entry-in, Argument}
+use Rattle.commands.specs.KindsLaws.{is-none, count-refused, one-refused, three-read}
+use Rattle.commands.specs.Words.{shape-of}
+use Rattle.commands.specs.WordsLaws.{many-refused}
+use Rattle.commands.specs.Parsed.{with-path, with-entry, meaning, arguments, Makes-of, Placed, Fields-inside, line-with, parsed, command-of, at-most, argument-texts, field-texts, numbers-of, numbers-in}
 
-pub gid-read : (n : ℕ) (t : Text) → some n ≡ between 0 24 t → gid t ≡ some (record { 0 = n % 256 })
-unfolding gid _>>=_
-gid-read n t e = rw (← e, read-byte 0 24 n t e (omega arith))
+-- a line has no form where its command has none
+pub finds-none : (t : Text) (u : Uid) (m : Option Command) → m ≡ none → parsed t NoForm ≡ Option·map some (line-with u m)
+unfolding parsed line-with _>>=_
+finds-none t u m e = rw e
 
-pub gid-not-read : (t : Text) → none ≡ between 0 24 t → is-some (gid t) ≡ false
-unfolding gid _>>=_ is-some
-gid-not-read t e = rw (← e)
+-- and it is its caller and its command where this means what the form answers
+finds : (t : Text) (u : Uid) (c : Parts) (m : Option Command) → meaning t c ≡ m → is-some m ≡ true → parsed t (Is-line u c) ≡ Option·map some (line-with u m)
+unfolding parsed line-with _>>=_
+finds t u c m h e = let i : _ = the-some m e in rw (h, i .1)
 
-pub uid-read : (n : ℕ) (t : Text) → some n ≡ between 0 23 t → uid t ≡ some (record { 0 = n % 256 })
+-- what is made of a word is made of one that is the same
+pub as-word : {w v : Word} {vs : List Argument} {c : Parts} → w ≡ v → Makes-of v vs c → Makes-of w vs c
+as-word e h = rw e h
+
+-- numbers that were read are not wrong
+differ : {n m l : ℕ} → Numbers-read n m l ≡ Wrong → _≡_ {A = ℕ} 0 1
+differ e = cc
+
+-- numbers that were read, and an argument that was not
+read-three : {n m l : ℕ} (p q r : Option ℕ) → Numbers-read n m l ≡ numbers-of p q r → (some n ≡ p) × (some m ≡ q) × (some l ≡ r)
+unfolding numbers-of
+read-three none q r e = absurd (omega (arith, differ e))
+read-three (some a) none r e = absurd (omega (arith, differ e))
+read-three (some a) (some b) none e = absurd (omega (arith, differ e))
+read-three (some a) (some b) (some c) e = (cc, cc, cc)
+
+wrong-three : {P : Type 0} (p q r : Option ℕ) → Wrong ≡ numbers-of p q r → (none ≡ p → P) → (none ≡ q → P) → (none ≡ r → P) → P
+unfolding numbers-of
+wrong-three none q r e h k l = h refl
+wrong-three (some a) none r e h k l = k refl
+wrong-three (some a) (some b) none e h k l = l refl
+wrong-three (some a) (some b) (some c) e h k l = absurd (omega (arith, differ (sym e)))
+
+-- a word with its arguments, whose shape is that of the word
+module _ (t : Text) (u : Uid) (f : Fields) (w : Word) {s : Shape} (few : f .count ≤ 3) (shaped : s ≡ shape-of (listed w .kinds)) where
+  -- there are as many as of kinds
+  counted : eqb (f .count) (s .count) ≡ true → f .count ≡ length (listed w .kinds)
+  counted e = eqb-true (f .count) (s .count) e ∙ ap (λ (z : Shape). z .count) shaped
+
+  -- they are not of those kinds
+  pub wrong-arguments : Wrong ≡ numbers-in t f s → arguments-of (listed w .kinds) (listed w .makes) (take (f .count) (argument-texts t f)) ≡ none
+  unfolding numbers-in argument-texts
+  wrong-arguments h = case (eqb (f .count) (s .count))
+      (λ e. wrong-three (number-in (s .first) (span-text t (f .first))) (number-in (s .second) (span-text t (f .second))) (number-in (s .third) (span-text t (f .third))) (rw e at h)
+      (λ i. refused e 0 (i ∙ ap (λ (z : Shape). number-in (z .first) (span-text t (f .first))) shaped))
+      (λ i. refused e 1 (i ∙ ap (λ (z : Shape). number-in (z .second) (span-text t (f .second))) shaped))
+      (λ i. refused e 2 (i ∙ ap (λ (z : Shape). number-in (z .third) (span-text t (f .third))) shaped)))
+      (λ e. count-refused (listed w .kinds) (listed w .makes) (take (f .count) (argument-texts t f))
+      (λ l. eqb-false (f .count) (s .count) e (omega (arith, length-take (f .count) (argument-texts t f), ap (λ (z : Shape). z .count) shaped))))
+    where
+      refused : eqb (f .count) (s .count) ≡ true → (i : ℕ) → none ≡ number-in (getD (listed w .kinds) i a.Absent) (getD (argument-texts t f) i []) →
+          arguments-of (listed w .kinds) (listed w .makes) (take (f .count) (argument-texts t f)) ≡ none
+      refused e i h = rw (counted e) (one-refused (listed w .kinds) (listed w .makes) (argument-texts t f) i h)
+
+  -- they are, and make the command
+  pub right-arguments : (n m l : ℕ) (c : Parts) → Fields-inside f t → Numbers-read n m l ≡ numbers-in t f s → Makes-of w (arguments f n m l) c →
+      parsed t (Is-line u c) ≡ Option·map some (line-with u (arguments-of (listed w .kinds) (listed w .makes) (take (f .count) (argument-texts t f))))
+  unfolding numbers-in argument-texts
+  right-arguments n m l c i h k = case (eqb (f .count) (s .count))
+      (λ e. rw (counted e) (by (rw e at h) (omega (arith, counted e))))
+      (λ e. absurd (omega (arith, differ (rw e at h))))
+    where
+      by : Numbers-read n m l ≡ numbers-of (number-in (s .first) (span-text t (f .first))) (number-in (s .second) (span-text t (f .second))) (number-in (s .third) (span-text t (f .third))) →
+          length (listed w .kinds) ≤ 3 →
+          parsed t (Is-line u c) ≡ Option·map some (line-with u (arguments-of (listed w .kinds) (listed w .makes) (take (length (listed w .kinds)) (argument-texts t f))))
+      by e few =
+          let p = read-three (number-in (s .first) (span-text t (f .first))) (number-in (s .second) (span-text t (f .second))) (number-in (s .third) (span-text t (f .third))) e in
+          let d = three-read (listed w .kinds) (listed w .makes) t (record { part = f .first; number = n }) (record { part = f .second; number = m }) (record { part = f .third; number = l }) few
+          (record { inside = i .first; number = p .0 ∙ ap (λ (z : Shape). number-in (z .first) (span-text t (f .first))) shaped })
+          (record { inside = i .second; number = p .1 ∙ ap (λ (z : Shape). number-in (z .second) (span-text t (f .second))) shaped })
+          (record { inside = i .third; number = p .2 ∙ ap (λ (z : Shape). number-in (z .third) (span-text t (f .third))) shaped }) in
+          finds t u c (arguments-of (listed w .kinds) (listed w .makes) (take (length (listed w .kinds)) (argument-texts t f))) (k .means t ∙ d .same) (d .there)
+
+-- the fields that were found, where they are not too many
+pub fields-few : (t : Text) (f : Fields) (ps : List Text) → f .count ≤ 3 → field-texts t f ≡ at-most 4 ps →
+    ps ≡ span-text t (f .word) ∷ take (f .count) (argument-texts t f)
+unfolding field-texts at-most
+fields-few t f ps h e = case (leb (length ps) 4)
+    (λ l. answered (rw (le-leb (f .count) 3 h, l) at e))
+    (λ l. no-answer (sym (rw (le-leb (f .count) 3 h, l) at e)))
+
+-- and where they are, the command has no form
+pub fields-many : (t : Text) (f : Fields) (ps : List Text) → 3 < f .count → field-texts t f ≡ at-most 4 ps → command-of ps ≡ none
+unfolding field-texts at-most command-of
+fields-many t f [] h e = refl
+fields-many t f (w ∷ ts) h e = case (leb (length (w ∷ ts)) 4)
+    (λ l. no-answer (rw (lt-leb (f .count) 3 h, l) at e))
+    (λ l. many-refused w ts (omega (arith, leb-false (length (w ∷ ts)) 4 l)))
+
+-- the fields of a command, from its pieces
+pub few-fields : (t : Text) (f : Fields) (ps : List Text) → f .count ≤ 3 → ps ≡ span-text t (f .word) ∷ take (f .count) (argument-texts t f) →
+    field-texts t f ≡ at-most 4 ps
+unfolding field-texts at-most
+few-fields t f ps h e =
+    let l : length ps ≤ 4 = omega (arith, ap length e, length-take (f .count) (argument-texts t f)) in
+    rw (le-leb (f .count) 3 h, le-leb (length ps) 4 l, e)
+
+pub many-fields : (t : Text) (f : Fields) (ps : List Text) → 3 < f .count → 4 < length ps → field-texts t f ≡ at-most 4 ps
+unfolding field-texts at-most
+many-fields t f ps h l = rw (lt-leb (f .count) 3 h, lt-leb (length ps) 4 l)
+
+-- a part of no bytes lies inside any line
+pub nowhere : (t : Text) → Inside (record { start = 0; end = 0 }) t
+nowhere t = record { ordered = omega arith; ends = omega arith }
+
+-- a caller
+uid-read : (n : ℕ) (t : Text) → some n ≡ between 0 23 t → uid t ≡ some (record { 0 = n % 256 })
 unfolding uid _>>=_
 uid-read n t e = rw (← e, read-byte 0 23 n t e (omega arith))
 
@@ -46,105 +152,11 @@ pub uid-not-read : (t : Text) → none ≡ between 0 23 t → is-some (uid t) �
 unfolding uid _>>=_ is-some
 uid-not-read t e = rw (← e)
 
-bounded-some : (n : ℕ) → is-some (bounded n) ≡ ltb n 8
-unfolding bounded bounded-by is-some
-bounded-some n = by (ltb n 8) refl
-  where
-    by : (b : Bool) (e : ltb n 8 ≡ b) → is-some (bounded-by n b e) ≡ b
-    by true e = refl
-    by false e = refl
-
-role-of : (m : Option ℕ) → (m >>= bounded) ≡ ((m >>= λ n. check (leb 0 n && leb n 7) >> some n) >>= bounded)
-unfolding _>>=_ _>>_ check
-role-of none = refl
-role-of (some n) = case (leb n 7)
-    (λ e. rw (le-leb 0 n (omega arith), e))
-    (λ e. rw (le-leb 0 n (omega arith), e) (is-none (bounded n) (bounded-some n ∙ le-ltb n 8 (omega (arith, leb-false n 7 e)))))
-
--- a role is a number from 0 to 7
-role-between : (t : Text) → role t ≡ (between 0 7 t >>= bounded)
-unfolding role between
-role-between t = role-of (decimal t)
-
-role-read : (n : ℕ) (t : Text) → some n ≡ between 0 7 t → (role t ≡ bounded (n % 256)) × (is-some (role t) ≡ true)
-unfolding _>>=_
-role-read n t e =
-    let same : role t ≡ bounded n = rw (role-between t, ← e) in
-    let i : _ = and-both (leb 0 n) (leb n 7) (between-gives 0 7 t n (sym e)) in
-    (rw (read-byte 0 7 n t e (omega arith)) same, ap is-some same ∙ (bounded-some n ∙ lt-ltb n 8 (omega (arith, leb-true n 7 (i .1)))))
-
-pub role-not-read : (t : Text) → none ≡ between 0 7 t → is-some (role t) ≡ false
-unfolding _>>=_ is-some
-role-not-read t e = rw (role-between t, ← e)
-
--- a name and a content are read as they stand
-password-read : (t : Text) → is-name t ≡ true → password t ≡ some t
-unfolding password check _>>_
-password-read t e = rw e
-
-pub password-not-read : (t : Text) → is-name t ≡ false → is-some (password t) ≡ false
-unfolding password check _>>_ is-some
-password-not-read t e = rw e
-
-pub content-read : (t : Text) → is-content t ≡ true → content t ≡ some t
-unfolding content check _>>_
-content-read t e = rw e
-
-pub content-not-read : (t : Text) → is-content t ≡ false → is-some (content t) ≡ false
-unfolding content check _>>_ is-some
-content-not-read t e = rw e
-
--- the mode of a new file is a mode less than 512
-pub plain-read : (m : ℕ) (t : Text) → some m ≡ mode t → m < 512 → some m ≡ plain-mode t
-unfolding plain-mode set-gid check _>>=_ _>>_
-plain-read m t e h = rw (← e, ne-eqb (m / 512) 2 (λ k. omega arith))
-
-great-mode : (m : ℕ) → is-mode m ≡ true → 512 ≤ m → set-gid m ≡ true
-unfolding is-mode
-great-mode m e h = rw (le-ltb m 512 h) at e
-
-pub plain-not-read : (m : ℕ) (t : Text) → some m ≡ mode t → 512 ≤ m → none ≡ plain-mode t
-unfolding plain-mode check _>>=_ _>>_
-plain-not-read m t e h = rw (← e, great-mode m (mode-gives t m (sym e)) h)
-
-pub no-plain-mode : (t : Text) → none ≡ mode t → none ≡ plain-mode t
-unfolding plain-mode _>>=_
-no-plain-mode t e = rw (← e)
-
--- `login` with its role
-pub login-found : (t : Text) (a b : Span) (n : ℕ) → Inside b t → some n ≡ between 0 7 (span-text t a) → is-name (span-text t b) ≡ true →
-    found t (Is (Login (record { 0 = n % 256 }) b)) ≡ Option·map some (by-form forms (bytes "login") (span-text t a ∷ (span-text t b ∷ [])))
-unfolding meaning _>>=_ is-some
-login-found t a b n i e h =
-    let r : _ = role-read n (span-text t a) e in
-    let w : _ = password-read (span-text t b) h in
-    two-found login-form t (span-text t a) (span-text t b) (Login (record { 0 = n % 256 }) b) (rw (r .0, w, inside-text i)) (r .1) (ap is-some w)
-
--- a word with three arguments
-pub add-found : (t w : Text) (a b c : Span) (n : ℕ) → Inside a t → Inside b t → same-text w (bytes "add") ≡ true → is-some (path (span-text t a)) ≡ true →
-    is-some (entry-path (span-text t b)) ≡ true → some n ≡ between 0 7 (span-text t c) →
-    found t (Is (Add a b (record { 0 = n % 256 }))) ≡ Option·map some (by-form forms w (span-text t a ∷ (span-text t b ∷ (span-text t c ∷ []))))
-unfolding found meaning with-entry _>>=_
-add-found t w a b c n i j e h k l =
-    let p : _ = the-some (path (span-text t a)) h in
-    let q : _ = the-some (entry-path (span-text t b)) k in
-    let r : _ = role-read n (span-text t c) l in
-    let z : _ = the-some (role (span-text t c)) (r .1) in
-    let f : _ = same-word w (bytes "add") (span-text t a ∷ (span-text t b ∷ (span-text t c ∷ []))) e in
-    rw (← f, add-form (span-text t a) (span-text t b) (span-text t c), path-inside i, entry-inside j, p .1, q .1, z .1, sym (r .0) ∙ z .1)
-
-pub add-nothing : (t w s s′ s″ : Text) → same-text w (bytes "add") ≡ true → (is-some (path s) && (is-some (entry-path s′) && is-some (role s″))) ≡ false →
-    found t Nothing ≡ Option·map some (by-form forms w (s ∷ (s′ ∷ (s″ ∷ []))))
-add-nothing t w s s′ s″ e h =
-    let i : _ = same-word w (bytes "add") (s ∷ (s′ ∷ (s″ ∷ []))) e in
-    rw (← i, add-form s s′ s″) (finds-nothing t (path s >>= λ p. entry-path s′ >>= λ q. role s″ >>= λ r. some (repository (add p q r)))
-    (some-of-three (path s) (entry-path s′) (role s″) (λ p q r. repository (add p q r)) ∙ h))
-
 -- the first piece is the word
-pub word-first : (t w : Text) (ts ps : List Text) (r : Found) → ps ≡ w ∷ ts →
-    found t r ≡ Option·map some (by-form forms w ts) → found t r ≡ Option·map some (command-of ps)
+pub word-first : (t : Text) (u : Uid) (w : Text) (ts ps : List Text) (r : Parsed) → ps ≡ w ∷ ts →
+    parsed t r ≡ Option·map some (line-with u (by-form forms w ts)) → parsed t r ≡ Option·map some (line-with u (command-of ps))
 unfolding command-of
-word-first t w ts ps r e h = rw e h
+word-first t u w ts ps r e h = rw e h
 
 -- a line of one field has no form
 pub line-short : (t s : Text) → pieces comma t ≡ s ∷ [] → parsed t NoForm ≡ Option·map some (line t)
@@ -156,33 +168,16 @@ unfolding line-of line-with command-of _>>=_
 line-parts s [] = sym (then-none (uid s) (λ u. none) (λ u. refl))
 line-parts s (w ∷ ts) = refl
 
--- and neither has one whose first is no caller, or whose others are no command
+-- and neither has one whose first is no caller
 pub line-no-caller : (t s : Text) (ps : List Text) → pieces comma t ≡ s ∷ ps → is-some (uid s) ≡ false → parsed t NoForm ≡ Option·map some (line t)
 unfolding parsed line _>>=_
 line-no-caller t s ps e h = rw (e, line-parts s ps, is-none (uid s) h)
 
-found-none : (m : Option Command) → none ≡ Option·map some m → m ≡ none
-found-none none e = refl
-found-none (some c) e = no-answer e
-
-found-some : (k m : Option Command) → some k ≡ Option·map some m → (k ≡ m) × (is-some m ≡ true)
-unfolding is-some
-found-some k none e = no-answer (sym e)
-found-some k (some c) e = (sym (answered e), refl)
-
-pub line-no-command : (t s : Text) (ps : List Text) → pieces comma t ≡ s ∷ ps → found t Nothing ≡ Option·map some (command-of ps) →
-    parsed t NoForm ≡ Option·map some (line t)
-unfolding parsed line found line-with _>>=_
-line-no-command t s ps e h = rw (e, line-parts s ps, found-none (command-of ps) h, then-none (uid s) (λ u. none) (λ u. refl))
-
 -- a line is its caller and its command
-pub line-found : (t s : Text) (ps : List Text) (n : ℕ) (c : Parts) → pieces comma t ≡ s ∷ ps → some n ≡ between 0 23 s →
-    found t (Is c) ≡ Option·map some (command-of ps) → parsed t (Is-line (record { 0 = n % 256 }) c) ≡ Option·map some (line t)
-unfolding parsed line found line-with _>>=_
-line-found t s ps n c e h k =
-    let i : _ = found-some (meaning t c) (command-of ps) k in
-    let m : _ = the-some (command-of ps) (i .1) in
-    rw (e, line-parts s ps, uid-read n s h, i .0, m .1)
+pub line-found : (t s : Text) (ps : List Text) (n : ℕ) (r : Parsed) → pieces comma t ≡ s ∷ ps → some n ≡ between 0 23 s →
+    parsed t r ≡ Option·map some (line-with (record { 0 = n % 256 }) (command-of ps)) → parsed t r ≡ Option·map some (line t)
+unfolding line _>>=_
+line-found t s ps n r e h k = rw (e, line-parts s ps, uid-read n s h) k
 
 -- a part with a path or an entry path lies inside the line
 path-placed : (t : Text) (s : Span) (p : Path) → path-in t s ≡ some p → Inside s t
@@ -208,8 +203,9 @@ meaning-placed t (Create p m) k e = with-path-placed t p _ k e
 meaning-placed t (Mkdir p m) k e = with-path-placed t p _ k e
 meaning-placed t (Read p) k e = with-path-placed t p _ k e
 meaning-placed t (Write p c) k e =
-    let i : _ = both-read (text-in t c) _ k e in
-    (with-path-placed t p _ k (i .2), text-inside t c (i .0) (i .1) .0)
+    let i : _ = both-read (path-in t p) _ k e in
+    let j : _ = both-read (text-in t c) _ k (i .2) in
+    (path-placed t p (i .0) (i .1), text-inside t c (j .0) (j .1) .0)
 meaning-placed t (Rm p) k e = with-path-placed t p _ k e
 meaning-placed t (Rmdir p) k e = with-path-placed t p _ k e
 meaning-placed t (Mv a b) k e =
@@ -225,8 +221,8 @@ meaning-placed t (Login r w) k e =
 meaning-placed t Logout k e = tt
 meaning-placed t (Add w n r) k e =
     let i : _ = both-read (path-in t w) _ k e in
-    let j : _ = both-read (bounded (r .0)) _ k (i .2) in
-    (path-placed t w (i .0) (i .1), with-entry-placed t n _ k (j .2))
+    let j : _ = both-read (entry-in t n) _ k (i .2) in
+    (path-placed t w (i .0) (i .1), entry-placed t n (j .0) (j .1))
 meaning-placed t (Co n d) k e =
     let i : _ = both-read (entry-in t n) _ k e in
     (entry-placed t n (i .0) (i .1), with-path-placed t d _ k (i .2))

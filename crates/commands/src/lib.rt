@@ -1,5 +1,7 @@
 // Command lines: what they are, and their parser.
+mod arguments;
 mod parser;
+mod words;
 
 use accounts::Gid;
 use accounts::Role;
@@ -71,10 +73,68 @@ pub enum Command {
     },
 }
 
-// A command, or a word with arguments that has no listed form.
-pub enum Found {
-    Command(Command),
-    Nothing,
+// The words of commands.
+pub enum Word {
+    Create,
+    Mkdir,
+    Read,
+    Write,
+    Rm,
+    Rmdir,
+    Mv,
+    Chmod,
+    Chgrp,
+    Chown,
+    Login,
+    Logout,
+    Add,
+    Co,
+    Commit,
+    Up,
+    Del,
+}
+
+// What an argument has to be: an entry path is short `Entry`, a mode that begins with 0 `Plain`; an absent one may be anything.
+pub enum ArgumentKind {
+    Path,
+    Entry,
+    Mode,
+    Plain,
+    Uid,
+    Gid,
+    Role,
+    Password,
+    Content,
+    Absent,
+}
+
+// How many arguments a word takes, and of which kind each is.
+pub struct Shape {
+    pub count: usize,
+    pub first: ArgumentKind,
+    pub second: ArgumentKind,
+    pub third: ArgumentKind,
+}
+
+// A listed word with the shape of its arguments, or a text that is none.
+pub enum Form {
+    Listed(Word, Shape),
+    Unlisted,
+}
+
+// The fields of a command: its word and its arguments, of which there are as many as counted; from 4 on they are too many.
+pub struct Fields {
+    pub word: Span,
+    pub first: Span,
+    pub second: Span,
+    pub third: Span,
+    pub count: usize,
+}
+
+// The numbers of the arguments of a command, or arguments that have not the forms of its shape.
+pub enum Numbers {
+    Read(u16, u16, u16),
+    Wrong,
 }
 
 // A command line: its caller and command, or no listed form.

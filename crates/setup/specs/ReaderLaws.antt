@@ -1,18 +1,18 @@
--- Laws of the setup reader: what each line does to a setup held by value, and that a setup whose passwords are parts of a text is
--- the same of a longer text.
-use mathlib.Core.Path.{_≡_, refl, sym, ap, ap₂, _∙_}
+-- Laws of a setup held by the code: what each line does to it, and where its passwords lie.
+use mathlib.Core.Path.{_≡_, refl, ap, _∙_}
 use mathlib.Core.List.{List, [], _∷_, _++_, map, map-append}
 use mathlib.Core.Option.{Option, none, some}
-use mathlib.Core.Bool.{Bool, true, false, _||_}
-use Prim.Native.Nat.{ℕ, zero, suc, _+_, _-_, _≤_, _<_}
+use mathlib.Core.Bool.{Bool, true, false, _&&_, _||_, not, Bool·not-not, and-comm, and-true}
+use Prim.Native.Nat.{ℕ, zero, suc, _+_, _≤_, _<_}
 use native.Mathlib.Omega.{arith}
 use native.Mathlib.Numerals.{add-one}
-use borrow.Author.Tests.{eq-eqb, ne-eqb, lt-ltb, le-ltb, le-leb, lt-leb}
-use lib.ListN.{length, length-map, take, drop, getD, set, length-set, length-append, length-drop, take-append-drop}
-use lib.Seq.{length-take-le, take-append-le, drop-append-le, take-suc-set, take-take, getD-take}
-use Rattle.buffers.specs.Cases.{and-both}
+use borrow.Author.Tests.{ne-eqb, le-leb, ltb-true}
+use lib.Dec.{eqb, leb, ltb}
+use lib.ListN.{length, length-map, take, getD, set, length-set}
+use lib.Seq.{length-take-le, take-suc-set, getD-take}
+use Rattle.buffers.specs.Cases.{case, and-both}
 use Rattle.buffers.specs.Text.{Text, every}
-use Rattle.buffers.specs.TextLaws.{every-append, every-implies, every-getD}
+use Rattle.buffers.specs.TextLaws.{every-append, every-getD}
 use Rattle.accounts.specs.declared.Uid.{Uid}
 use Rattle.accounts.specs.declared.Gid.{Gid}
 use Rattle.accounts.specs.declared.Role.{Role}
@@ -25,23 +25,12 @@ use Rattle.syntax.specs.declared.Span.{Span}
 use Rattle.setup.specs.declared.Person.{Person as Slot}
 use Rattle.setup.specs.declared.Grant.{Grant as Held-grant}
 use Rattle.setup.specs.declared.Setup.{Setup as Held-setup}
-use Rattle.setup.specs.declared.Reading.{Reading as Held-reading}
 use Rattle.syntax.specs.Form.{_>>=_, _>>_, check, is-some}
 use Rattle.syntax.specs.FormLaws.{both}
-use Rattle.setup.specs.Setup.{Person, most-pairs, most-grants, person, p-line, g-line, r-line, l-line, Reading, with-person, with-pair, with-grant, joining, accept}
-use Rattle.syntax.specs.Parts.{part, span-text, Inside, span-inside}
+use Rattle.syntax.specs.Parts.{span-text, Inside, span-inside}
 use Rattle.syntax.specs.PartsLaws.{inside-true, true-inside}
-use Rattle.setup.specs.Reader.{slot-value, grant-value, setup-value, reading-value, no-grant, grant-at, Held, reading-told}
-
--- what a function that reads a line answers: the reading after it or none, and a setup that is held
-abbrev pub Told : Text → Held-reading → Option Reading → Type 0
-Told t r m = (reading-told t r ≡ m) × (Held t (r .setup))
-
--- a line that does not fit leaves what was read as it was
-pub unread : (t : Text) (d r : Held-reading) (m : Option Reading) → Held t (d .setup) → (r .kind ≡ d .kind) × ((r .setup ≡ d .setup) × (r .fits ≡ false)) →
-    m ≡ none → Told t r m
-unfolding reading-told
-unread t d r m h e n = (rw (e .1 .1, n), rw (e .1 .0) h)
+use Rattle.setup.specs.Setup.{Person, most-pairs, most-grants, person, Setup-line, p-line, g-line, r-line, l-line, Reading, with-person, with-pair, with-grant, joining, accept}
+use Rattle.setup.specs.Reader.{slot-value, grant-value, setup-value, no-grant, grant-at, Held, reading-of, may-name, may-join, may-pair, may-grant}
 
 -- an element of a list's image
 map-at : {A B : Type 0} (f : A → B) (l : List A) (i : ℕ) (d : A) (e : B) → i < length l → getD (map f l) i e ≡ f (getD l i d)
@@ -67,21 +56,28 @@ slot-of : (t : Text) (s : Held-setup) (u : Uid) → Held t s → u .0 < 16 → p
 unfolding person setup-value
 slot-of t s u h k = map-at slot-value (s .persons) (u .0) no-slot none (rw (h .slots) k)
 
-no-person : (t : Text) (s : Held-setup) (u : Uid) → Held t s → u .0 < 16 → slot-at s u .primary .0 ≡ 0 → person (setup-value t s) u ≡ none
-unfolding slot-value
-no-person t s u h k e = slot-of t s u h k ∙ rw (eq-eqb (slot-at s u .primary .0) 0 e)
+-- whether there is one
+slot-some : (p : Slot) → is-some (slot-value p) ≡ not (eqb (p .primary .0) 0)
+unfolding slot-value is-some
+slot-some p = case (eqb (p .primary .0) 0) (λ e. rw e) (λ e. rw e)
+
+named : (t : Text) (s : Held-setup) (u : Uid) → Held t s → u .0 < 16 → is-some (person (setup-value t s) u) ≡ not (eqb (slot-at s u .primary .0) 0)
+named t s u h k = ap is-some (slot-of t s u h k) ∙ slot-some (slot-at s u)
 
 -- what a slot of a person holds
 abbrev pub person-in : Slot → Person
 person-in p = record { primary = p .primary; further = p .further }
 
-some-person : (p : Slot) → (p .primary .0 ≡ 0 → ⊥) → slot-value p ≡ some (person-in p)
+no-person : (p : Slot) → eqb (p .primary .0) 0 ≡ true → slot-value p ≡ none
 unfolding slot-value
-some-person p f = rw (ne-eqb (p .primary .0) 0 f)
+no-person p e = rw e
 
-a-person : (t : Text) (s : Held-setup) (u : Uid) → Held t s → u .0 < 16 → (slot-at s u .primary .0 ≡ 0 → ⊥) →
-    person (setup-value t s) u ≡ some (person-in (slot-at s u))
-a-person t s u h k f = slot-of t s u h k ∙ some-person (slot-at s u) f
+a-person : (p : Slot) → eqb (p .primary .0) 0 ≡ false → slot-value p ≡ some (person-in p)
+unfolding slot-value
+a-person p e = rw e
+
+same-person : (p : Slot) {g : Gid} {f : Groups} → (p .primary ≡ g) × (p .further ≡ f) → some (person-in p) ≡ some (record { primary = g; further = f })
+same-person p e = λ i. some (record { primary = e .0 i; further = e .1 i })
 
 -- a setup with a person stored
 abbrev pub stored : Held-setup → ℕ → Slot → Held-setup
@@ -95,7 +91,7 @@ stored-value t s u x p e = λ i. record {
   grants = map (grant-value t) (take (s .granted) (s .grants));
 }
 
-stored-held : (t : Text) (s : Held-setup) (k : ℕ) (x : Slot) → Held t s → Held t (stored s k x)
+pub stored-held : (t : Text) (s : Held-setup) (k : ℕ) (x : Slot) → Held t s → Held t (stored s k x)
 stored-held t s k x h = record {
   slots = length-set (s .persons) k x ∙ h .slots;
   room-for-pairs = h .room-for-pairs;
@@ -105,122 +101,31 @@ stored-held t s k x h = record {
   passwords = h .passwords;
 }
 
--- a person: after the persons there is none, an account is named once
-pub late-person : (t : Text) (d : Held-reading) (u : Uid) (g : Gid) → 0 < d .kind → accept (p-line u g) (reading-value t d) ≡ none
-unfolding accept reading-value check _>>_
-late-person t d u g h = rw (lt-leb (d .kind) 0 h)
-
-pub named-twice : (t : Text) (d : Held-reading) (u : Uid) (g : Gid) → Held t (d .setup) → u .0 < 16 →
-    (slot-at (d .setup) u .primary .0 ≡ 0 → ⊥) → d .kind ≤ 0 → accept (p-line u g) (reading-value t d) ≡ none
-unfolding accept reading-value check _>>_ is-some
-named-twice t d u g h k f l = rw (le-leb (d .kind) 0 l, a-person t (d .setup) u h k f)
-
-pub person-read : (t : Text) (d : Held-reading) (u : Uid) (g : Gid) (f : Groups) → Held t (d .setup) → u .0 < 16 → 0 < g .0 →
-    slot-at (d .setup) u .primary .0 ≡ 0 → d .kind ≤ 0 → f ≡ no-groups →
-    Told t (record { kind = 0; setup = stored (d .setup) (u .0) (record { primary = g; further = f }); fits = true }) (accept (p-line u g) (reading-value t d))
-unfolding reading-told accept reading-value check _>>_ is-some
-person-read t d u g f h k n e l w =
-    let p : Person = record { primary = g; further = no-groups } in
-    let new : slot-value (record { primary = g; further = f }) ≡ some p = some-person _ (λ z. omega arith) ∙ ap (λ v. some (record { primary = g; further = v })) w in (
-      rw (le-leb (d .kind) 0 l, no-person t (d .setup) u h k e) (ap (λ s. some (record { kind = 0; so-far = s })) (stored-value t (d .setup) u _ p new)),
-      stored-held t (d .setup) (u .0) _ h,
-    )
-
--- a further group: of a person
-pub late-group : (t : Text) (d : Held-reading) (u : Uid) (g : Gid) → 1 < d .kind → accept (g-line u g) (reading-value t d) ≡ none
-unfolding accept reading-value check _>>_
-late-group t d u g h = rw (lt-leb (d .kind) 1 h)
-
-pub group-of-none : (t : Text) (d : Held-reading) (u : Uid) (g : Gid) → Held t (d .setup) → u .0 < 16 →
-    slot-at (d .setup) u .primary .0 ≡ 0 → d .kind ≤ 1 → accept (g-line u g) (reading-value t d) ≡ none
-unfolding accept reading-value check _>>_ _>>=_
-group-of-none t d u g h k f l = rw (le-leb (d .kind) 1 l, no-person t (d .setup) u h k f)
-
-pub group-read : (t : Text) (d : Held-reading) (u : Uid) (g : Gid) (f : Groups) → Held t (d .setup) → u .0 < 16 →
-    (slot-at (d .setup) u .primary .0 ≡ 0 → ⊥) → d .kind ≤ 1 → f ≡ with-group g (slot-at (d .setup) u .further) →
-    Told t (record { kind = 1; setup = stored (d .setup) (u .0) (record { primary = slot-at (d .setup) u .primary; further = f }); fits = true })
-    (accept (g-line u g) (reading-value t d))
-unfolding reading-told accept reading-value check _>>_ _>>=_ joining
-group-read t d u g f h k e l w =
-    let was : Slot = slot-at (d .setup) u in
-    let p : Person = joining g (person-in was) in
-    let new : slot-value (record { primary = was .primary; further = f }) ≡ some p = some-person _ e ∙ ap (λ v. some (record { primary = was .primary; further = v })) w in (
-      rw (le-leb (d .kind) 1 l, a-person t (d .setup) u h k e) (ap (λ s. some (record { kind = 1; so-far = s })) (stored-value t (d .setup) u _ p new)),
-      stored-held t (d .setup) (u .0) _ h,
-    )
-
--- a pair: the senior is less than the junior, and at most 28 are read
-pub late-pair : (t : Text) (d : Held-reading) (s j : Role) → 2 < d .kind → accept (r-line s j) (reading-value t d) ≡ none
-unfolding accept reading-value check _>>_
-late-pair t d s j h = rw (lt-leb (d .kind) 2 h)
-
-pub pair-does-not-fall : (t : Text) (d : Held-reading) (s j : Role) → d .kind ≤ 2 → j .0 ≤ s .0 → accept (r-line s j) (reading-value t d) ≡ none
-unfolding accept reading-value check _>>_ falls
-pair-does-not-fall t d s j h k = rw (le-leb (d .kind) 2 h, le-ltb (s .0) (j .0) k)
-
 -- the counts are those of the pairs and the grants
 pub pair-count : (t : Text) (s : Held-setup) → Held t s → length (setup-value t s .pairs) ≡ s .paired
 unfolding setup-value
 pair-count t s h = length-take-le (s .paired) (s .pairs) (rw (h .room-for-pairs) (h .few-pairs))
 
-pub pairs-full : (t : Text) (d : Held-reading) (s j : Role) → Held t (d .setup) → d .kind ≤ 2 → s .0 < j .0 → 28 ≤ d .setup .paired → accept (r-line s j) (reading-value t d) ≡ none
-unfolding accept reading-value check _>>_ falls most-pairs
-pairs-full t d s j i h k l = rw (le-leb (d .kind) 2 h, lt-ltb (s .0) (j .0) k, pair-count t (d .setup) i, le-ltb (d .setup .paired) 28 l)
-
-abbrev pub paired-with : Held-setup → Pair → Held-setup
-paired-with s p = record { persons = s .persons; pairs = set (s .pairs) (s .paired) p; paired = s .paired + 1; grants = s .grants; granted = s .granted }
-
-pub pair-read : (t : Text) (d : Held-reading) (s j : Role) → Held t (d .setup) → d .kind ≤ 2 → s .0 < j .0 → d .setup .paired < 28 →
-    Told t (record { kind = 2; setup = paired-with (d .setup) (record { senior = s; junior = j }); fits = true }) (accept (r-line s j) (reading-value t d))
-unfolding reading-told accept reading-value check _>>_ falls most-pairs setup-value with-pair
-pair-read t d s j i h k l =
-    let p : Pair = record { senior = s; junior = j } in
-    let st : Held-setup = d .setup in
-    let room : st .paired < length (st .pairs) = rw (i .room-for-pairs) l in
-    let more : take (st .paired + 1) (set (st .pairs) (st .paired) p) ≡ take (st .paired) (st .pairs) ++ (p ∷ []) = rw (add-one) (take-suc-set (st .pairs) (st .paired) p room) in (
-      rw (le-leb (d .kind) 2 h, lt-ltb (s .0) (j .0) k, length-take-le (st .paired) (st .pairs) (omega arith), lt-ltb (st .paired) 28 l, more),
-      record {
-        slots = i .slots;
-        room-for-pairs = length-set (st .pairs) (st .paired) p ∙ i .room-for-pairs;
-        few-pairs = omega arith;
-        room-for-grants = i .room-for-grants;
-        few-grants = i .few-grants;
-        passwords = i .passwords;
-      },
-    )
-
--- a grant: to root or a person, and at most 32 are read
-pub late-grant : (t : Text) (d : Held-reading) (u : Uid) (r : Role) (w : Text) → 3 < d .kind → accept (l-line u r w) (reading-value t d) ≡ none
-unfolding accept reading-value check _>>_
-late-grant t d u r w h = rw (lt-leb (d .kind) 3 h)
-
-pub grant-to-none : (t : Text) (d : Held-reading) (u : Uid) (r : Role) (w : Text) → Held t (d .setup) → u .0 < 16 → d .kind ≤ 3 →
-    (u .0 ≡ 0 → ⊥) → slot-at (d .setup) u .primary .0 ≡ 0 → accept (l-line u r w) (reading-value t d) ≡ none
-unfolding accept reading-value check _>>_ is-root is-some
-grant-to-none t d u r w h k l f e = rw (le-leb (d .kind) 3 l, ne-eqb (u .0) 0 f, no-person t (d .setup) u h k e)
-
--- root and a person may have grants
-pub root-known : (t : Text) (s : Held-setup) (u : Uid) → u .0 ≡ 0 → (is-root u || is-some (person (setup-value t s) u)) ≡ true
-unfolding is-root
-root-known t s u e = rw (eq-eqb (u .0) 0 e)
-
-or-second : (a b : Bool) → b ≡ true → (a || b) ≡ true
-or-second true b e = refl
-or-second false b e = e
-
-pub person-known : (t : Text) (s : Held-setup) (u : Uid) → Held t s → u .0 < 16 → (slot-at s u .primary .0 ≡ 0 → ⊥) →
-    (is-root u || is-some (person (setup-value t s) u)) ≡ true
-unfolding is-some
-person-known t s u h k f = or-second (is-root u) _ (rw (a-person t s u h k f))
-
 pub grant-count : (t : Text) (s : Held-setup) → Held t s → length (setup-value t s .grants) ≡ s .granted
 unfolding setup-value
 grant-count t s h = length-map (take (s .granted) (s .grants)) (grant-value t) ∙ length-take-le (s .granted) (s .grants) (rw (h .room-for-grants) (h .few-grants))
 
-pub grants-full : (t : Text) (d : Held-reading) (u : Uid) (r : Role) (w : Text) → Held t (d .setup) → d .kind ≤ 3 →
-    (is-root u || is-some (person (setup-value t (d .setup)) u)) ≡ true → 32 ≤ d .setup .granted → accept (l-line u r w) (reading-value t d) ≡ none
-unfolding accept reading-value check _>>_ most-grants
-grants-full t d u r w i h k l = rw (le-leb (d .kind) 3 h, k, grant-count t (d .setup) i, le-ltb (d .setup .granted) 32 l)
+abbrev pub paired-with : Held-setup → Pair → Held-setup
+paired-with s p = record { persons = s .persons; pairs = set (s .pairs) (s .paired) p; paired = s .paired + 1; grants = s .grants; granted = s .granted }
+
+paired-value : (t : Text) (s : Held-setup) (p : Pair) → Held t s → s .paired < 28 → setup-value t (paired-with s p) ≡ with-pair p (setup-value t s)
+unfolding setup-value with-pair
+paired-value t s p h l = rw (add-one (s .paired), take-suc-set (s .pairs) (s .paired) p (rw (h .room-for-pairs) l))
+
+pub paired-held : (t : Text) (s : Held-setup) (p : Pair) → Held t s → s .paired < 28 → Held t (paired-with s p)
+paired-held t s p h l = record {
+  slots = h .slots;
+  room-for-pairs = length-set (s .pairs) (s .paired) p ∙ h .room-for-pairs;
+  few-pairs = omega arith;
+  room-for-grants = h .room-for-grants;
+  few-grants = h .few-grants;
+  passwords = h .passwords;
+}
 
 abbrev pub granted-with : Held-setup → Held-grant → Held-setup
 granted-with s g = record { persons = s .persons; pairs = s .pairs; paired = s .paired; grants = set (s .grants) (s .granted) g; granted = s .granted + 1 }
@@ -234,7 +139,7 @@ granted-value : (t : Text) (s : Held-setup) (g : Held-grant) → Held t s → s 
 unfolding setup-value with-grant
 granted-value t s g h l = rw (more-granted t s g h l, map-append (grant-value t) (take (s .granted) (s .grants)) (g ∷ []))
 
-granted-held : (t : Text) (s : Held-setup) (g : Held-grant) → Held t s → s .granted < 32 → Inside (g .password) t → Held t (granted-with s g)
+pub granted-held : (t : Text) (s : Held-setup) (g : Held-grant) → Held t s → s .granted < 32 → Inside (g .password) t → Held t (granted-with s g)
 unfolding every
 granted-held t s g h l i =
     record {
@@ -247,52 +152,83 @@ granted-held t s g h l i =
           (both (h .passwords) (both (inside-true i) refl));
     }
 
-pub grant-read : (t : Text) (d : Held-reading) (u : Uid) (r : Role) (w : Span) → Held t (d .setup) → d .kind ≤ 3 →
-    (is-root u || is-some (person (setup-value t (d .setup)) u)) ≡ true → d .setup .granted < 32 → Inside w t →
-    Told t (record { kind = 3; setup = granted-with (d .setup) (record { uid = u; role = r; password = w }); fits = true })
-    (accept (l-line u r (span-text t w)) (reading-value t d))
-unfolding reading-told accept reading-value check _>>_ most-grants grant-value
-grant-read t d u r w i h k l j =
-    let g : Held-grant = record { uid = u; role = r; password = w } in (
-      rw (le-leb (d .kind) 3 h, k, grant-count t (d .setup) i, lt-ltb (d .setup .granted) 32 l) (ap (λ s. some (record { kind = 3; so-far = s })) (granted-value t (d .setup) g i l)),
-      granted-held t (d .setup) g i l j,
-    )
+-- the tests of pairs and grants leave room for one more
+pub pair-room : (k n : ℕ) (senior junior : Role) → may-pair k n senior junior ≡ true → n < 28
+unfolding may-pair most-pairs
+pair-room k n senior junior e =
+    let i : _ = and-both (leb k 2) _ e in
+    ltb-true n 28 (and-both (falls (record { senior = senior; junior = junior })) (ltb n 28) (i .1) .1)
 
--- a part of a text is the same part of a longer text
-part-longer : (p q : Text) (start end : ℕ) → start ≤ end → end ≤ length p → part (p ++ q) start end ≡ part p start end
-unfolding part
-part-longer p q start end h k =
-    let few : end - start ≤ length (drop start p) = omega (arith, length-drop start p) in
-    rw (drop-append-le start p q (omega arith), take-append-le (end - start) (drop start p) q few)
+pub grant-room : (n : ℕ) (u : Uid) (there : Gid) → may-grant n u there ≡ true → n < 32
+unfolding may-grant most-grants
+grant-room n u there e = ltb-true n 32 (and-both (ltb n 32) _ e .0)
 
-grants-longer : (p q : Text) (gs : List Held-grant) → every (λ g. span-inside p (g .password)) gs ≡ true → map (grant-value (p ++ q)) gs ≡ map (grant-value p) gs
-unfolding every grant-value span-text
-grants-longer p q [] h = refl
-grants-longer p q (g ∷ gs) h =
-    let i : _ = and-both (span-inside p (g .password)) (every (λ g. span-inside p (g .password)) gs) h in
-    let j : Inside (g .password) p = true-inside p (g .password) (i .0) in
-    ap₂ _∷_ (ap (λ w. record { uid = g .uid; role = g .role; password = w }) (part-longer p q (g .password .start) (g .password .end) (j .ordered) (j .ends))) (grants-longer p q gs (i .1))
+-- two checks are one
+check-both : {X : Type 0} (a b : Bool) (m : Option X) → (check a >> (check b >> m)) ≡ (check (a && b) >> m)
+unfolding check _>>_
+check-both true b m = refl
+check-both false b m = refl
 
--- a setup held in a text is the same setup of a longer text, and held there
-pub setup-longer : (p q : Text) (s : Held-setup) → Held p s → setup-value (p ++ q) s ≡ setup-value p s
-unfolding setup-value
-setup-longer p q s h = rw (grants-longer p q (take (s .granted) (s .grants)) (h .passwords))
+check-none : {X : Type 0} (a : Bool) (m : Option X) → (check a >> none) ≡ (check (a && false) >> m)
+unfolding check _>>_
+check-none true m = refl
+check-none false m = refl
 
-inside-longer : (p q : Text) (s : Span) → span-inside p s ≡ true → span-inside (p ++ q) s ≡ true
-inside-longer p q s h =
-    let i : Inside s p = true-inside p s h in
-    inside-true (record { ordered = i .ordered; ends = omega (arith, i .ends, length-append p q) })
+-- what follows a check matters where it passes
+check-then : {X : Type 0} (b : Bool) (m n : Option X) → (b ≡ true → m ≡ n) → (check b >> m) ≡ (check b >> n)
+unfolding check _>>_
+check-then true m n h = h refl
+check-then false m n h = refl
 
-pub held-longer : (p q : Text) (s : Held-setup) → Held p s → Held (p ++ q) s
-held-longer p q s h =
-    record {
-      slots = h .slots;
-      room-for-pairs = h .room-for-pairs;
-      few-pairs = h .few-pairs;
-      room-for-grants = h .room-for-grants;
-      few-grants = h .few-grants;
-      passwords = every-implies (λ g. span-inside p (g .password)) (λ g. span-inside (p ++ q) (g .password)) (λ g. inside-longer p q (g .password)) (take (s .granted) (s .grants)) (h .passwords);
-    }
+-- a line is accepted where a test passes, and then what has been read is known
+pub record Accepts-if (l : Setup-line) (d : Reading) (passes : Bool) (d′ : Reading) : Type 0 where
+  pub is : accept l d ≡ (check passes >> some d′)
+
+-- each line after what has been read
+module _ (t : Text) (k : ℕ) (s : Held-setup) (h : Held t s) where
+  pub person-accepted : (u : Uid) (g : Gid) (p : Slot) → u .0 < 16 → 0 < g .0 → (p .primary ≡ g) × (p .further ≡ no-groups) →
+      Accepts-if (p-line u g) (reading-of t k s) (may-name k (slot-at s u .primary)) (reading-of t 0 (stored s (u .0) p))
+  unfolding accept reading-of may-name
+  person-accepted u g p i n e =
+      let free : not (is-some (person (setup-value t s) u)) ≡ eqb (slot-at s u .primary .0) 0 = rw (named t s u h i) (Bool·not-not _) in
+      let new = a-person p (ne-eqb (p .primary .0) 0 (λ z. omega (arith, ap (λ (v : Gid). v .0) (e .0)))) ∙ same-person p e in
+      record { is = check-both _ _ _ ∙ rw (free, stored-value t s u p _ new) }
+
+  pub group-accepted : (u : Uid) (g : Gid) (p : Slot) → u .0 < 16 → (p .primary ≡ slot-at s u .primary) × (p .further ≡ with-group g (slot-at s u .further)) →
+      Accepts-if (g-line u g) (reading-of t k s) (may-join k (slot-at s u .primary)) (reading-of t 1 (stored s (u .0) p))
+  unfolding accept reading-of may-join joining _>>=_
+  group-accepted u g p i e =
+      let was : Slot = slot-at s u in
+      record {
+        is = case (eqb (was .primary .0) 0)
+            (λ z. rw (slot-of t s u h i, no-person was z, z) (check-none (leb k 1) _))
+            (λ z.
+            let new = a-person p (rw (e .0) z) ∙ same-person p e in
+            rw (slot-of t s u h i, a-person was z, z, stored-value t s u p _ new, and-true (leb k 1)));
+      }
+
+  pub pair-accepted : (senior junior : Role) →
+      Accepts-if (r-line senior junior) (reading-of t k s) (may-pair k (s .paired) senior junior) (reading-of t 2 (paired-with s (record { senior = senior; junior = junior })))
+  unfolding accept reading-of may-pair
+  pair-accepted senior junior =
+      let p : Pair = record { senior = senior; junior = junior } in
+      let checks : _ = check-both {X = Reading} (falls p) (ltb (length (setup-value t s .pairs)) most-pairs) (some (record { kind = 2; so-far = with-pair p (setup-value t s) })) in
+      record {
+        is = ap (λ m. check (leb k 2) >> m) checks ∙ (check-both (leb k 2) _ _ ∙ rw (pair-count t s h)
+            (check-then (may-pair k (s .paired) senior junior) _ _ (λ e. rw (paired-value t s p h (pair-room k (s .paired) senior junior e)))));
+      }
+
+  pub grant-accepted : (u : Uid) (r : Role) (w : Span) → u .0 < 16 → k ≤ 3 →
+      Accepts-if (l-line u r (span-text t w)) (reading-of t k s) (may-grant (s .granted) u (slot-at s u .primary)) (reading-of t 3 (granted-with s (record { uid = u; role = r; password = w })))
+  unfolding accept reading-of may-grant check _>>_ grant-value
+  grant-accepted u r w i l =
+      let g : Held-grant = record { uid = u; role = r; password = w } in
+      let few : Bool = ltb (s .granted) most-grants in
+      let known : Bool = is-root u || not (eqb (slot-at s u .primary .0) 0) in
+      record {
+        is = rw (le-leb k 3 l, named t s u h i, grant-count t s h) (check-both known few _ ∙ rw (and-comm known few)
+            (check-then (may-grant (s .granted) u (slot-at s u .primary)) _ _ (λ e. rw (granted-value t s g h (grant-room (s .granted) u (slot-at s u .primary) e)))));
+      }
 
 -- the password of each grant lies inside the text
 pub password-inside : (t : Text) (s : Held-setup) → Held t s → (i : ℕ) → i < s .granted → Inside (grant-at s i .password) t
@@ -300,20 +236,3 @@ password-inside t s h i l =
     let empty : span-inside t (no-grant .password) ≡ true = inside-true (record { ordered = omega arith; ends = omega arith }) in
     let here : _ = every-getD (λ g. span-inside t (g .password)) (take (s .granted) (s .grants)) i no-grant (h .passwords) empty in
     true-inside t _ (rw (getD-take (s .granted) (s .grants) i no-grant l) at here)
-
--- the first bytes of a text, and more of them
-more-bytes : (t : Text) (m n : ℕ) → m ≤ n → take m t ++ drop m (take n t) ≡ take n t
-more-bytes t m n h = ap (λ p. p ++ drop m (take n t)) (sym (take-take m n t h)) ∙ take-append-drop m (take n t)
-
-pub held-later : (t : Text) (m n : ℕ) (s : Held-setup) → m ≤ n → Held (take m t) s → Held (take n t) s
-held-later t m n s h i = rw (more-bytes t m n h) at (held-longer (take m t) (drop m (take n t)) s i)
-
--- what is held in the first bytes of a text is held in the whole, and is what the whole has
-pub held-whole : (t : Text) (n : ℕ) (s : Held-setup) → Held (take n t) s → Held t s
-held-whole t n s h = rw (take-append-drop n t) at (held-longer (take n t) (drop n t) s h)
-
-pub reading-whole : (t : Text) (n : ℕ) (d : Held-reading) → Held (take n t) (d .setup) → reading-value (take n t) d ≡ reading-value t d
-unfolding reading-value
-reading-whole t n d h =
-    let e : setup-value t (d .setup) ≡ setup-value (take n t) (d .setup) = rw (take-append-drop n t) at (setup-longer (take n t) (drop n t) (d .setup) h) in
-    rw e

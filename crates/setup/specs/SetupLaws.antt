@@ -17,13 +17,14 @@ use Rattle.buffers.specs.Text.{Text, same-text, every}
 use Rattle.buffers.specs.TextLaws.{every-implies, every-append, every-getD, every-set}
 use Rattle.accounts.specs.declared.Uid.{Uid}
 use Rattle.accounts.specs.declared.Gid.{Gid}
+use Rattle.accounts.specs.declared.Role.{Role}
 use Rattle.accounts.specs.declared.Pair.{Pair}
 use Rattle.accounts.specs.Groups.{no-groups, with-group}
 use Rattle.accounts.specs.Access.{is-root}
 use Rattle.accounts.specs.Dominance.{falls}
 use Rattle.syntax.specs.Pieces.{bytes, comma, newline, pieces}
 use Rattle.syntax.specs.Form.{_>>=_, _>>_, check, is-some}
-use Rattle.syntax.specs.FormLaws.{no-answer, both-read, checked, answered, both, Answers-pass, any-gives, two-gives, three-gives, Forms-give, no-form, _also_, by-form-gives}
+use Rattle.syntax.specs.FormLaws.{no-answer, both-read, checked, answered, both, Answers-pass, two-gives, three-gives, Forms-give, no-form, _also_, by-form-gives}
 use Rattle.syntax.specs.Path.{is-name}
 use Rattle.setup.specs.Setup.{Person, Grant, Setup, accounts, most-pairs, most-grants, longest-line, person, Setup-line, p-line, g-line, r-line, l-line, person-uid, person-or-root, person-gid, plain-role, setup-form, setup-forms, setup-line-of, setup-line, Reading, with-person, with-pair, with-grant, joining, accept, no-setup, Setup-answer, accepted, wrong-line, stops, continue, read-lines, setup, is-person, is-slot, is-pair, is-grant, is-setup}
 use Rattle.syntax.specs.FieldLaws.{number-gives, within-bound, password-gives}
@@ -37,7 +38,7 @@ in-range : Setup-line → Bool
 in-range (p-line u g) = one-to-15 (u .0) && one-to-15 (g .0)
 in-range (g-line u g) = one-to-15 (u .0) && one-to-15 (g .0)
 in-range (r-line senior junior) = ltb (junior .0) 8
-in-range (l-line u r w) = ltb (r .0) 8 && is-name w
+in-range (l-line u r w) = ltb (u .0) 16 && (ltb (r .0) 8 && is-name w)
 
 person-uid-gives : Answers-pass person-uid (λ u. one-to-15 (u .0))
 unfolding person-uid one-to-15
@@ -46,6 +47,10 @@ person-uid-gives = number-gives (λ u. one-to-15 (u .0)) 1 15 (λ n. record { 0 
 person-gid-gives : Answers-pass person-gid (λ g. one-to-15 (g .0))
 unfolding person-gid one-to-15
 person-gid-gives = number-gives (λ g. one-to-15 (g .0)) 1 15 (λ n. record { 0 = n }) (λ n h. h)
+
+person-or-root-gives : Answers-pass person-or-root (λ u. ltb (u .0) 16)
+unfolding person-or-root
+person-or-root-gives = number-gives (λ u. ltb (u .0) 16) 0 15 (λ n. record { 0 = n }) (within-bound 0 15)
 
 plain-role-gives : Answers-pass plain-role (λ r. ltb (r .0) 8)
 unfolding plain-role
@@ -57,7 +62,7 @@ forms-give =
     two-gives in-range person-uid-gives person-gid-gives (λ u g. both) also
     two-gives in-range person-uid-gives person-gid-gives (λ u g. both) also
     two-gives in-range plain-role-gives plain-role-gives (λ s j h k. k) also
-    three-gives in-range (any-gives person-or-root) plain-role-gives password-gives (λ u r w h. both) also
+    three-gives in-range person-or-root-gives plain-role-gives password-gives (λ u r w h k l. both h (both k l)) also
     no-form
 
 line-of-gives : Answers-pass setup-line-of in-range
@@ -68,6 +73,28 @@ line-of-gives (w ∷ arguments) l e = by-form-gives in-range forms-give w argume
 line-gives : Answers-pass setup-line in-range
 unfolding setup-line
 line-gives t l e = line-of-gives (pieces comma t) l (checked (leb (length t) longest-line) (setup-line-of (pieces comma t)) l e .1)
+
+-- the both-between of a line's account and group
+one-to-15-range : (n : ℕ) → one-to-15 n ≡ true → (0 < n) × (n < 16)
+unfolding one-to-15
+one-to-15-range n h = let i : _ = and-both (leb 1 n) (leb n 15) h in (omega (arith, leb-true 1 n (i .0)), omega (arith, leb-true n 15 (i .1)))
+
+both-range : (u : Uid) (g : Gid) → (one-to-15 (u .0) && one-to-15 (g .0)) ≡ true → (u .0 < 16) × ((0 < g .0) × (g .0 < 16))
+both-range u g h =
+    let i : _ = and-both (one-to-15 (u .0)) (one-to-15 (g .0)) h in
+    (one-to-15-range (u .0) (i .0) .1, one-to-15-range (g .0) (i .1))
+
+pub p-range : (t : Text) (u : Uid) (g : Gid) → setup-line t ≡ some (p-line u g) → (u .0 < 16) × ((0 < g .0) × (g .0 < 16))
+unfolding in-range
+p-range t u g e = both-range u g (line-gives t (p-line u g) e)
+
+pub g-range : (t : Text) (u : Uid) (g : Gid) → setup-line t ≡ some (g-line u g) → (u .0 < 16) × ((0 < g .0) × (g .0 < 16))
+unfolding in-range
+g-range t u g e = both-range u g (line-gives t (g-line u g) e)
+
+pub l-range : (t : Text) (u : Uid) (r : Role) (w : Text) → setup-line t ≡ some (l-line u r w) → u .0 < 16
+unfolding in-range
+l-range t u r w e = ltb-true (u .0) 16 (and-both (ltb (u .0) 16) _ (line-gives t (l-line u r w) e) .0)
 
 -- the parts of a setup in range
 pub record Ranges (s : Setup) : Type 0 where
@@ -226,7 +253,8 @@ accept-keeps (l-line u role w) d d′ h e r =
     let a : _ = checked (leb (d .kind) 3) (check known >> (check few >> new)) d′ e in
     let b : _ = checked known (check few >> new) d′ (a .1) in
     let c : _ = checked few new d′ (b .1) in
-    rw (answered (c .1)) (grant-ranges g (d .so-far) (both (b .0) h) (ltb-true (length (d .so-far .grants)) most-grants (c .0)) r)
+    let i : _ = and-both (ltb (u .0) 16) _ h in
+    rw (answered (c .1)) (grant-ranges g (d .so-far) (both (b .0) (i .1)) (ltb-true (length (d .so-far .grants)) most-grants (c .0)) r)
 
 -- what a line leads on to
 continued : (m : Option Reading) (n : ℕ) (rest : Reading → Setup-answer) (s : Setup) → continue m n rest ≡ accepted s →

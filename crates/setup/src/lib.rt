@@ -1,4 +1,5 @@
 // The setup: what it holds, and the reader of its text.
+mod lines;
 mod reader;
 
 use accounts::Gid;
@@ -31,15 +32,45 @@ pub struct Setup {
     pub granted: usize,
 }
 
-// What has been read of a setup: the kind of the last line (p, g, r, l are 0 to 3), and whether that line fits.
-pub struct Reading {
-    pub kind: u8,
-    pub setup: Setup,
-    pub fits: bool,
-}
-
 // A setup that was read: 0 and the setup, or the number of the first wrong line, from 1, beside a setup of nothing.
 pub struct SetupRead {
     pub setup: Setup,
     pub wrong: usize,
+}
+
+// The word that a line starts with.
+enum LineKind {
+    P,
+    G,
+    R,
+    L,
+    Other,
+}
+
+// Two both-between read from a line, if both have their form.
+enum NumberPair {
+    Both(u8, u8),
+    Nothing,
+}
+
+// A line before `end`, whose password is a part of the setup text, or a line of no form.
+enum SetupLine {
+    Person {
+        uid: Uid,
+        gid: Gid,
+    },
+    Group {
+        uid: Uid,
+        gid: Gid,
+    },
+    Pair {
+        senior: Role,
+        junior: Role,
+    },
+    Grant {
+        uid: Uid,
+        role: Role,
+        password: Span,
+    },
+    Wrong,
 }

@@ -10,8 +10,7 @@ use Rattle.buffers.specs.Text.{Text}
 use Rattle.syntax.specs.Pieces.{comma, pieces}
 use Rattle.syntax.specs.Parts.{part, span-text, number-of}
 use Rattle.syntax.specs.FieldPartsLaws.{Field-at, field-is, field-goes-on, field-inside, last-piece, next-field}
-use Rattle.commands.specs.Parsed.{found}
-use Rattle.commands.specs.ParsedLaws.{uid-not-read, line-short, line-no-caller, line-no-command, line-found}
+use Rattle.commands.specs.ParsedLaws.{uid-not-read, line-short, line-no-caller, line-found}
 use Rattle.commands.proofs.parser.parse.Statement.{statement}
 use Rattle.commands.proofs.parser.parse.Tie as tie
 
@@ -44,27 +43,6 @@ span-requires c κs = search needs
 number-at-requires : tie.Need-number-at-requires
 number-at-requires c κs = (field-inside (field1 c) (c .span .ensures), omega arith)
 
-enum-told : tie.Need-enum-told
-enum-told c = search needs
-
-enum-known-n : tie.Need-enum-known-n
-enum-known-n c = search needs
-
-add-command-at : tie.Need-add-command-at
-add-command-at c = omega (arith, behind1 (c .before .before .before .before .before))
-
-command-at-requires : tie.Need-command-at-requires
-command-at-requires c κs = behind1 (c .before .before .before .before .before)
-
-enum-told-2 : tie.Need-enum-told-2
-enum-told-2 c = search needs
-
-enum-known-c : tie.Need-enum-known-c
-enum-known-c c = search needs
-
-cast-t13 : tie.Need-cast-t13
-cast-t13 c = search needs
-
 returns-2 : tie.Need-returns-2
 unfolding number-of
 returns-2 c =
@@ -74,22 +52,20 @@ returns-2 c =
     let e = ap number-of (sym (c .enum-told .given .1)) ∙ c .before .before .number-at .ensures in
     line-no-caller t s _ (cut1 x) (uid-not-read s e)
 
-returns-3 : tie.Need-returns-3
-returns-3 c =
-    let x = c .before .before .before .before .before .before .before .before in
-    let t = line1 x in
-    let e = ap (found t) (sym (c .enum-told2 .given .1)) ∙ c .before .before .command-at .ensures in
-    line-no-command t (span-text t (x .span .result)) _ (cut1 x) e
+add-command-at : tie.Need-add-command-at
+add-command-at c = omega (arith, behind1 (c .before .before .before .before .before))
 
-returns-4 : tie.Need-returns-4
+command-at-requires : tie.Need-command-at-requires
+command-at-requires c κs = behind1 (c .before .before .before .before .before)
+
+returns-3 : tie.Need-returns-3
 unfolding number-of
-returns-4 c =
-    let k = c .before .before .before .before .before .before in
+returns-3 c =
+    let k = c .before .before .before in
     let x = k .before .before .before in
     let t = line1 x in
-    let n = ap number-of (sym (k .n .given .1)) ∙ k .before .before .number-at .ensures in
-    let e = ap (found t) (sym (c .before .c .given .1)) ∙ c .before .before .before .command-at .ensures in
-    line-found t (span-text t (x .span .result)) _ (k .n .given .0 .0) (c .before .c .given .0 .0) (cut1 x) n e
+    let e = ap number-of (sym (k .n .given .1)) ∙ k .before .before .number-at .ensures in
+    line-found t (span-text t (x .span .result)) _ (k .n .given .0 .0) (c .command-at .result) (cut1 x) e (c .command-at .ensures)
 
 pub parse-spec : {M : Type 1} → statement M
 parse-spec =
@@ -99,13 +75,8 @@ parse-spec =
     returns
     span-requires
     number-at-requires
-    enum-told
-    enum-known-n
+    (λ c. search needs) (λ c. search needs) (λ c. search needs)
     add-command-at
     command-at-requires
-    enum-told-2
-    enum-known-c
-    cast-t13
     returns-2
-    returns-3
-    returns-4)
+    returns-3)

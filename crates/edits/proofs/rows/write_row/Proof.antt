@@ -32,7 +32,6 @@ same-length : tie.Need-same-length
 same-length c = search needs
 
 returns : tie.Need-returns
-unfolding
 returns c =
     let z = c .before .before in
     let p = z .before .before .before .before in
