@@ -106,10 +106,7 @@ pub fn copy_content(tree: &mut [u8], from: usize, to: usize)
     requires { ⌜ Has-row (now tree) to ⌝ }
     ensures { λ _. ⌜ now (tree .exit) ≡ field-put (now (tree .entry)) to content-offset (field-bytes (now (tree .entry)) from content-offset content-width) ⌝ }
 {
-    move_bytes(
-        tree,
-        FIRST + ROW * from + CONTENT,
-        FIRST + ROW * to + CONTENT,
-        CONTENT_WIDTH,
-    );
+    let source = FIRST + ROW * from + CONTENT;
+    let target = FIRST + ROW * to + CONTENT;
+    move_bytes(tree, source, target, CONTENT_WIDTH);
 }

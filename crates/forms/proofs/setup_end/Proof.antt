@@ -7,7 +7,7 @@ use Rattle.forms.proofs.setup_end.Tie as tie
 use Rattle.forms.proofs.setup_end.Reads as reads
 use Rattle.forms.proofs.setup_end.Lts as lts
 use Rattle.syntax.proofs.piece_end.Reads as piece-end-reads
-use Rattle.syntax.proofs.same.Reads as same-reads
+use Rattle.buffers.proofs.same.Reads as same-reads
 
 abbrev Inv-loop : tie.InvT-loop
 Inv-loop text at₀ t4 at = at ≤ length text

@@ -7,23 +7,23 @@ use Rattle.edits.specs.WrittenLaws.{content-copied}
 use Rattle.edits.proofs.fields.copy_content.Statement.{statement}
 use Rattle.edits.proofs.fields.copy_content.Tie as tie
 
-mul-move-bytes : tie.Need-mul-move-bytes
-mul-move-bytes c = search needs
+mul-source : tie.Need-mul-source
+mul-source c = search needs
 
-add-move-bytes : tie.Need-add-move-bytes
-add-move-bytes c = search needs
+add-source : tie.Need-add-source
+add-source c = search needs
 
-add-move-bytes-2 : tie.Need-add-move-bytes-2
-add-move-bytes-2 c = search needs
+add-source-2 : tie.Need-add-source-2
+add-source-2 c = search needs
 
-mul-move-bytes-2 : tie.Need-mul-move-bytes-2
-mul-move-bytes-2 c = search needs
+mul-target : tie.Need-mul-target
+mul-target c = search needs
 
-add-move-bytes-3 : tie.Need-add-move-bytes-3
-add-move-bytes-3 c = search needs
+add-target : tie.Need-add-target
+add-target c = search needs
 
-add-move-bytes-4 : tie.Need-add-move-bytes-4
-add-move-bytes-4 c = search needs
+add-target-2 : tie.Need-add-target-2
+add-target-2 c = search needs
 
 move-bytes-requires : tie.Need-move-bytes-requires
 move-bytes-requires c κs = search needs
@@ -40,12 +40,12 @@ pub copy-content-spec : {M : Type 1} → statement M
 copy-content-spec =
     tie.close
     (tie.spec
-    mul-move-bytes
-    add-move-bytes
-    add-move-bytes-2
-    mul-move-bytes-2
-    add-move-bytes-3
-    add-move-bytes-4
+    mul-source
+    add-source
+    add-source-2
+    mul-target
+    add-target
+    add-target-2
     move-bytes-requires
     same-length
     returns)
