@@ -2,3 +2,5 @@ pub mod Changes
 pub mod WrittenLaws
 pub mod EncodedRowsLaws
 pub mod EditLaws
+pub mod RowPartsLaws
+pub mod FieldEditLaws
