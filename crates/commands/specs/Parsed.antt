@@ -26,7 +26,7 @@ use Rattle.syntax.specs.Path.{Path, Entry-path}
 use Rattle.syntax.specs.Field.{bounded}
 use Rattle.commands.specs.Command.{create, mkdir, read, write, rm, rmdir, mv, chmod, chgrp, chown, login, logout, add, co, commit, up, del, Command, shell, repository, Line, listed, forms}
 use Rattle.syntax.specs.Parts.{Inside, span-text, text-in}
-use Rattle.commands.specs.Kinds.{number-in, path-in, entry-in, Argument, values-of}
+use Rattle.commands.specs.Kinds.{number-in, path-in, entry-in, Argument, values-of, arguments-of}
 
 -- a command with the one or the other
 unfoldable pub with-path : Text → Span → (Path → Command) → Option Command
@@ -90,6 +90,10 @@ unfoldable pub parsed : Text → Parsed → Option (Option Line)
 parsed t (Is-line u c) = some (line-with u (meaning t c))
 parsed t NoForm = none
 
+-- the command of a word with these arguments
+abbrev pub command-from : Word → List Text → Option Command
+command-from w arguments = arguments-of (listed w .kinds) (listed w .makes) arguments
+
 -- a word and its arguments
 unfoldable pub command-of : List Text → Option Command
 command-of [] = none
@@ -105,6 +109,10 @@ argument-texts t f = span-text t (f .first) ∷ (span-text t (f .second) ∷ (sp
 
 unfoldable pub field-texts : Text → Fields → Option (List Text)
 field-texts t f = cond (leb (f .count) 3) (some (span-text t (f .word) ∷ take (f .count) (argument-texts t f))) none
+
+-- the texts of the arguments that there are
+abbrev pub given : Text → Fields → List Text
+given t f = take (f .count) (argument-texts t f)
 
 abbrev pub fields : Span → Span → Span → Span → ℕ → Fields
 fields w s s′ s″ n = record { word = w; first = s; second = s′; third = s″; count = n }

@@ -2,12 +2,11 @@
 ghost use mathlib.Core.Path.{_≡_};
 ghost use mathlib.Core.Option.{some, Option·map};
 ghost use Prim.Native.Nat.{_≤_};
-ghost use lib.ListN.{length, take, drop};
+ghost use lib.ListN.{length, drop};
 ghost use Rattle.syntax.specs.Pieces.{comma, pieces};
-ghost use Rattle.commands.specs.Kinds.{arguments-of};
 ghost use Rattle.commands.specs.Command.{listed, line as line-of-text};
 ghost use Rattle.commands.specs.Words.{shape-of};
-ghost use Rattle.commands.specs.Parsed.{Makes-of, arguments, fields, Fields-inside, at-most, argument-texts, field-texts, line-with, parsed, command-of};
+ghost use Rattle.commands.specs.Parsed.{Makes-of, arguments, fields, Fields-inside, at-most, field-texts, line-with, parsed, command-of, given, command-from};
 use crate::Command;
 use crate::Fields;
 use crate::Form;
@@ -109,7 +108,7 @@ fn command(word: Word, f: Fields, first: u16, second: u16, third: u16) -> Comman
 // The line of a caller and a word with the arguments of its shape, which are not too many.
 fn with_arguments(line: &[u8], caller: Uid, f: Fields, word: Word, shape: Shape) -> Parsed
     requires { ⌜ (Fields-inside f (now line)) × ((f .count ≤ 3) × (shape ≡ shape-of (listed word .kinds))) ⌝ }
-    ensures { λ r. ⌜ parsed (now (line .entry)) r ≡ Option·map some (line-with caller (arguments-of (listed word .kinds) (listed word .makes) (take (f .count) (argument-texts (now (line .entry)) f)))) ⌝ }
+    ensures { λ r. ⌜ parsed (now (line .entry)) r ≡ Option·map some (line-with caller (command-from word (given (now (line .entry)) f))) ⌝ }
 {
     match numbers_at(line, f, shape) {
         Numbers::Wrong => Parsed::NoForm,

@@ -4,13 +4,14 @@ use mathlib.Core.Option.{none}
 use Prim.Native.Nat.{ℕ, _+_, _-_, _*_}
 use lib.ListN.{length, take, drop, replicate}
 use lib.Seq.{paste}
-use Rattle.buffers.specs.Fields.{two-bytes}
+use Rattle.buffers.specs.Text.{Text}
+use Rattle.buffers.specs.Fields.{two-bytes, padded}
 use Rattle.syntax.specs.Path.{Name}
-use Rattle.tree.specs.Layout.{row-width, row-start}
+use Rattle.tree.specs.Layout.{row-width, row-start, content-offset, content-width, tag-width}
 use Rattle.tree.specs.Node.{Node}
 use Rattle.tree.specs.Rows.{Row}
 use Rattle.tree.specs.Encoding.{kind-byte}
-use Rattle.tree.specs.RowAt.{row-count}
+use Rattle.tree.specs.RowAt.{row-count, tag-text-at}
 use Rattle.edits.specs.declared.Fresh.{Fresh}
 
 -- n rows, given by their bytes, put in before the row at index i: those from there on move up, the bytes behind the last stay
@@ -38,6 +39,18 @@ field-bytes b i k n = take n (drop (row-start i + k) b)
 -- bytes written into that row, k bytes into it
 unfoldable pub field-put : List ℕ → ℕ → ℕ → List ℕ → List ℕ
 field-put b i k s = paste b (row-start i + k) s (length s)
+
+-- the content of the row at an index, filled up
+abbrev pub content-field : List ℕ → ℕ → List ℕ
+content-field b i = field-bytes b i content-offset content-width
+
+-- the bytes of a tag: its path as text, and its revision
+abbrev pub tag-field : Text → ℕ → List ℕ
+tag-field path v = padded tag-width path ++ two-bytes v
+
+-- and of the tag of a child: the path of the tag at another row, a slash and a name
+abbrev pub tag-below : List ℕ → ℕ → Text → ℕ → List ℕ
+tag-below b above name v = tag-field (tag-text-at b above ++ (47 ∷ name)) v
 
 -- a new node has no tag and no content
 unfoldable pub fresh-node : Fresh → Node

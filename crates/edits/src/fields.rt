@@ -1,13 +1,13 @@
 // The fields of a row written.
 ghost use mathlib.Core.Path.{_≡_};
-ghost use mathlib.Core.List.{[], _∷_, _++_};
+ghost use mathlib.Core.List.{[], _∷_};
 ghost use Prim.Native.Nat.{_+_, _≤_, _<_};
 ghost use lib.ListN.{length};
 ghost use Rattle.buffers.specs.Fields.{two-bytes, padded};
 ghost use Rattle.tree.specs.Layout.{owner-offset, group-offset, mode-offset, revision-offset, tag-offset, tag-width, tag-revision-offset, content-offset, content-width};
 ghost use Rattle.tree.specs.RowAt.{tag-text-at};
 ghost use Rattle.tree.specs.TreeBytes.{Has-row};
-ghost use Rattle.edits.specs.Changes.{field-bytes, field-put};
+ghost use Rattle.edits.specs.Changes.{field-put, content-field, tag-field, tag-below};
 use accounts::Gid;
 use accounts::Uid;
 use buffers::move_bytes;
@@ -58,7 +58,7 @@ pub fn set_revision(tree: &mut [u8], i: usize, revision: u16)
 pub fn set_tag(tree: &mut [u8], i: usize, path: &[u8], revision: u16)
     requires { ⌜ Has-row (now tree) i ⌝ }
     requires { ⌜ length (now path) ≤ tag-width ⌝ }
-    ensures { λ _. ⌜ now (tree .exit) ≡ field-put (now (tree .entry)) i tag-offset (padded tag-width (now (path .entry)) ++ two-bytes revision) ⌝ }
+    ensures { λ _. ⌜ now (tree .exit) ≡ field-put (now (tree .entry)) i tag-offset (tag-field (now (path .entry)) revision) ⌝ }
 {
     let at = FIRST + ROW * i;
     write_padded(tree, at + TAG, TAG_WIDTH, path);
@@ -75,7 +75,7 @@ pub fn set_tag_below(tree: &mut [u8], i: usize, above: usize, name: &[u8], revis
     requires { ⌜ Has-row (now tree) i ⌝ }
     requires { ⌜ Has-row (now tree) above ⌝ }
     requires { ⌜ length (tag-text-at (now tree) above) + length (now name) < tag-width ⌝ }
-    ensures { λ _. ⌜ now (tree .exit) ≡ field-put (now (tree .entry)) i tag-offset (padded tag-width (tag-text-at (now (tree .entry)) above ++ (47 ∷ now (name .entry))) ++ two-bytes revision) ⌝ }
+    ensures { λ _. ⌜ now (tree .exit) ≡ field-put (now (tree .entry)) i tag-offset (tag-below (now (tree .entry)) above (now (name .entry)) revision) ⌝ }
 {
     let at = FIRST + ROW * i;
     let n = tag_path_at(tree, above).len();
@@ -104,7 +104,7 @@ pub fn set_content(tree: &mut [u8], i: usize, content: &[u8])
 pub fn copy_content(tree: &mut [u8], from: usize, to: usize)
     requires { ⌜ Has-row (now tree) from ⌝ }
     requires { ⌜ Has-row (now tree) to ⌝ }
-    ensures { λ _. ⌜ now (tree .exit) ≡ field-put (now (tree .entry)) to content-offset (field-bytes (now (tree .entry)) from content-offset content-width) ⌝ }
+    ensures { λ _. ⌜ now (tree .exit) ≡ field-put (now (tree .entry)) to content-offset (content-field (now (tree .entry)) from) ⌝ }
 {
     let source = FIRST + ROW * from + CONTENT;
     let target = FIRST + ROW * to + CONTENT;

@@ -1,5 +1,5 @@
--- What the code reads of a setup line: the word with its form, two both-between, and the line with its password as a part of the text.
-use mathlib.Core.List.{List}
+-- What the code reads of a setup line: the word with its form, two numbers, and the line with its password as a part of the text.
+use mathlib.Core.List.{List, [], _∷_}
 use mathlib.Core.Option.{Option, none, some}
 use Prim.Native.Nat.{ℕ}
 use Rattle.buffers.specs.Text.{Text}
@@ -9,10 +9,11 @@ use Rattle.setup.specs.declared.NumberPair.{NumberPair}
 use Rattle.setup.specs.declared.NumberPair.the-variants.{Both, Nothing}
 use Rattle.setup.specs.declared.SetupLine.{SetupLine}
 use Rattle.setup.specs.declared.SetupLine.the-variants.{Person, Group, Pair, Grant, Wrong}
+use Rattle.syntax.specs.declared.Span.{Span}
 use Rattle.syntax.specs.Number.{between}
 use Rattle.syntax.specs.Form.{_>>=_, two-of, three-of}
 use Rattle.syntax.specs.Field.{password}
-use Rattle.syntax.specs.Parts.{text-in}
+use Rattle.syntax.specs.Parts.{span-text, text-in}
 use Rattle.setup.specs.Setup.{Setup-line, p-line, g-line, r-line, l-line, person-uid, person-or-root, person-gid, plain-role}
 
 -- the form that a word has
@@ -23,7 +24,14 @@ line-form R = two-of plain-role plain-role r-line
 line-form L = three-of person-or-root plain-role password l-line
 line-form Other = λ arguments. none
 
--- two both-between, each from low to its bound
+-- the texts of two and of three parts
+abbrev pub two-texts : Text → Span → Span → List Text
+two-texts t a b = span-text t a ∷ (span-text t b ∷ [])
+
+abbrev pub three-texts : Text → Span → Span → Span → List Text
+three-texts t a b c = span-text t a ∷ two-texts t b c
+
+-- two numbers, each from low to its bound
 unfoldable pub both-between : ℕ → ℕ → ℕ → Text → Text → Option (ℕ × ℕ)
 both-between low high1 high2 a b = do
   m ← between low high1 a

@@ -1,4 +1,4 @@
--- Laws of a setup line: its form by its word, with two both-between and a password; the line that was told; and that a line told of a text
+-- Laws of a setup line: its form by its word, with two numbers and a password; the line that was told; and that a line told of a text
 -- is told of a longer one.
 use mathlib.Core.Path.{_≡_, refl, sym, ap, _∙_}
 use mathlib.Core.List.{List, [], _∷_, _++_}
@@ -76,7 +76,7 @@ not-three R a b c h = two-refuses plain-role plain-role r-line _ (λ e. omega ar
 not-three L a b c h = absurd (h refl)
 not-three Other a b c h = refl
 
--- a form of two both-between, and of two both-between and a password
+-- a form of two numbers, and of two numbers and a password
 two-numbers : {A B X : Type 0} (f : ℕ → A) (g : ℕ → B) (x : A → B → X) (low high1 high2 : ℕ) (a b : Text) →
     two-of (λ t. between low high1 t >>= λ n. some (f n)) (λ t. between low high2 t >>= λ n. some (g n)) x (a ∷ (b ∷ [])) ≡
     Option·map (λ (p : ℕ × ℕ). x (f (p .0)) (g (p .1))) (both-between low high1 high2 a b)
@@ -89,7 +89,7 @@ two-numbers f g x low high1 high2 a b = by (between low high1 a) (between low hi
     by (some u) none = refl
     by (some u) (some v) = refl
 
--- the both-between that the code read
+-- the numbers that the code read
 pub first-none : (low high1 high2 : ℕ) (a b : Text) (r : Number) → r ≡ No-number → number-of r ≡ between low high1 a → pair-of Nothing ≡ both-between low high1 high2 a b
 unfolding both-between pair-of number-of _>>=_
 first-none low high1 high2 a b r e h = rw (← h, e)

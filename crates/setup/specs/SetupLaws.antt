@@ -74,7 +74,7 @@ line-gives : Answers-pass setup-line in-range
 unfolding setup-line
 line-gives t l e = line-of-gives (pieces comma t) l (checked (leb (length t) longest-line) (setup-line-of (pieces comma t)) l e .1)
 
--- the both-between of a line's account and group
+-- the numbers of a line's account and group
 one-to-15-range : (n : ℕ) → one-to-15 n ≡ true → (0 < n) × (n < 16)
 unfolding one-to-15
 one-to-15-range n h = let i : _ = and-both (leb 1 n) (leb n 15) h in (omega (arith, leb-true 1 n (i .0)), omega (arith, leb-true n 15 (i .1)))

@@ -47,7 +47,7 @@ enum LineKind {
     Other,
 }
 
-// Two both-between read from a line, if both have their form.
+// Two numbers read from a line, if both have their form.
 enum NumberPair {
     Both(u8, u8),
     Nothing,

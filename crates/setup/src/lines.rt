@@ -1,13 +1,13 @@
 // One line of the setup text, read into a small value.
 ghost use mathlib.Core.Path.{_≡_};
-ghost use mathlib.Core.List.{List, [], _∷_};
+ghost use mathlib.Core.List.{List, _∷_};
 ghost use mathlib.Core.Option.{some, Option·map};
 ghost use Prim.Native.Nat.{_≤_, _<_};
 ghost use lib.ListN.{length, drop};
 ghost use Rattle.buffers.specs.Text.{Text};
 ghost use Rattle.syntax.specs.Parts.{Inside, part, span-text};
 ghost use Rattle.setup.specs.Setup.{setup-line-of, setup-line};
-ghost use Rattle.setup.specs.Line.{line-form, both-between, pair-of, line-told};
+ghost use Rattle.setup.specs.Line.{line-form, two-texts, three-texts, both-between, pair-of, line-told};
 use crate::LineKind;
 use crate::NumberPair;
 use crate::SetupLine;
@@ -38,7 +38,7 @@ fn word_at(text: &[u8], w: Span) -> LineKind
     }
 }
 
-// The both-between, from low to a bound each, that two parts are.
+// The numbers, from low to a bound each, that two parts are.
 fn numbers_at(text: &[u8], a: Span, b: Span, low: u16, high1: u16, high2: u16) -> NumberPair
     requires { ⌜ (Inside a (now text)) × ((Inside b (now text)) × ((high1 < 256) × (high2 < 256))) ⌝ }
     ensures { λ r. ⌜ pair-of r ≡ both-between low high1 high2 (span-text (now (text .entry)) a) (span-text (now (text .entry)) b) ⌝ }
@@ -55,7 +55,7 @@ fn numbers_at(text: &[u8], a: Span, b: Span, low: u16, high1: u16, high2: u16) -
 // Two arguments after a word: the forms of `p`, `g` and `r`.
 fn two_argument_line(text: &[u8], word: LineKind, a: Span, b: Span) -> SetupLine
     requires { ⌜ (Inside a (now text)) × (Inside b (now text)) ⌝ }
-    ensures { λ r. ⌜ line-told (now (text .entry)) r ≡ Option·map some (line-form word (span-text (now (text .entry)) a ∷ (span-text (now (text .entry)) b ∷ []))) ⌝ }
+    ensures { λ r. ⌜ line-told (now (text .entry)) r ≡ Option·map some (line-form word (two-texts (now (text .entry)) a b)) ⌝ }
 {
     match word {
         LineKind::P => match numbers_at(text, a, b, 1, 15, 15) {
@@ -87,7 +87,7 @@ fn two_argument_line(text: &[u8], word: LineKind, a: Span, b: Span) -> SetupLine
 // Three arguments after a word: the form of `l`.
 fn three_argument_line(text: &[u8], word: LineKind, a: Span, b: Span, c: Span) -> SetupLine
     requires { ⌜ (Inside a (now text)) × ((Inside b (now text)) × (Inside c (now text))) ⌝ }
-    ensures { λ r. ⌜ line-told (now (text .entry)) r ≡ Option·map some (line-form word (span-text (now (text .entry)) a ∷ (span-text (now (text .entry)) b ∷ (span-text (now (text .entry)) c ∷ [])))) ⌝ }
+    ensures { λ r. ⌜ line-told (now (text .entry)) r ≡ Option·map some (line-form word (three-texts (now (text .entry)) a b c)) ⌝ }
 {
     let LineKind::L = word else {
         return SetupLine::Wrong;

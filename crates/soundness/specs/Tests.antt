@@ -14,8 +14,8 @@ use Rattle.tree.specs.Layout.{mode-offset, revision-offset, name-offset, name-w
 use Rattle.tree.specs.WellFormed.{last-revision, fits-kind}
 use Rattle.tree.specs.Encoding.{kind-of}
 use Rattle.tree.specs.declared.Kind.{Kind}
-use Rattle.tree.specs.RowAt.{all-rows}
-use Rattle.soundness.specs.Sound.{is-row, row-stretches, in-order}
+use Rattle.tree.specs.RowAt.{all-rows, row-at}
+use Rattle.soundness.specs.Sound.{is-row, row-stretches, in-order, may-follow}
 
 -- kind, owner, group, mode and revision are in range
 unfoldable pub has-numbers : List ℕ → Bool
@@ -35,6 +35,10 @@ has-content x =
 
 unfoldable pub row-test : List ℕ → Bool
 row-test x = (has-numbers x && is-filled name-offset name-width x) && (has-tag x && has-content x)
+
+-- whether the row at an index may follow the one before it, where the row at its depth last seen is given
+abbrev pub may-follow-at : List ℕ → ℕ → ℕ → Bool
+may-follow-at b i beside = may-follow (row-at b (i - 1) .depth) (row-at b (i - 1) .here .kind) (row-at b beside .name) (row-at b i)
 
 -- the rows from one on are sound each and stand in order behind another of these names and this kind
 unfoldable pub rest-in-order : List ℕ → ℕ → List Name → Kind → Bool

@@ -4,8 +4,7 @@ ghost use mathlib.Core.List.{[]};
 ghost use Prim.Native.Nat.{_-_, _≤_, _<_};
 ghost use Rattle.tree.specs.RowAt.{row-count, row-at};
 ghost use Rattle.tree.specs.TreeBytes.{Has-row, Sized};
-ghost use Rattle.soundness.specs.Sound.{may-follow};
-ghost use Rattle.soundness.specs.Tests.{rest-in-order};
+ghost use Rattle.soundness.specs.Tests.{may-follow-at, rest-in-order};
 use crate::row::is_directory;
 use crate::row::is_row;
 use buffers::Order;
@@ -16,7 +15,7 @@ fn may_follow(tree: &[u8], i: usize, beside: usize) -> bool
     requires { ⌜ Has-row (now tree) beside ⌝ }
     requires { ⌜ 1 ≤ i ⌝ }
     requires { ⌜ row-at (now tree) i .depth ≤ 6 ⌝ }
-    ensures { λ r. ⌜ r ≡ may-follow (row-at (now (tree .entry)) (i - 1) .depth) (row-at (now (tree .entry)) (i - 1) .here .kind) (row-at (now (tree .entry)) beside .name) (row-at (now (tree .entry)) i) ⌝ }
+    ensures { λ r. ⌜ r ≡ may-follow-at (now (tree .entry)) i beside ⌝ }
 {
     let depth = tree::depth_at(tree, i);
     let before = tree::depth_at(tree, i - 1);

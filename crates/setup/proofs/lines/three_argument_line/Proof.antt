@@ -1,4 +1,4 @@
--- `setup::lines::three_argument_line` meets its contract: the form of `l` answers what the both-between and the password make.
+-- `setup::lines::three_argument_line` meets its contract: the form of `l` answers what the numbers and the password make.
 use native.Mathlib.Omega.{arith}
 use mathlib.Core.Path.{_≡_, ap, _∙_}
 use mathlib.Core.Logic.{⊎-elim}

@@ -1,4 +1,4 @@
--- `setup::lines::two_argument_line` meets its contract: the form of the word answers what the both-between make.
+-- `setup::lines::two_argument_line` meets its contract: the form of the word answers what the numbers make.
 use mathlib.Core.Path.{refl, ap, _∙_}
 use mathlib.Core.List.{[], _∷_}
 use denote.Ref.{now}
