@@ -1,31 +1,70 @@
--- A place among rows: its row, its children, where it ends, and siblings one by one. And the rows of copies: of siblings one by one, of
--- one that may be read and of one that may not, and how many there are.
+-- The rows of a tree's bytes as rows that are held there. A place among rows: its row, its children, where it ends, and siblings one by
+-- one. And the rows of copies: of siblings one by one, of one that may be read and of one that may not, and how many there are.
 use mathlib.Core.Path.{_≡_, refl, sym, _∙_, ap}
 use mathlib.Core.List.{List, [], _∷_, _++_, append-assoc, append-nil}
 use mathlib.Core.Bool.{true, false}
-use Prim.Native.Nat.{ℕ, suc, _+_, _≤_, _<_}
+use Prim.Native.Nat.{ℕ, suc, _+_, _*_, _≤_, _<_}
 use native.Mathlib.Omega.{arith}
 use native.Mathlib.Nat.{add-zero}
-use lib.ListN.{length, getD, drop}
-use lib.Seq.{drop-at, drop-drop, getD-drop}
-use Rattle.buffers.specs.Cases.{case}
+use lib.ListN.{length, getD, take, drop, length-append}
+use lib.Seq.{length-take-le, split-at, drop-at, drop-drop, getD-drop}
+use Rattle.buffers.specs.Cases.{case, and-both}
+use Rattle.buffers.specs.Text.{every}
+use Rattle.buffers.specs.TextLaws.{every-append}
+use Rattle.buffers.specs.Fields.{all-bytes}
+use Rattle.buffers.specs.TableLaws.{length-all-bytes}
 use Rattle.accounts.specs.declared.Caller.{Caller}
 use Rattle.accounts.specs.declared.Gid.{Gid}
 use Rattle.syntax.specs.Number.{set-gid}
 use Rattle.syntax.specs.Path.{Name, Path, _▹_, Entry-path, depth}
+use Rattle.tree.specs.Layout.{row-width, row-start}
 use Rattle.tree.specs.Forest.{Forest, nil, node, Place, size}
 use Rattle.tree.specs.Node.{Node, set-tag, set-content, new-node}
 use Rattle.tree.specs.Walk.{by-modes}
-use Rattle.tree.specs.Rows.{Row, flatten}
+use Rattle.tree.specs.WellFormed.{is-node}
+use Rattle.tree.specs.Rows.{Row, flatten, rows}
 use Rattle.tree.specs.RowLaws.{length-flatten}
 use Rattle.tree.specs.RowContext.{ends-flatten, place-rows, ends}
 use Rattle.tree.specs.RowScan.{below-span}
-use Rattle.tree.specs.RowAt.{row-count, row-at, all-rows, first-depth, depth-of, end-of-subtree}
-use Rattle.tree.specs.RowAtLaws.{row-in-rows}
+use Rattle.tree.specs.Encoding.{row-bytes, row-of, encode-rows}
+use Rattle.tree.specs.EncodingLaws.{fits, fits-parts, tree-fits, length-fitting, fitting-back}
+use Rattle.tree.specs.RowAt.{row-count, row-bytes-at, row-at, all-rows, first-depth, depth-of, end-of-subtree}
+use Rattle.tree.specs.RowAtLaws.{row-in-rows, row-count-of-tree}
+use Rattle.tree.specs.TreeBytes.{Encodes}
+use Rattle.edits.specs.EncodedRowsLaws.{encode-tree-rows, table-part}
 use Rattle.copying.specs.declared.Copier.{Copier}
 use Rattle.copying.specs.Copying.{below-rep, copy-mode, copy-node, copied, copy-children, copy}
 use Rattle.copying.specs.CopyLaws.{copy-mode-fits}
-use Rattle.copying.specs.CopyRows.{Stands, child-entry, read-by, copy-rows, untagged, tagged-row, alone}
+use Rattle.copying.specs.CopyRows.{Holds-row, Stands, child-entry, read-by, copy-rows, handed-over, tagged-row, alone}
+
+-- ---- rows that are held
+
+-- each row of a well-formed tree is held
+pub row-held : (b : List ℕ) (t : Place Node) (i : ℕ) → Encodes b t → i < row-count b → Holds-row b i
+unfolding row-at row-bytes-at all-bytes every
+row-held b t i e h =
+    let rs = rows t in
+    let c = row-count-of-tree t (e .whole) in
+    let q = ap row-count (e .bytes) in
+    let r = getD rs i (row-at b i) in
+    let xs = take i rs in
+    let ys = drop (suc i) rs in
+    let lx : length xs ≡ i = length-take-le i rs (omega arith) in
+    let split : rs ≡ xs ++ (r ∷ ys) = split-at rs i (row-at b i) (omega arith) in
+    let f = and-both (every fits xs) (every fits (r ∷ ys)) (sym (every-append fits xs (r ∷ ys)) ∙ ap (every fits) (sym split) ∙ tree-fits t (e .whole) .0) in
+    let g = and-both (fits r) (every fits ys) (f .1) in
+    let lr : length (row-bytes r ++ []) ≡ 1 * row-width = length-append (row-bytes r) [] ∙ omega (arith, length-fitting r (g .0)) in
+    let there : row-bytes-at b i ≡ row-bytes r =
+    ap (λ (s : List ℕ). take row-width (drop (row-start i) s)) (e .bytes ∙ encode-tree-rows t ∙ ap encode-rows split)
+    ∙ ap (λ (j : ℕ). take row-width (drop (row-start j) (encode-rows (xs ++ (r ∷ ys))))) (sym lx)
+    ∙ table-part xs (r ∷ []) ys (length-all-bytes row-width fits row-bytes length-fitting xs (f .0)) lr
+    ∙ append-nil (row-bytes r) in
+    let is : row-at b i ≡ r = ap row-of there ∙ fitting-back r (g .0) in
+    record {
+      has = record { wide = e .sized .wide; low = omega (arith, e .sized .few-rows) };
+      own = ap (λ (u : Row Node). is-node (u .here)) is ∙ fits-parts r (g .0) .0;
+      bytes = there ∙ ap row-bytes (sym is);
+    }
 
 -- ---- a place among rows
 
@@ -40,7 +79,7 @@ behind rs i r xs ys e =
     let q : i + suc (length xs) ≡ suc (i + length xs) = omega arith in
     ap (λ (j : ℕ). drop j rs) (sym q) ∙ sym (drop-drop (suc (length xs)) i rs) ∙ ap (drop (suc (length xs))) e ∙ drop-at (r ∷ xs) ys (suc (length xs)) refl
 
-module _ (rs : List (Row Node)) (at k : ℕ) (n : Name) (d : Place Node) (s : Stands rs at k n d) where
+module _ {rs : List (Row Node)} {at k : ℕ} {n : Name} {d : Place Node} (s : Stands rs at k n d) where
   -- behind its row stand those of its children
   pub children-stand : drop (suc at) rs ≡ flatten (suc k) (d .below) ++ s .post
   unfolding place-rows
@@ -57,10 +96,10 @@ module _ (rs : List (Row Node)) (at k : ℕ) (n : Name) (d : Place Node) (s : St
       rw (q, children-stand, below-span k (d .below) (s .post) (s .stops))
 
 -- the row of a place that stands in a tree's bytes
-pub row-stands : (b : List ℕ) (at k : ℕ) (n : Name) (d : Place Node) → at < row-count b → Stands (all-rows b) at k n d
+pub row-stands : (b : List ℕ) {at k : ℕ} {n : Name} {d : Place Node} → at < row-count b → Stands (all-rows b) at k n d
     → row-at b at ≡ record { depth = k; name = n; here = d .here }
 unfolding place-rows
-row-stands b at k n d h s =
+row-stands b {at} {k} {n} {d} h s =
     let z = row-at b at in
     sym (row-in-rows b at z h) ∙ ap (λ (j : ℕ). getD (all-rows b) j z) (sym (add-zero at)) ∙ sym (getD-drop at (all-rows b) 0 z) ∙ ap (λ (l : List (Row Node)). getD l 0 z) (s .here)
 
@@ -87,9 +126,9 @@ module _ (rs : List (Row Node)) (i k : ℕ) (n : Name) (x : Node) (cs rest : For
 -- ---- the rows of copies
 
 -- a copy is the caller's, its group that of a new node, and it has its content and tag
-pub copied-is : (w : Copier) (parent : Node) (e : Entry-path) (g : Gid) (x : Node) → g ≡ new-node (w .caller) parent (x .kind) (copy-mode (x .kind)) .group
-    → copied (w .caller) (read-by w) parent e x ≡ set-tag (record { path = e; revision = x .revision }) (untagged (w .caller .account .uid) g x)
-unfolding copied copy-node new-node set-tag set-content untagged by-modes
+copied-is : (w : Copier) (parent : Node) (e : Entry-path) (g : Gid) (x : Node) → g ≡ new-node (w .caller) parent (x .kind) (copy-mode (x .kind)) .group
+    → copied (w .caller) (read-by w) parent e x ≡ set-tag (record { path = e; revision = x .revision }) (handed-over (w .caller .account .uid) g x)
+unfolding copied copy-node new-node set-tag set-content handed-over by-modes
 copied-is w parent e g x h = rw h
 
 -- the rows of a copied place

@@ -2,9 +2,8 @@
 -- leaves. Only the entry as a whole is found by its path in the tree; all below it is found by its rows.
 use mathlib.Core.Path.{_≡_}
 use mathlib.Core.List.{List, _++_}
-use mathlib.Core.Option.{none, some}
 use mathlib.Core.Bool.{true, false}
-use Prim.Native.Nat.{ℕ, suc, _+_, _*_, _≤_}
+use Prim.Native.Nat.{ℕ, suc, _+_, _*_, _≤_, _<_}
 use lib.ListN.{length, drop}
 use lib.Seq.{paste}
 use Rattle.buffers.specs.Fields.{all-bytes}
@@ -12,17 +11,36 @@ use Rattle.accounts.specs.declared.Uid.{Uid}
 use Rattle.accounts.specs.declared.Gid.{Gid}
 use Rattle.syntax.specs.Number.{set-gid}
 use Rattle.syntax.specs.Path.{Name, Path, Entry-path, depth, entry-location, is-entry-path, entry-text}
-use Rattle.tree.specs.Layout.{row-width, row-start}
-use Rattle.tree.specs.Forest.{Forest, nil, node, Place, place-at, size, height}
+use Rattle.tree.specs.Layout.{row-width, most-rows, row-start}
+use Rattle.tree.specs.Forest.{Forest, nil, node, Place, size, height}
 use Rattle.tree.specs.Node.{Node, set-tag, new-node}
 use Rattle.tree.specs.Walk.{by-modes}
-use Rattle.tree.specs.WellFormed.{is-forest, is-tree}
+use Rattle.tree.specs.WellFormed.{is-node, is-forest}
 use Rattle.tree.specs.Rows.{Row, flatten}
-use Rattle.tree.specs.RowContext.{place-rows, ends, index-of}
-use Rattle.tree.specs.Encoding.{row-bytes, encode-tree}
-use Rattle.tree.specs.RowAt.{row-at, all-rows, tag-text-at}
+use Rattle.tree.specs.RowContext.{place-rows, ends}
+use Rattle.tree.specs.Encoding.{row-bytes}
+use Rattle.tree.specs.RowAt.{row-bytes-at, row-at, all-rows, tag-text-at}
+use Rattle.tree.specs.TreeBytes.{Wide, Has-row, Used, Encodes, At}
 use Rattle.copying.specs.declared.Copier.{Copier}
 use Rattle.copying.specs.Copying.{below-rep, Source, nodes-by, copy-mode, copy-children, copy}
+
+-- a depth is a byte
+abbrev pub deepest : ℕ
+deepest = 255
+
+-- a path has at most six names, so there are no more levels below an entry
+abbrev pub most-levels : ℕ
+most-levels = 6
+
+-- at the index there are the bytes of a row, as in a well-formed tree: its node is in range, and nothing stands beside its fields
+pub record Holds-row (b : List ℕ) (i : ℕ) : Type 0 where
+  pub has : Has-row b i
+  pub own : is-node (row-at b i .here) ≡ true
+  pub bytes : row-bytes-at b i ≡ row-bytes (row-at b i)
+
+-- a row written at the index, and nothing else
+abbrev pub row-put : List ℕ → ℕ → Row Node → List ℕ
+row-put o to r = paste o (row-start to) (row-bytes r) row-width
 
 -- the place d, named n, stands from row `at` on at depth k
 pub record Stands (rs : List (Row Node)) (at k : ℕ) (n : Name) (d : Place Node) : Type 0 where
@@ -42,27 +60,35 @@ read-by w = nodes-by (by-modes (w .reader))
 unfoldable pub copy-rows : Copier → ℕ → Node → Entry-path → Forest Node → List (Row Node)
 copy-rows w m x e F = flatten (suc m) (copy-children (w .caller) (read-by w) x (below-rep e) F)
 
--- a copy but for its tag
-unfoldable pub untagged : Uid → Gid → Node → Node
-untagged owner group x = record { kind = x .kind; owner = owner; group = group; mode = copy-mode (x .kind); revision = 0; tag = none; content = x .content }
+-- a copy that still has the tag of its original
+unfoldable pub handed-over : Uid → Gid → Node → Node
+handed-over owner group x = record { kind = x .kind; owner = owner; group = group; mode = copy-mode (x .kind); revision = 0; tag = x .tag; content = x .content }
+
+-- its row, with the name of the original
+unfoldable pub handed-row : ℕ → Uid → Gid → Row Node → Row Node
+handed-row k owner group r = record { depth = k; name = r .name; here = handed-over owner group (r .here) }
 
 -- the row of a copy: where it goes, its group, its entry path and the original
 unfoldable pub tagged-row : Copier → ℕ → Name → Gid → Entry-path → Node → Row Node
 tagged-row w k n group e x = record {
   depth = k;
   name = n;
-  here = set-tag (record { path = e; revision = x .revision }) (untagged (w .caller .account .uid) group x);
+  here = set-tag (record { path = e; revision = x .revision }) (handed-over (w .caller .account .uid) group x);
 }
 
 -- the row of the copy of a child, below a copy at depth m of the entry e
 abbrev pub copy-of-row : Copier → ℕ → Entry-path → Row Node → Row Node
 copy-of-row w m e r = tagged-row w (suc m) (r .name) (w .caller .primary) (child-entry e (r .name)) (r .here)
 
--- the tag at row `above` of o spells an entry path that may have a child of the name
-pub record Spelled (o : List ℕ) (above : ℕ) (n : Name) : Type 0 where
+-- the tag at row `above` of o spells an entry path that may have a child with the name of row `at` of b
+pub record Spelled (b : List ℕ) (at : ℕ) (o : List ℕ) (above : ℕ) : Type 0 where
   pub entry : Entry-path
   pub spells : tag-text-at o above ≡ entry-text entry
-  pub valid : is-entry-path (child-entry entry n) ≡ true
+  pub valid : is-entry-path (child-entry entry (row-at b at .name)) ≡ true
+
+-- the row of its copy
+abbrev pub child-row : {b : List ℕ} {at : ℕ} {o : List ℕ} {above : ℕ} → Copier → Spelled b at o above → Row Node
+child-row {b} {at} {o} {above} w g = copy-of-row w (row-at o above .depth) (g .entry) (row-at b at)
 
 -- what is copied: the children of a place, or the place alone
 abbrev pub children : Name → Place Node → Forest Node
@@ -79,13 +105,18 @@ pub record Below (o : List ℕ) (above to left : ℕ) (F : Forest Node) : Type 0
   pub valid : is-entry-path entry ≡ true
   pub plain : set-gid (parent .mode) ≡ false
   pub whole : is-forest F ≡ true
-  pub short : depth (entry-location entry) + height F ≤ 6
+  pub short : depth (entry-location entry) + height F ≤ most-levels
   pub deep : height F ≤ left
-  pub low : row-at o above .depth + height F ≤ 255
-  pub room : to + size F ≤ 256
+  pub low : row-at o above .depth + height F ≤ deepest
+  pub room : to + size F ≤ most-rows
 
--- the place at row `at` of b, and where the copies go
+-- the place at row `at` of a tree's bytes b, and where the copies go
 pub record Job (what : Name → Place Node → Forest Node) (b o : List ℕ) (at above to left : ℕ) : Type 0 where
+  pub top : Place Node
+  pub tree : Encodes b top
+  pub used : Used b at
+  pub wide : Wide o
+  pub order : above < to
   pub level : ℕ
   pub name : Name
   pub place : Place Node
@@ -107,17 +138,22 @@ pub record Entry-job (w : Copier) (b : List ℕ) (at : ℕ) (group : Gid) (path 
   pub top : Place Node
   pub spot : Path
   pub place : Place Node
+  pub found : At b top spot at place
   pub entry : Entry-path
   pub parent : Node
-  pub well : is-tree top ≡ true
-  pub bytes : b ≡ encode-tree top
-  pub there : place-at top spot ≡ some place
-  pub index : at ≡ index-of top spot
   pub text : path ≡ entry-text entry
   pub valid : is-entry-path entry ≡ true
-  pub short : depth (entry-location entry) + height (place .below) ≤ 6
+  pub short : depth (entry-location entry) + height (place .below) ≤ most-levels
   pub given : group ≡ new-node (w .caller) parent (place .here .kind) (copy-mode (place .here .kind)) .group
 
 -- its copy
 unfoldable pub entry-copy : {w : Copier} {b : List ℕ} {at : ℕ} {group : Gid} {path : List ℕ} → Entry-job w b at group path → Place Node
 entry-copy {w} j = copy (w .caller) (read-by w) (j .parent) (j .entry) (j .place)
+
+-- the row of the entry's own copy, at depth k and named n
+unfoldable pub first-row : {w : Copier} {b : List ℕ} {at : ℕ} {group : Gid} {path : List ℕ} → Entry-job w b at group path → ℕ → Name → Row Node
+first-row {w} {b} {at} {group} j k n = tagged-row w k n group (j .entry) (j .place .here)
+
+-- and all rows of its copy
+unfoldable pub entry-rows : {w : Copier} {b : List ℕ} {at : ℕ} {group : Gid} {path : List ℕ} → Entry-job w b at group path → ℕ → Name → List (Row Node)
+entry-rows j k n = place-rows k n (entry-copy j)

@@ -2,7 +2,8 @@ pub mod Copying
 pub mod CopyLaws
 pub mod CopyRows
 pub mod CopyRowLaws
-pub mod CopyBytes
-pub mod CopyJobs
-pub mod CopyEntry
+pub mod CopyBytesLaws
+pub mod RowsWrittenLaws
+pub mod CopyJobLaws
+pub mod CopyEntryLaws
 pub mod Compute

@@ -1,34 +1,35 @@
 // The copies of an entry and of all below it that may be read, written as rows into a buffer of their own.
 ghost use mathlib.Core.Path.{_≡_};
-ghost use Prim.Native.Nat.{ℕ, suc, _+_, _*_, _≤_, _<_};
+ghost use Prim.Native.Nat.{suc, _+_, _≤_, _<_};
 ghost use lib.ListN.{length};
-ghost use lib.Seq.{paste};
-ghost use Rattle.buffers.specs.Fields.{all-bytes};
-ghost use Rattle.tree.specs.Layout.{row-width, tree-width, row-start};
-ghost use Rattle.tree.specs.Forest.{size};
-ghost use Rattle.tree.specs.RowContext.{place-rows};
-ghost use Rattle.tree.specs.Encoding.{row-bytes};
-ghost use Rattle.tree.specs.RowAt.{row-count, row-at, tag-text-at};
+ghost use Rattle.tree.specs.Layout.{name-width};
+ghost use Rattle.tree.specs.RowAt.{row-at};
+ghost use Rattle.tree.specs.TreeBytes.{Wide, Has-row};
 ghost use Rattle.copying.specs.Copying.{copy-mode};
-ghost use Rattle.copying.specs.CopyRows.{untagged, copy-of-row, Spelled, children, alone, Job, job-rows, Written, Entry-job, entry-copy};
+ghost use Rattle.copying.specs.CopyRows.{deepest, most-levels, Holds-row, row-put, handed-row, Spelled, child-row, children, alone, Job, job-rows, Written, Entry-job, first-row, entry-rows};
 use crate::Copier;
 use accounts::Gid;
 use accounts::Uid;
+use buffers::write_many;
+use buffers::write_padded;
 use edits::Fresh;
-use edits::set_content;
 use edits::set_tag;
 use edits::set_tag_below;
-use edits::write_row;
+use edits::write_head;
 use tree::FIRST;
 use tree::Kind;
+use tree::NAME;
+use tree::NAME_WIDTH;
 use tree::ROW;
-use tree::content_at;
 use tree::depth_at;
 use tree::kind_at;
 use tree::name_at;
 use tree::revision_at;
 use tree::subtree_end;
 use walks::readable_at;
+
+// A path has at most six names, so there are no more levels below an entry.
+const LEVELS: usize = 6;
 
 // The copy of a file is 0600, of a directory 0700.
 fn copy_mode(kind: Kind) -> u16
@@ -40,21 +41,22 @@ fn copy_mode(kind: Kind) -> u16
     }
 }
 
-// Writes the copy of the node at row `at` as row `to`, but for its tag; the tags before stay.
-fn copy_untagged(
-    tree: &[u8],
-    at: usize,
-    owner: Uid,
-    group: Gid,
-    out: &mut [u8],
-    to: usize,
-    depth: u8,
-    name: &[u8],
-)
-    requires { ⌜ (length (now tree) ≡ tree-width) × ((at < 256) × ((length (now out) ≡ tree-width) × ((to < 256) × ((length (now name) ≤ 8) × (length (row-at (now tree) at .here .content) ≤ 80))))) ⌝ }
-    ensures { λ _. ⌜ (now (out .exit) ≡ paste (now (out .entry)) (row-start to) (row-bytes (record { depth = depth; name = now (name .entry); here = untagged owner group (row-at (now (tree .entry)) at .here) })) row-width)
-        × ((i : ℕ) → i < to → tag-text-at (now (out .exit)) i ≡ tag-text-at (now (out .entry)) i) ⌝ }
+// Copies the bytes of the row at `at` to row `to`.
+fn copy_bytes(tree: &[u8], at: usize, out: &mut [u8], to: usize)
+    requires { ⌜ Holds-row (now tree) at ⌝ }
+    requires { ⌜ Has-row (now out) to ⌝ }
+    ensures { λ _. ⌜ now (out .exit) ≡ row-put (now (out .entry)) to (row-at (now (tree .entry)) at) ⌝ }
 {
+    write_many(out, FIRST + ROW * to, &tree[FIRST + ROW * at..], ROW);
+}
+
+// Writes the row at `at` as row `to`, at another depth and with its node handed over. The tag is still the original's: each copy gets one of its own.
+fn hand_over(tree: &[u8], at: usize, owner: Uid, group: Gid, out: &mut [u8], to: usize, depth: u8)
+    requires { ⌜ Holds-row (now tree) at ⌝ }
+    requires { ⌜ Has-row (now out) to ⌝ }
+    ensures { λ _. ⌜ now (out .exit) ≡ row-put (now (out .entry)) to (handed-row depth owner group (row-at (now (tree .entry)) at)) ⌝ }
+{
+    copy_bytes(tree, at, out, to);
     let kind = kind_at(tree, at);
     let mode = copy_mode(kind);
     let node = Fresh {
@@ -64,24 +66,25 @@ fn copy_untagged(
         mode: mode,
         revision: 0,
     };
-    write_row(out, FIRST + ROW * to, depth, name, node);
-    set_content(out, to, content_at(tree, at));
+    write_head(out, FIRST + ROW * to, depth, node);
 }
 
 // Writes the copy of the node at row `at` as row `to`, a child of the copy at row `above`.
 fn copy_row(tree: &[u8], at: usize, who: Copier, out: &mut [u8], above: usize, to: usize)
-    requires { ⌜ (length (now tree) ≡ tree-width) × ((at < 256) × ((length (now out) ≡ tree-width) × ((above < to) × ((to < 256) × ((row-at (now out) above .depth < 255)
-        × ((length (tag-text-at (now out) above) + length (row-at (now tree) at .name) < 54) × ((length (row-at (now tree) at .here .content) ≤ 80) × Spelled (now out) above (row-at (now tree) at .name)))))))) ⌝ }
-    ensures { λ _. ⌜ ((g : Spelled (now (out .entry)) above (row-at (now (tree .entry)) at .name))
-        → now (out .exit) ≡ paste (now (out .entry)) (row-start to) (row-bytes (copy-of-row who (row-at (now (out .entry)) above .depth) (g .entry) (row-at (now (tree .entry)) at))) row-width) ⌝ }
+    requires { ⌜ Holds-row (now tree) at ⌝ }
+    requires { ⌜ Has-row (now out) to ⌝ }
+    requires { ⌜ above < to ⌝ }
+    requires { ⌜ row-at (now out) above .depth < deepest ⌝ }
+    requires { ⌜ Spelled (now tree) at (now out) above ⌝ }
+    ensures { λ _. ⌜ ((g : Spelled (now (tree .entry)) at (now (out .entry)) above) → now (out .exit) ≡ row-put (now (out .entry)) to (child-row who g)) ⌝ }
 {
     let depth = depth_at(out, above) + 1;
-    let name = name_at(tree, at);
     let caller = who.caller;
     let account = caller.account;
     let owner = account.uid;
     let group = caller.primary;
-    copy_untagged(tree, at, owner, group, out, to, depth, name);
+    hand_over(tree, at, owner, group, out, to, depth);
+    let name = name_at(tree, at);
     set_tag_below(out, to, above, name, revision_at(tree, at));
 }
 
@@ -95,7 +98,7 @@ fn copy_node(
     above: usize,
     to: usize,
 ) -> usize
-    requires { ⌜ (length (now tree) ≡ tree-width) × ((row-count (now tree) ≤ 256) × ((at < row-count (now tree)) × ((length (now out) ≡ tree-width) × ((above < to) × Job alone (now tree) (now out) at above to (suc left))))) ⌝ }
+    requires { ⌜ Job alone (now tree) (now out) at above to (suc left) ⌝ }
     ensures { λ r. ⌜ ((j : Job alone (now (tree .entry)) (now (out .entry)) at above to (suc left)) → Written (now (out .entry)) to (job-rows who j) r (now (out .exit))) ⌝ }
 {
     let reader = who.reader;
@@ -116,7 +119,7 @@ fn copy_children(
     above: usize,
     to: usize,
 ) -> usize
-    requires { ⌜ (length (now tree) ≡ tree-width) × ((row-count (now tree) ≤ 256) × ((at < row-count (now tree)) × ((length (now out) ≡ tree-width) × ((above < to) × Job children (now tree) (now out) at above to left)))) ⌝ }
+    requires { ⌜ Job children (now tree) (now out) at above to left ⌝ }
     ensures { λ r. ⌜ ((j : Job children (now (tree .entry)) (now (out .entry)) at above to left) → Written (now (out .entry)) to (job-rows who j) r (now (out .exit))) ⌝ }
 {
     if left == 0 {
@@ -132,6 +135,31 @@ fn copy_children(
     next
 }
 
+// Writes the copy of an entry's own node as the first row, with its tag.
+fn copy_first(
+    tree: &[u8],
+    at: usize,
+    who: Copier,
+    group: Gid,
+    depth: u8,
+    name: &[u8],
+    path: &[u8],
+    out: &mut [u8],
+)
+    requires { ⌜ Entry-job who (now tree) at group (now path) ⌝ }
+    requires { ⌜ Wide (now out) ⌝ }
+    requires { ⌜ length (now name) ≤ name-width ⌝ }
+    ensures { λ _. ⌜ ((j : Entry-job who (now (tree .entry)) at group (now (path .entry)))
+        → now (out .exit) ≡ row-put (now (out .entry)) 0 (first-row j depth (now (name .entry)))) ⌝ }
+{
+    let caller = who.caller;
+    let account = caller.account;
+    let owner = account.uid;
+    hand_over(tree, at, owner, group, out, 0, depth);
+    write_padded(out, FIRST + NAME, NAME_WIDTH, name);
+    set_tag(out, 0, path, revision_at(tree, at));
+}
+
 // The copies of an entry: the first with the group, the depth and the name that it is to have, tagged with the entry's path.
 pub fn copy_entry(
     tree: &[u8],
@@ -143,14 +171,13 @@ pub fn copy_entry(
     path: &[u8],
     out: &mut [u8],
 ) -> usize
-    requires { ⌜ (length (now out) ≡ tree-width) × ((depth < 250) × ((length (now name) ≤ 8) × Entry-job who (now tree) at group (now path))) ⌝ }
-    ensures { λ r. ⌜ ((j : Entry-job who (now (tree .entry)) at group (now (path .entry))) → (r ≡ suc (size (entry-copy j .below)))
-        × (now (out .exit) ≡ paste (now (out .entry)) 2 (all-bytes row-bytes (place-rows depth (now (name .entry)) (entry-copy j))) (row-width * r))) ⌝ }
+    requires { ⌜ Entry-job who (now tree) at group (now path) ⌝ }
+    requires { ⌜ Wide (now out) ⌝ }
+    requires { ⌜ depth + most-levels ≤ deepest ⌝ }
+    requires { ⌜ length (now name) ≤ name-width ⌝ }
+    ensures { λ r. ⌜ ((j : Entry-job who (now (tree .entry)) at group (now (path .entry)))
+        → Written (now (out .entry)) 0 (entry-rows j depth (now (name .entry))) r (now (out .exit))) ⌝ }
 {
-    let caller = who.caller;
-    let account = caller.account;
-    let owner = account.uid;
-    copy_untagged(tree, at, owner, group, out, 0, depth, name);
-    set_tag(out, 0, path, revision_at(tree, at));
-    copy_children(tree, at, 6, who, out, 0, 1)
+    copy_first(tree, at, who, group, depth, name, path, out);
+    copy_children(tree, at, LEVELS, who, out, 0, 1)
 }

@@ -98,7 +98,7 @@ all-append [] ys = refl
 all-append (x ∷ xs) ys =
     ap (λ (l : List ℕ). row-bytes x ++ l) (all-append xs ys) ∙ sym (append-assoc (row-bytes x) (all-bytes row-bytes xs) (all-bytes row-bytes ys))
 
-zeros-join : (m n : ℕ) → replicate {A = ℕ} (m + n) 0 ≡ replicate m 0 ++ replicate n 0
+pub zeros-join : (m n : ℕ) → replicate {A = ℕ} (m + n) 0 ≡ replicate m 0 ++ replicate n 0
 zeros-join zero n = ap (λ (k : ℕ). replicate {A = ℕ} k 0) (zero-add n)
 zeros-join (suc m) n = ap (λ (k : ℕ). replicate {A = ℕ} k 0) (suc-add m n) ∙ ap (λ (l : List ℕ). 0 ∷ l) (zeros-join m n)
 

@@ -10,7 +10,9 @@ ghost use Rattle.tree.specs.TreeBytes.{Has-row};
 ghost use Rattle.edits.specs.Changes.{field-put, content-field, tag-field, tag-below};
 use accounts::Gid;
 use accounts::Uid;
+use buffers::clear;
 use buffers::move_bytes;
+use buffers::write;
 use buffers::write_number;
 use buffers::write_padded;
 use tree::CONTENT;
@@ -65,23 +67,23 @@ pub fn set_tag(tree: &mut [u8], i: usize, path: &[u8], revision: u16)
     write_number(tree, at + TAG_REVISION, revision);
 }
 
-// Where the name of a child begins in its tag, and how many bytes there are for it, if nothing stands before the slash.
+// Where the name of a child begins in its tag, if nothing stands before the slash.
 const BEHIND_SLASH: usize = 17;
 
-const NAME_ROOM: usize = 53;
-
-// The tag of a child: the path of the tag at another row, a slash and a name.
+// The tag of a child: the path of the tag at a row before, a slash and a name. The whole field is cleared first: a fixed width is faster
+// than what the name leaves of it.
 pub fn set_tag_below(tree: &mut [u8], i: usize, above: usize, name: &[u8], revision: u16)
     requires { ⌜ Has-row (now tree) i ⌝ }
-    requires { ⌜ Has-row (now tree) above ⌝ }
+    requires { ⌜ above < i ⌝ }
     requires { ⌜ length (tag-text-at (now tree) above) + length (now name) < tag-width ⌝ }
     ensures { λ _. ⌜ now (tree .exit) ≡ field-put (now (tree .entry)) i tag-offset (tag-below (now (tree .entry)) above (now (name .entry)) revision) ⌝ }
 {
     let at = FIRST + ROW * i;
     let n = tag_path_at(tree, above).len();
+    clear(tree, at + TAG, TAG_WIDTH);
     move_bytes(tree, FIRST + ROW * above + TAG, at + TAG, n);
     tree[at + TAG + n] = b'/';
-    write_padded(tree, at + BEHIND_SLASH + n, NAME_ROOM - n, name);
+    write(tree, at + BEHIND_SLASH + n, name, name.len());
     write_number(tree, at + TAG_REVISION, revision);
 }
 

@@ -17,7 +17,7 @@ pub use rows::plant;
 pub use rows::put_child;
 pub use rows::put_rows;
 pub use rows::take_rows;
-pub use rows::write_row;
+pub use rows::write_head;
 use tree::Kind;
 
 // A new node, without tag and content.

@@ -63,7 +63,7 @@ fn kind_byte(kind: Kind) -> u8
 }
 
 // Writes the fields of a row before its name.
-fn write_head(tree: &mut [u8], at: usize, depth: u8, node: Fresh)
+pub fn write_head(tree: &mut [u8], at: usize, depth: u8, node: Fresh)
     requires { ⌜ at + 8 ≤ length (now tree) ⌝ }
     ensures { λ _. ⌜ now (tree .exit) ≡ paste (now (tree .entry)) at (head-bytes depth node) 8 ⌝ }
 {
@@ -77,7 +77,7 @@ fn write_head(tree: &mut [u8], at: usize, depth: u8, node: Fresh)
 }
 
 // Writes the row of a new node.
-pub fn write_row(tree: &mut [u8], at: usize, depth: u8, name: &[u8], node: Fresh)
+fn write_row(tree: &mut [u8], at: usize, depth: u8, name: &[u8], node: Fresh)
     requires { ⌜ at + row-width ≤ length (now tree) ⌝ }
     requires { ⌜ length (now name) ≤ name-width ⌝ }
     ensures { λ _. ⌜ now (tree .exit) ≡ paste (now (tree .entry)) at (row-bytes (fresh-row depth (now (name .entry)) node)) row-width ⌝ }

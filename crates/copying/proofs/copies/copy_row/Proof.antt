@@ -1,11 +1,12 @@
--- `copying::copies::copy_row` meets its contract: a row, and the tag below that of another.
-use mathlib.Core.Path.{ap}
+-- `copying::copies::copy_row` meets its contract: the row handed over, and the tag below that of another.
+use mathlib.Core.Path.{ap, _∙_}
+use Prim.Native.Nat.{ℕ, suc}
 use native.Mathlib.Omega.{arith}
-use lib.ListN.{length}
+use native.Mathlib.Numerals.{add-one}
 use denote.Ref.{now}
 use Rattle.tree.specs.RowAt.{row-at}
-use Rattle.walks.specs.RowBelowLaws.{row-name-fits}
-use Rattle.copying.specs.CopyBytes.{row-copied}
+use Rattle.copying.specs.CopyRows.{row-put, child-entry, tagged-row}
+use Rattle.copying.specs.CopyBytesLaws.{tag-room, child-copied}
 use borrow.Author.Needs.{needs}
 use Rattle.copying.proofs.copies.copy_row.Statement.{statement}
 use Rattle.copying.proofs.copies.copy_row.Tie as tie
@@ -16,26 +17,29 @@ depth-at-requires c κs = search needs
 add-depth : tie.Need-add-depth
 add-depth c = search needs
 
+hand-over-requires : tie.Need-hand-over-requires
+hand-over-requires c κs = search needs
+
 name-at-requires : tie.Need-name-at-requires
 name-at-requires c κs = search needs
-
-copy-untagged-requires : tie.Need-copy-untagged-requires
-copy-untagged-requires c κs =
-    let n = c .before .before .before .before .before in
-    let a = n .before .before .before .before .before .args in
-    let p = n .before .before .before .before .before .pre .1 .1 in
-    omega (arith, ap length (n .name-at .ensures), row-name-fits (now (a .tree)) (a .at), p .1 .1 .1 .1 .1 .0)
 
 revision-at-requires : tie.Need-revision-at-requires
 revision-at-requires c κs = search needs
 
 set-tag-below-requires : tie.Need-set-tag-below-requires
 set-tag-below-requires c κs =
-    let u = c .before .before .before .before in
-    let n = u .before .before .before .before .before .before in
-    let a = n .before .before .before .before .before .args in
-    let p = n .before .before .before .before .before .pre .1 .1 in
-    omega (arith, ap length (u .copy-untagged .ensures .1 (a .above) (p .1 .0)), ap length (n .name-at .ensures), u .copy-untagged .kept .1 .1 .1 .1 .0, p)
+    let n = c .before .before in
+    let u = n .before .before .before in
+    let s = c .before .before .before .before .before .before .before .before .before .before .before .before .before .before .before in
+    let a = s .args in
+    let p = s .pre in
+    let wide = u .hand-over .kept .1 .1 .1 .1 .0 ∙ p .1 .0 .wide in (
+      record { wide = wide; low = p .1 .0 .low },
+      (
+        p .1 .1 .0,
+        tag-room (now (a .tree)) (now (a .out)) (u .hand-over .last .1 .1 .1 .1 .0) (a .at) (a .above) (a .to) _ (now (n .name-at .result)) (p .1 .0) (p .1 .1 .0) (u .hand-over .ensures) (p .1 .1 .1 .1) (n .name-at .ensures),
+      ),
+    )
 
 same-length : tie.Need-same-length
 same-length c = search needs
@@ -44,15 +48,17 @@ returns : tie.Need-returns
 returns c = λ g.
     let t = c .before .before in
     let v = t .before in
-    let u = v .before .before .before .before in
-    let n = u .before .before .before .before .before .before in
-    let d = n .before in
-    let a = n .before .before .before .before .before .args in
+    let n = v .before .before in
+    let u = n .before .before .before in
+    let s = c .before .before .before .before .before .before .before .before .before .before .before .before .before .before .before .before .before .before in
+    let d = c .before .before .before .before .before .before .before .before .before .before .before .before .before .before in
+    let a = s .args in
+    let p = s .pre in
     let r = row-at (now (a .tree)) (a .at) in
-    let p = n .before .before .before .before .before .pre .1 .1 in
-    row-copied (a .who) (now (a .out)) (u .copy-untagged .last .1 .1 .1 .1 .0) (t .set-tag-below .last .0) (a .above) (a .to) (d .depth-at .result) (v .revision-at .result)
-    (now (n .name-at .result)) (g .entry) r (n .name-at .ensures) (d .depth-at .ensures) (v .revision-at .ensures) (row-name-fits (now (a .tree)) (a .at)) (p .1 .1 .1 .1 .1 .0) (p .1 .1 .0) (p .0)
-    (g .spells) (u .copy-untagged .ensures .1 (a .above) (p .1 .0)) (g .valid) (u .copy-untagged .ensures .0) (t .set-tag-below .ensures)
+    let group = a .who .caller .primary in
+    child-copied (now (a .tree)) (a .at) (p .0) (now (a .out)) (a .to) (p .1 .0) (a .who) _ group (u .hand-over .last .1 .1 .1 .1 .0) (u .hand-over .ensures)
+    (t .set-tag-below .last .0) (a .above) (v .revision-at .result) (now (n .name-at .result)) (g .entry) (n .name-at .ensures) (v .revision-at .ensures) (g .spells) (p .1 .1 .0) (g .valid) (t .set-tag-below .ensures)
+    ∙ ap (λ (k : ℕ). row-put (now (a .out)) (a .to) (tagged-row (a .who) k (r .name) group (child-entry (g .entry) (r .name)) (r .here))) (add-one (d .depth-at .result) ∙ ap suc (d .depth-at .ensures))
 
 pub copy-row-spec : {M : Type 1} → statement M
 copy-row-spec =
@@ -60,8 +66,8 @@ copy-row-spec =
     (tie.spec
     depth-at-requires
     add-depth
+    hand-over-requires
     name-at-requires
-    copy-untagged-requires
     revision-at-requires
     set-tag-below-requires
     same-length

@@ -1,0 +1,102 @@
+-- The copies of an entry: where it stands among the rows of its tree, what its copy asks for, and what is written.
+use mathlib.Core.Path.{_≡_, _∙_, ap}
+use mathlib.Core.List.{List}
+use Prim.Native.Nat.{ℕ, _+_, _≤_}
+use native.Mathlib.Omega.{arith}
+use lib.ListN.{length, drop}
+use Rattle.accounts.specs.declared.Gid.{Gid}
+use Rattle.syntax.specs.Path.{Name, depth, last}
+use Rattle.syntax.specs.PathLaws.{entry-text-fits}
+use Rattle.syntax.specs.FieldLaws.{content-fits}
+use Rattle.tree.specs.Layout.{name-width, tag-width}
+use Rattle.tree.specs.WellFormedLaws.{Place-parts, place-parts, place-below, tree-parts}
+use Rattle.tree.specs.RowContext.{index-of, around}
+use Rattle.tree.specs.RowScan.{rows-from-place, index-bound}
+use Rattle.tree.specs.Encoding.{encode-tree}
+use Rattle.tree.specs.RowBytesLaws.{node-parts}
+use Rattle.tree.specs.RowAt.{row-count, row-at, all-rows}
+use Rattle.tree.specs.TreeBytes.{Wide, Used}
+use Rattle.tree.specs.RowAtLaws.{all-rows-of-tree, row-count-of-tree}
+use Rattle.tree.specs.TreeAtLaws.{index-in-count}
+use Rattle.copying.specs.declared.Copier.{Copier}
+use Rattle.copying.specs.CopyRows.{deepest, most-levels, Holds-row, row-put, Stands, tagged-row, children, Job, job-rows, Written, Entry-job, entry-copy, first-row, entry-rows}
+use Rattle.copying.specs.CopyRowLaws.{row-held, row-stands}
+use Rattle.copying.specs.CopyJobLaws.{Fits, copy-wide, below-copy, place-written}
+
+module _ {w : Copier} {b : List ℕ} {at : ℕ} {group : Gid} {path : List ℕ} (j : Entry-job w b at group path) where
+  entry-used : Used b at
+  entry-used =
+      let f = j .found in
+      record { sized = f .tree .sized; used = rw (f .tree .bytes, f .row) (index-in-count (j .top) (f .tree .whole) (j .spot) (j .place) (f .there)) }
+
+  -- its row is held
+  pub entry-held : Holds-row b at
+  entry-held = row-held b (j .top) at (j .found .tree) (entry-used .used)
+
+  -- its path fits a tag
+  pub entry-path-fits : length path ≤ tag-width
+  entry-path-fits = rw (j .text) (entry-text-fits (j .entry) (j .valid) .0)
+
+  entry-parts : Place-parts (j .place)
+  entry-parts = place-parts (j .place) (place-below (j .top) (j .spot) (j .place) (tree-parts (j .top) (j .found .tree .whole) .whole) (j .found .there))
+
+  entry-stands : Stands (all-rows b) at (depth (j .spot)) (last (j .spot)) (j .place)
+  entry-stands =
+      let f = j .found in
+      let c = around (j .top) (j .spot) (j .place) (f .there) in
+      record {
+        post = c .post;
+        here = ap (λ (s : List ℕ). drop at (all-rows s)) (f .tree .bytes) ∙ ap (λ (i : ℕ). drop i (all-rows (encode-tree (j .top)))) (f .row)
+            ∙ ap (drop (index-of (j .top) (j .spot))) (all-rows-of-tree (j .top) (f .tree .whole)) ∙ rows-from-place c;
+        stops = c .stops;
+      }
+
+  -- it is that of its place
+  pub entry-row : row-at b at ≡ record { depth = depth (j .spot); name = last (j .spot); here = j .place .here }
+  entry-row = row-stands b (entry-used .used) entry-stands
+
+  module _ (o z : List ℕ) (k : ℕ) (n : Name) (wide : Wide o) (low : k + most-levels ≤ deepest) (ln : length n ≤ name-width)
+      (is : z ≡ row-put o 0 (first-row j k n)) where
+    -- what its copy asks for
+    entry-fits : Fits w o 0 most-levels k n group (j .parent) (j .entry) (j .place)
+    entry-fits =
+        let f = j .found in
+        let c = around (j .top) (j .spot) (j .place) (f .there) in
+        let r = row-count-of-tree (j .top) (f .tree .whole) in
+        let q = ap row-count (f .tree .bytes) in
+        record {
+          given = j .given;
+          name = ln;
+          content = content-fits (j .place .here .content) (node-parts (j .place .here) (entry-parts .own) .1) .0;
+          valid = j .valid;
+          whole = entry-parts .forest;
+          short = j .short;
+          deep = omega (arith, j .short);
+          low = omega (arith, j .short);
+          room = omega (arith, index-bound c, f .tree .sized .few-rows);
+          wide = wide;
+        }
+
+    row-is : z ≡ row-put o 0 (tagged-row w k n group (j .entry) (j .place .here))
+    unfolding first-row
+    row-is = is
+
+    -- its children go below the copy
+    pub entry-children : Job children b z at 0 1 most-levels
+    entry-children = record {
+      top = j .top;
+      tree = j .found .tree;
+      used = entry-used;
+      wide = copy-wide entry-fits row-is;
+      order = omega arith;
+      level = depth (j .spot);
+      name = last (j .spot);
+      place = j .place;
+      stands = entry-stands;
+      below = below-copy entry-fits row-is;
+    }
+
+    -- and the copies of both are the entry's
+    pub entry-written : {y : List ℕ} {r : ℕ} → Written z 1 (job-rows w entry-children) r y → Written o 0 (entry-rows j k n) r y
+    unfolding job-rows entry-children entry-copy entry-rows
+    entry-written v = place-written entry-fits row-is v

@@ -1,0 +1,71 @@
+-- Rows written one behind the other: none, one, and others behind them; what stays of the bytes before.
+use mathlib.Core.Path.{_≡_, refl, sym, _∙_, ap}
+use mathlib.Core.List.{List, [], _∷_, _++_, append-nil}
+use Prim.Native.Nat.{ℕ, _+_, _*_, _≤_, _<_}
+use native.Mathlib.Omega.{arith}
+use lib.ListN.{length, length-append}
+use lib.Seq.{paste, paste-zero, length-paste}
+use Rattle.buffers.specs.Fields.{all-bytes}
+use Rattle.buffers.specs.PasteLaws.{paste-join}
+use Rattle.tree.specs.Layout.{row-width, most-rows, row-start}
+use Rattle.tree.specs.Node.{Node}
+use Rattle.tree.specs.Rows.{Row}
+use Rattle.tree.specs.Encoding.{row-bytes}
+use Rattle.tree.specs.RowAt.{row-at, tag-text-at}
+use Rattle.tree.specs.TreeBytes.{Wide}
+use Rattle.edits.specs.EncodedRowsLaws.{all-append}
+use Rattle.copying.specs.CopyRows.{row-put, Written}
+use Rattle.copying.specs.CopyBytesLaws.{tag-beside, depth-beside}
+
+-- the same rows under another name
+pub written-as : {o z : List ℕ} {to r : ℕ} {xs ys : List (Row Node)} → xs ≡ ys → Written o to xs r z → Written o to ys r z
+written-as q v = rw q at v
+
+-- no rows
+pub written-nothing : (o : List ℕ) (to : ℕ) → Written o to [] to o
+unfolding all-bytes
+written-nothing o to = record { next = omega arith; bytes = paste-zero o (row-start to) []; wide = refl }
+
+-- one row
+pub written-one : (o z : List ℕ) (to : ℕ) (r : Row Node) → length (row-bytes r) ≡ row-width → z ≡ row-put o to r → Written o to (r ∷ []) (to + 1) z
+unfolding all-bytes
+written-one o z to r l e =
+    let q = append-nil (row-bytes r) in
+    record { next = omega arith; bytes = e ∙ ap (λ (s : List ℕ). paste o (row-start to) s row-width) (sym q); wide = ap length q ∙ l }
+
+module _ {o z : List ℕ} {to r : ℕ} {xs : List (Row Node)} (v : Written o to xs r z) (wide : Wide o) where
+  -- and others behind them
+  pub written-join : {y : List ℕ} {q : ℕ} {ys : List (Row Node)} → Written z r ys q y → to + length xs + length ys ≤ most-rows → Written o to (xs ++ ys) q y
+  written-join {y} {q} {ys} w fits =
+      let X = all-bytes row-bytes xs in
+      let Y = all-bytes row-bytes ys in
+      let l = length-append xs ys in
+      let a = all-append xs ys in
+      let i : row-start r ≡ row-start to + row-width * length xs = omega (arith, v .next) in
+      let s : row-width * length xs + row-width * length ys ≡ row-width * length (xs ++ ys) = omega arith in
+      record {
+        next = omega (arith, v .next, w .next);
+        bytes =
+            w .bytes
+            ∙ ap (λ (b : List ℕ). paste b (row-start r) Y (row-width * length ys)) (v .bytes)
+            ∙ ap (λ (j : ℕ). paste (paste o (row-start to) X (row-width * length xs)) j Y (row-width * length ys)) i
+            ∙ paste-join o X Y (row-start to) (row-width * length xs) (row-width * length ys) (v .wide) (w .wide) (omega arith)
+            ∙ ap (paste o (row-start to) (X ++ Y)) s
+            ∙ ap (λ (b : List ℕ). paste o (row-start to) b (row-width * length (xs ++ ys))) (sym a);
+        wide = ap length a ∙ length-append X Y ∙ omega (arith, v .wide, w .wide);
+      }
+
+  -- as many bytes are left
+  pub written-wide : to + length xs ≤ most-rows → Wide z
+  written-wide fits =
+      let X = all-bytes row-bytes xs in
+      ap length (v .bytes) ∙ length-paste o (row-start to) X (row-width * length xs) (omega arith) (omega (arith, v .wide)) ∙ wide
+
+  module _ (i : ℕ) (h : i < to) (fits : to ≤ most-rows) where
+    -- the tags of the rows before them stay
+    pub tag-kept : tag-text-at z i ≡ tag-text-at o i
+    tag-kept = ap (λ (s : List ℕ). tag-text-at s i) (v .bytes) ∙ tag-beside o (all-bytes row-bytes xs) (row-width * length xs) i to h fits wide
+
+    -- and so do their depths
+    pub depth-kept : row-at z i .depth ≡ row-at o i .depth
+    depth-kept = ap (λ (s : List ℕ). row-at s i .depth) (v .bytes) ∙ depth-beside o (all-bytes row-bytes xs) (row-width * length xs) i to h fits wide
