@@ -1,4 +1,6 @@
 // A place of a tree moved with all below it.
+mod gap;
+mod relabel;
 mod subtree;
 
 pub use subtree::move_place;

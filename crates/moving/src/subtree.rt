@@ -1,121 +1,140 @@
 // A place moved with all below it: its rows are held in a buffer, taken out, and put in under the new name and at the new depth.
 ghost use mathlib.Core.Path.{_≡_};
-ghost use Prim.Native.Nat.{suc, _+_, _*_, _≤_, _<_};
-ghost use lib.ListN.{length};
-ghost use Rattle.syntax.specs.Path.{parent, last, depth, path};
-ghost use Rattle.tree.specs.Layout.{row-width, rows-width};
-ghost use Rattle.tree.specs.Forest.{update, put, drop, size};
-ghost use Rattle.tree.specs.RowContext.{index-of};
-ghost use Rattle.tree.specs.RowEdits.{lesser};
+ghost use Prim.Native.Nat.{_+_, _*_, _≤_, _<_};
+ghost use lib.ListN.{length, drop};
+ghost use lib.Seq.{paste};
+ghost use Rattle.tree.specs.Layout.{row-width, row-start, most-rows};
 ghost use Rattle.tree.specs.Encoding.{encode-tree};
-ghost use Rattle.moving.specs.Relabel.{shifted, depths-shifted, relabelled};
-ghost use Rattle.moving.specs.Moving.{behind-slash, Vacant, Movable, held-after};
-use accounts::Account;
-use accounts::Groups;
-use accounts::Uid;
+ghost use Rattle.tree.specs.RowAt.{row-count, all-rows, end-of-subtree};
+ghost use Rattle.tree.specs.TreeBytes.{Stretch};
+ghost use Rattle.edits.specs.Changes.{rows-taken};
+ghost use Rattle.moving.specs.Moving.{Vacant, relabelled-for, filled, Movable, moved, held-after, few-rows, some-rows, many-rows};
+use crate::gap::gap_for;
+use crate::gap::last_name;
+use crate::relabel::relabel;
 use buffers::write_many;
-use buffers::write_padded;
 use edits::put_rows;
 use edits::take_rows;
-use tree::Child;
 use tree::FIRST;
-use tree::NAME;
-use tree::NAME_WIDTH;
 use tree::ROW;
-use tree::depth_at;
-use tree::find_child;
 use tree::subtree_end;
-use walks::Walked;
-use walks::parent_walk;
 
-// Where rows are to be put in, and how deep.
-struct Gap {
-    at: usize,
-    depth: u8,
-}
+// The arrays that hold rows on the way have room for so many, or for all of a tree. There are several because to clear one that is
+// much larger than the place takes longer than the move.
+const FEW_ROWS: usize = 4;
 
-// A depth that is counted from a new one instead of an old one.
-fn shift(depth: u8, old: u8, new: u8) -> u8
-    ensures { λ r. ⌜ r ≡ shifted old new depth ⌝ }
+const SOME_ROWS: usize = 16;
+
+const MANY_ROWS: usize = 64;
+
+// Their bytes.
+const FEW_WIDTH: usize = 928;
+
+const SOME_WIDTH: usize = 3712;
+
+const MANY_WIDTH: usize = 14848;
+
+const ALL_WIDTH: usize = 59392;
+
+// Takes n rows out into a buffer.
+fn take_held(tree: &mut [u8], at: usize, n: usize, held: &mut [u8])
+    requires { ⌜ Stretch (now tree) at n ⌝ }
+    requires { ⌜ row-width * n ≤ length (now held) ⌝ }
+    ensures { λ _. ⌜ now (tree .exit) ≡ rows-taken (now (tree .entry)) at n ⌝ }
+    ensures { λ _. ⌜ now (held .exit) ≡ paste (now (held .entry)) 0 (drop (row-start at) (now (tree .entry))) (row-width * n) ⌝ }
 {
-    ((depth as u16 + 256 + new as u16 - old as u16) % 256) as u8
-}
-
-// Counts the depths of n rows from a new one instead of an old one.
-fn shift_depths(rows: &mut [u8], n: usize, old: u8, new: u8)
-    requires { ⌜ row-width * n ≤ length (now rows) ⌝ }
-    ensures { λ _. ⌜ now (rows .exit) ≡ depths-shifted old new 0 n (now (rows .entry)) ⌝ }
-{
-    let mut i: usize = 0;
-    while i < n {
-        let d = shift(rows[ROW * i], old, new);
-        rows[ROW * i] = d;
-        i += 1;
-    }
-}
-
-// Gives n rows that begin with that of a place another depth, and the place another name.
-fn relabel(rows: &mut [u8], n: usize, depth: u8, name: &[u8])
-    requires { ⌜ (row-width * n ≤ length (now rows)) × ((16 ≤ length (now rows)) × (length (now name) ≤ 8)) ⌝ }
-    ensures { λ _. ⌜ now (rows .exit) ≡ relabelled n depth (now (name .entry)) (now (rows .entry)) ⌝ }
-{
-    let old = rows[0];
-    shift_depths(rows, n, old, depth);
-    write_padded(rows, NAME, NAME_WIDTH, name);
-}
-
-// The last name of a path: what stands behind the last `/` of a text.
-fn last_name(to: &[u8]) -> &[u8]
-    requires { ⌜ 0 < length (now to) ⌝ }
-    ensures { λ r. ⌜ now r ≡ behind-slash (now (to .entry)) ⌝ }
-{
-    let slash = syntax::last_slash(to);
-    &to[slash + 1..]
-}
-
-// Where the rows of a place belong at a path where nothing stands.
-fn gap_for(tree: &[u8], to: &[u8]) -> Gap
-    requires { ⌜ Vacant (now tree) (now to) ⌝ }
-    ensures { λ r. ⌜ ((v : Vacant (now (tree .entry)) (now (to .entry))) → (r .at ≡ suc (index-of (v .t) (parent (v .b)) + size (lesser (last (v .b)) (v .f .below)))) × (r .depth ≡ depth (v .b))) ⌝ }
-{
-    let root = Account {
-        uid: Uid(0),
-        groups: Groups(0),
-    };
-    let Walked::At { row, above: _ } = parent_walk(tree, root, to) else {
-        return Gap { at: 0, depth: 0 };
-    };
-    let name = last_name(to);
-    let Child::Missing(at) = find_child(tree, row, name) else {
-        return Gap { at: 0, depth: 0 };
-    };
-    let above = depth_at(tree, row);
-    Gap {
-        at,
-        depth: above + 1,
-    }
-}
-
-// Moves the place at a row with all below it to a path where nothing stands, by a buffer that holds its rows on the way.
-fn move_by(tree: &mut [u8], at: usize, to: &[u8], held: &mut [u8])
-    requires { ⌜ Movable (now tree) at (now to) × (length (now held) ≡ rows-width) ⌝ }
-    ensures { λ _. ⌜ ((m : Movable (now (tree .entry)) at (now (to .entry))) → now (tree .exit) ≡ encode-tree (update (parent (m .b)) (put (last (m .b)) (m .d)) (update (parent (m .a)) (drop (last (m .a))) (m .t)))) ⌝ }
-    ensures { λ _. ⌜ ((m : Movable (now (tree .entry)) at (now (to .entry))) → now (held .exit) ≡ held-after m (now (held .entry))) ⌝ }
-{
-    let n = subtree_end(tree, at) - at;
     write_many(held, 0, &tree[FIRST + ROW * at..], ROW * n);
     take_rows(tree, at, n);
+}
+
+// Puts n rows of a buffer that begin with that of a place in at a path where nothing stands, with its name and depth.
+fn put_held(tree: &mut [u8], to: &[u8], n: usize, held: &mut [u8])
+    requires { ⌜ Vacant (now tree) (now to) ⌝ }
+    requires { ⌜ 0 < n ⌝ }
+    requires { ⌜ row-count (now tree) + n ≤ most-rows ⌝ }
+    requires { ⌜ row-width * n ≤ length (now held) ⌝ }
+    ensures { λ _. ⌜ ((v : Vacant (now (tree .entry)) (now (to .entry))) → now (tree .exit) ≡ filled v n (now (held .exit))) ⌝ }
+    ensures { λ _. ⌜ ((v : Vacant (now (tree .entry)) (now (to .entry))) → now (held .exit) ≡ relabelled-for v n (now (held .entry))) ⌝ }
+{
     let gap = gap_for(tree, to);
     let name = last_name(to);
     relabel(held, n, gap.depth, name);
     put_rows(tree, gap.at, n, held);
 }
 
+// Moves the place at a row, whose rows are n, by a buffer that holds them on the way.
+fn move_by(tree: &mut [u8], at: usize, n: usize, to: &[u8], held: &mut [u8])
+    requires { ⌜ Movable (now tree) at (now to) ⌝ }
+    requires { ⌜ at + n ≡ end-of-subtree (all-rows (now tree)) at ⌝ }
+    requires { ⌜ row-width * n ≤ length (now held) ⌝ }
+    ensures { λ _. ⌜ ((m : Movable (now (tree .entry)) at (now (to .entry))) → now (tree .exit) ≡ encode-tree (moved m)) ⌝ }
+    ensures { λ _. ⌜ ((m : Movable (now (tree .entry)) at (now (to .entry))) → now (held .exit) ≡ held-after m (now (held .entry))) ⌝ }
+{
+    take_held(tree, at, n, held);
+    put_held(tree, to, n, held);
+}
+
+// Moves the place at a row, whose rows are n, by an array for few rows.
+fn move_few(tree: &mut [u8], at: usize, n: usize, to: &[u8])
+    requires { ⌜ Movable (now tree) at (now to) ⌝ }
+    requires { ⌜ at + n ≡ end-of-subtree (all-rows (now tree)) at ⌝ }
+    requires { ⌜ n ≤ few-rows ⌝ }
+    ensures { λ _. ⌜ ((m : Movable (now (tree .entry)) at (now (to .entry))) → now (tree .exit) ≡ encode-tree (moved m)) ⌝ }
+{
+    let mut held = [0u8; FEW_WIDTH];
+    move_by(tree, at, n, to, &mut held);
+}
+
+// By one for more rows.
+fn move_some(tree: &mut [u8], at: usize, n: usize, to: &[u8])
+    requires { ⌜ Movable (now tree) at (now to) ⌝ }
+    requires { ⌜ at + n ≡ end-of-subtree (all-rows (now tree)) at ⌝ }
+    requires { ⌜ n ≤ some-rows ⌝ }
+    ensures { λ _. ⌜ ((m : Movable (now (tree .entry)) at (now (to .entry))) → now (tree .exit) ≡ encode-tree (moved m)) ⌝ }
+{
+    let mut held = [0u8; SOME_WIDTH];
+    move_by(tree, at, n, to, &mut held);
+}
+
+// By one for many rows.
+fn move_many(tree: &mut [u8], at: usize, n: usize, to: &[u8])
+    requires { ⌜ Movable (now tree) at (now to) ⌝ }
+    requires { ⌜ at + n ≡ end-of-subtree (all-rows (now tree)) at ⌝ }
+    requires { ⌜ n ≤ many-rows ⌝ }
+    ensures { λ _. ⌜ ((m : Movable (now (tree .entry)) at (now (to .entry))) → now (tree .exit) ≡ encode-tree (moved m)) ⌝ }
+{
+    let mut held = [0u8; MANY_WIDTH];
+    move_by(tree, at, n, to, &mut held);
+}
+
+// By one for as many rows as there is room for in a tree.
+fn move_all(tree: &mut [u8], at: usize, n: usize, to: &[u8])
+    requires { ⌜ Movable (now tree) at (now to) ⌝ }
+    requires { ⌜ at + n ≡ end-of-subtree (all-rows (now tree)) at ⌝ }
+    requires { ⌜ n ≤ most-rows ⌝ }
+    ensures { λ _. ⌜ ((m : Movable (now (tree .entry)) at (now (to .entry))) → now (tree .exit) ≡ encode-tree (moved m)) ⌝ }
+{
+    let mut held = [0u8; ALL_WIDTH];
+    move_by(tree, at, n, to, &mut held);
+}
+
 // Moves the place at a row with all below it to a path where nothing stands.
 pub fn move_place(tree: &mut [u8], at: usize, to: &[u8])
     requires { ⌜ Movable (now tree) at (now to) ⌝ }
-    ensures { λ _. ⌜ ((m : Movable (now (tree .entry)) at (now (to .entry))) → now (tree .exit) ≡ encode-tree (update (parent (m .b)) (put (last (m .b)) (m .d)) (update (parent (m .a)) (drop (last (m .a))) (m .t)))) ⌝ }
+    ensures { λ _. ⌜ ((m : Movable (now (tree .entry)) at (now (to .entry))) → now (tree .exit) ≡ encode-tree (moved m)) ⌝ }
 {
-    let mut held = [0u8; 59392];
-    move_by(tree, at, to, &mut held);
+    let n = subtree_end(tree, at) - at;
+    if n <= FEW_ROWS {
+        move_few(tree, at, n, to);
+        return;
+    }
+    if n <= SOME_ROWS {
+        move_some(tree, at, n, to);
+        return;
+    }
+    if n <= MANY_ROWS {
+        move_many(tree, at, n, to);
+        return;
+    }
+    move_all(tree, at, n, to);
 }

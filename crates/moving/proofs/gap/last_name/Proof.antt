@@ -1,4 +1,4 @@
--- `moving::subtree::last_name` meets its contract: the last name stands behind the last `/`.
+-- `moving::gap::last_name` meets its contract: the last name stands behind the last `/`.
 use mathlib.Core.Path.{_≡_, ap, _∙_}
 use Prim.Native.Nat.{ℕ, suc, _+_, _-_}
 use native.Mathlib.Omega.{arith}
@@ -9,8 +9,8 @@ use Rattle.syntax.specs.Parts.{last-slash}
 use Rattle.syntax.specs.ParentLaws.{last-slash-less}
 use Rattle.moving.specs.Moving.{behind-slash}
 use borrow.Author.Needs.{needs}
-use Rattle.moving.proofs.subtree.last_name.Statement.{statement}
-use Rattle.moving.proofs.subtree.last_name.Tie as tie
+use Rattle.moving.proofs.gap.last_name.Statement.{statement}
+use Rattle.moving.proofs.gap.last_name.Tie as tie
 
 last-slash-requires : tie.Need-last-slash-requires
 last-slash-requires c κs = search needs

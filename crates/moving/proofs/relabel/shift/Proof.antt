@@ -1,8 +1,8 @@
--- `moving::subtree::shift` meets its contract.
+-- `moving::relabel::shift` meets its contract.
 use borrow.Author.Needs.{needs}
 use Rattle.moving.specs.Relabel.{shifted}
-use Rattle.moving.proofs.subtree.shift.Statement.{statement}
-use Rattle.moving.proofs.subtree.shift.Tie as tie
+use Rattle.moving.proofs.relabel.shift.Statement.{statement}
+use Rattle.moving.proofs.relabel.shift.Tie as tie
 
 add-result : tie.Need-add-result
 add-result c = search needs

@@ -1,15 +1,15 @@
--- `moving::subtree::relabel` meets its contract: the depths change, then the name.
+-- `moving::relabel::relabel` meets its contract: the depths change, then the name.
 use mathlib.Core.Path.{ap, _∙_}
 use mathlib.Core.List.{List}
 use Prim.Native.Nat.{ℕ}
 use lib.Seq.{paste}
 use denote.Ref.{now}
 use Rattle.buffers.specs.Fields.{padded}
-use Rattle.tree.specs.Layout.{name-width}
+use Rattle.tree.specs.Layout.{name-offset, name-width}
 use Rattle.moving.specs.Relabel.{relabelled}
 use borrow.Author.Needs.{needs}
-use Rattle.moving.proofs.subtree.relabel.Statement.{statement}
-use Rattle.moving.proofs.subtree.relabel.Tie as tie
+use Rattle.moving.proofs.relabel.relabel.Statement.{statement}
+use Rattle.moving.proofs.relabel.relabel.Tie as tie
 
 slice-read-old : tie.Need-slice-read-old
 slice-read-old c = search needs
@@ -29,7 +29,7 @@ returns c =
     let w = c .before .before in
     let s = w .before .before .before .before in
     let a = c .before .before .before .before .before .before .before .before .before .before .before .args in
-    w .write-padded .ensures ∙ ap (λ (l : List ℕ). paste l 8 (padded name-width (now (a .name))) 8) (s .shift-depths .ensures)
+    w .write-padded .ensures ∙ ap (λ (l : List ℕ). paste l name-offset (padded name-width (now (a .name))) name-width) (s .shift-depths .ensures)
 
 pub relabel-spec : {M : Type 1} → statement M
 relabel-spec =

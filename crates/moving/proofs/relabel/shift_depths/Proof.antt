@@ -1,13 +1,14 @@
--- `moving::subtree::shift_depths` meets its contract: a turn changes the depth of one row more.
+-- `moving::relabel::shift_depths` meets its contract: a turn changes the depth of one row more.
 use mathlib.Core.Path.{_≡_, refl, ap, _∙_}
 use Prim.Native.Nat.{ℕ, _+_, _-_, _*_, _≤_}
 use native.Mathlib.Omega.{arith}
 use lib.ListN.{length, set, length-set}
 use denote.Ref.{now}
 use Rattle.tree.specs.Layout.{row-width}
-use Rattle.moving.specs.Relabel.{depths-shifted, shift-again, shift-end}
-use Rattle.moving.proofs.subtree.shift_depths.Statement.{statement}
-use Rattle.moving.proofs.subtree.shift_depths.Tie as tie
+use Rattle.moving.specs.Relabel.{depths-shifted}
+use Rattle.moving.specs.RelabelLaws.{shift-again, shift-end}
+use Rattle.moving.proofs.relabel.shift_depths.Statement.{statement}
+use Rattle.moving.proofs.relabel.shift_depths.Tie as tie
 
 abbrev Inv-loop : tie.InvT-loop
 Inv-loop rows₀ n old new i₀ rows i = (i ≤ n) × (length rows ≡ length rows₀) × (depths-shifted old new i (n - i) rows ≡ depths-shifted old new 0 n rows₀)

@@ -1,0 +1,187 @@
+-- A place that may be moved: its rows taken out, and put in where it is to stand, give the tree with the place moved.
+use mathlib.Core.Path.{_≡_, refl, sym, _∙_, ap}
+use mathlib.Core.List.{List, _++_}
+use mathlib.Core.Option.{none, some}
+use mathlib.Core.Bool.{true, false}
+use Prim.Native.Nat.{ℕ, suc, _+_, _-_, _*_, _≤_}
+use native.Mathlib.Omega.{arith}
+use lib.ListN.{take}
+use lib.ListN as L
+use lib.Seq.{paste}
+use Rattle.buffers.specs.Cases.{case, contra}
+use Rattle.buffers.specs.Text.{Text}
+use Rattle.buffers.specs.Fields.{all-bytes}
+use Rattle.syntax.specs.Path.{Path, root, _▹_, parent, last, depth, is-top, within, most-names}
+use Rattle.syntax.specs.PathLaws.{name-fits, parent-depth}
+use Rattle.syntax.specs.WithinLaws.{deeper, lies, lies-outside}
+use Rattle.tree.specs.Layout.{row-width, row-start, most-rows}
+use Rattle.tree.specs.Forest.{Place, place-at, size}
+use Rattle.tree.specs.Node.{Node, is-directory}
+use Rattle.tree.specs.UpdateLaws.{at-child, child-at}
+use Rattle.tree.specs.PathLaws.{drop-none, drop-some}
+use Rattle.tree.specs.WellFormed.{nodes, is-tree}
+use Rattle.tree.specs.WellFormedLaws.{tree-parts, place-below}
+use Rattle.tree.specs.ChangeLaws.{keep-drop, nodes-drop}
+use Rattle.tree.specs.RowContext.{index-of, place-rows}
+use Rattle.tree.specs.RowLaws.{length-rows}
+use Rattle.tree.specs.RowEdits.{lesser}
+use Rattle.tree.specs.Encoding.{row-bytes, encode-tree}
+use Rattle.tree.specs.RowAt.{row-count, all-rows, end-of-subtree}
+use Rattle.tree.specs.RowAtLaws.{row-count-of-tree}
+use Rattle.tree.specs.TreeBytes.{Stretch}
+use Rattle.tree.specs.TreeAtLaws.{tree-sized}
+use Rattle.edits.specs.Changes.{rows-put, rows-taken}
+use Rattle.edits.specs.EditLaws.{put-law, take-law, place-fits}
+use Rattle.moving.specs.Relabel.{relabelled}
+use Rattle.moving.specs.RelabelLaws.{relabelled-place}
+use Rattle.moving.specs.Moving.{Vacant, gap-index, relabelled-for, filled, Movable, remaining, moved, moved-rows, held-after}
+use Rattle.moving.specs.AtLaws.{at-used, at-end, at-inside, at-rows}
+use Rattle.moving.specs.VacantLaws.{vacant-name}
+
+-- a path below `/` is its parent with its last name
+parent-and-last : (p : Path) → is-top p ≡ false → p ≡ parent p ▹ last p
+unfolding is-top parent last
+parent-and-last root h = contra {b = true} refl h
+parent-and-last (p ▹ n) h = refl
+
+module _ {b : List ℕ} {at : ℕ} {to : Text} (m : Movable b at to) where
+  abbrev tree : Place Node
+  tree = m .vacant .tree
+
+  abbrev whole : is-tree tree ≡ true
+  whole = m .stands .tree .whole
+
+  -- where the place stood, and where it is to stand
+  abbrev old-parent : Path
+  old-parent = parent (m .from)
+
+  abbrev new-parent : Path
+  new-parent = parent (m .vacant .path)
+
+  abbrev new-name : Text
+  new-name = last (m .vacant .path)
+
+  abbrev count : ℕ
+  count = suc (size (m .place .below))
+
+  from-parent : place-at tree (old-parent ▹ last (m .from)) ≡ some (m .place)
+  from-parent = ap (place-at tree) (sym (parent-and-last (m .from) (m .from-below-top))) ∙ m .stands .there
+
+  outside-path : within (old-parent ▹ last (m .from)) (new-parent ▹ new-name) ≡ false
+  outside-path = rw (← parent-and-last (m .from) (m .from-below-top), ← parent-and-last (m .vacant .path) (m .vacant .below-top)) (m .outside)
+
+  outside-parent : within (old-parent ▹ last (m .from)) new-parent ≡ false
+  outside-parent =
+      let a = old-parent ▹ last (m .from) in
+      case (within a new-parent) (λ l. lies-outside outside-path (deeper (lies a new-parent l))) (λ l. l)
+
+  -- ---- the tree without the place
+
+  remaining-whole : is-tree (remaining m) ≡ true
+  unfolding remaining
+  remaining-whole = keep-drop tree old-parent (last (m .from)) whole
+
+  -- where it is to stand, nothing stands
+  remaining-none : place-at (remaining m) (new-parent ▹ new-name) ≡ none
+  unfolding remaining
+  remaining-none =
+      drop-none tree (new-parent ▹ new-name) old-parent (last (m .from)) outside-path
+      (at-child tree new-parent new-name (m .vacant .directory) (m .vacant .above .there) ∙ m .vacant .free)
+
+  -- and the directory above is there
+  remaining-parent : (g : Place Node) × (place-at (remaining m) new-parent ≡ some g) × (g .here ≡ m .vacant .directory .here)
+  unfolding remaining
+  remaining-parent = drop-some tree new-parent (m .vacant .directory) old-parent (last (m .from)) outside-parent (m .vacant .above .there)
+
+  -- there is room for the place
+  remaining-room : nodes (remaining m) + count ≤ most-rows
+  unfolding remaining
+  remaining-room = omega (arith, nodes-drop tree old-parent (last (m .from)) (m .place) from-parent, tree-parts tree whole .few)
+
+  -- how many rows there are up to the end of the subtree
+  pub movable-span : (r : ℕ) → r ≡ end-of-subtree (all-rows b) at → (at ≤ r) × ((at + (r - at) ≡ end-of-subtree (all-rows b) at) × (r - at ≤ most-rows))
+  movable-span r e =
+      let z = at-end (m .stands) in
+      (omega arith, (omega arith, omega (arith, at-inside (m .stands), m .stands .tree .sized .few-rows)))
+
+  module _ (n : ℕ) (ends : at + n ≡ end-of-subtree (all-rows b) at) where
+    -- the rows of the place are its own and those below it
+    pub movable-count : n ≡ count
+    movable-count = omega (arith, ends, at-end (m .stands))
+
+    pub movable-rows : Stretch b at n
+    movable-rows =
+        let z = at-used (m .stands) .sized in
+        record { wide = z .wide; few-rows = z .few-rows; inside = omega (arith, ends, at-end (m .stands), at-inside (m .stands)) }
+
+    -- ---- the bytes without them
+
+    module _ (u : List ℕ) (taken : u ≡ rows-taken b at n) where
+      remaining-bytes : u ≡ encode-tree (remaining m)
+      unfolding remaining
+      remaining-bytes =
+          let i = child-at tree old-parent (last (m .from)) (m .place) from-parent in
+          let z = m .stands in
+          taken
+          ∙ ap (rows-taken b at) movable-count
+          ∙ ap (λ (s : List ℕ). rows-taken s at count) (z .tree .bytes)
+          ∙ ap (λ (j : ℕ). rows-taken (encode-tree tree) j count) (z .row ∙ ap (index-of tree) (parent-and-last (m .from) (m .from-below-top)))
+          ∙ take-law tree old-parent (i .0) (last (m .from)) whole (i .1) (m .place) (i .2)
+
+      -- the path is vacant still
+      pub remaining-vacant : Vacant u to
+      remaining-vacant =
+          let g = remaining-parent in
+          record {
+            tree = remaining m;
+            path = m .vacant .path;
+            directory = g .0;
+            row = index-of (remaining m) new-parent;
+            above = record {
+              tree = record { sized = rw remaining-bytes (tree-sized (remaining m) remaining-whole); whole = remaining-whole; bytes = remaining-bytes };
+              there = g .1;
+              row = refl;
+            };
+            reads = m .vacant .reads;
+            below-top = m .vacant .below-top;
+            enterable = ap (λ (x : Node). is-directory (x .kind)) (g .2) ∙ m .vacant .enterable;
+            free = sym (at-child (remaining m) new-parent new-name (g .0) (g .1)) ∙ remaining-none;
+          }
+
+      -- the rows, held in a buffer, get the new name and depth
+      pub held-law : (Z h w : List ℕ) → h ≡ paste Z 0 (L.drop (row-start at) b) (row-width * n)
+          → w ≡ relabelled-for remaining-vacant n h → w ≡ held-after m Z
+      unfolding remaining-vacant relabelled-for held-after moved-rows most-names
+      held-law Z h w held is =
+          let k = depth (m .vacant .path) in
+          let old = all-bytes row-bytes (place-rows (depth (m .from)) (last (m .from)) (m .place)) in
+          let Q = L.drop (0 + row-width * n) Z in
+          let read : take (row-width * n) (L.drop (row-start at) b) ≡ old = rw movable-count (at-rows (m .stands)) in
+          let i : 0 + row-width * n ≡ row-width * count = omega (arith, movable-count) in
+          is
+          ∙ ap (relabelled n k new-name) (held ∙ ap (λ (l : List ℕ). l ++ Q) read)
+          ∙ ap (λ (j : ℕ). relabelled j k new-name (old ++ Q)) movable-count
+          ∙ relabelled-place (depth (m .from)) k (last (m .from)) new-name (m .place) Q
+          (place-fits tree (m .from) (m .place) whole (m .stands .there)) (name-fits new-name (vacant-name (m .vacant)) .0) (omega (arith, m .low))
+          ∙ ap (λ (j : ℕ). moved-rows m ++ L.drop j Z) i
+
+      -- there is room for the rows
+      pub remaining-rows : row-count u + n ≤ most-rows
+      remaining-rows =
+          let c : row-count u ≡ nodes (remaining m) = ap row-count remaining-bytes ∙ row-count-of-tree (remaining m) remaining-whole ∙ length-rows (remaining m) in
+          omega (arith, remaining-room, movable-count)
+
+      -- and put in there they make the tree with the place moved
+      pub move-law : (Z w : List ℕ) → w ≡ held-after m Z → filled remaining-vacant n w ≡ encode-tree (moved m)
+      unfolding remaining-vacant filled gap-index moved moved-rows held-after
+      move-law Z w is =
+          let g = remaining-parent in
+          let j = suc (index-of (remaining m) new-parent + size (lesser new-name (g .0 .below))) in
+          let Q = L.drop (row-width * count) Z in
+          let rows-at : ℕ → List ℕ = λ k. all-bytes row-bytes (place-rows k new-name (m .place)) ++ Q in
+          ap (rows-put u j n) is
+          ∙ ap (λ (s : List ℕ). rows-put s j n (rows-at (depth (m .vacant .path)))) remaining-bytes
+          ∙ ap (λ (x : ℕ). rows-put (encode-tree (remaining m)) j x (rows-at (depth (m .vacant .path)))) movable-count
+          ∙ ap (λ (x : ℕ). rows-put (encode-tree (remaining m)) j count (rows-at x)) (sym (parent-depth (m .vacant .path) (m .vacant .below-top)))
+          ∙ put-law (remaining m) new-parent (g .0) new-name remaining-whole (g .1) (m .place) (remaining-vacant .free) (vacant-name (m .vacant))
+          (place-below tree (m .from) (m .place) (tree-parts tree whole .whole) (m .stands .there)) remaining-room Q
