@@ -14,7 +14,8 @@ use Rattle.syntax.specs.FormLaws.{answered, no-answer}
 use Rattle.tree.specs.declared.Cause.the-variants.{Missing}
 use Rattle.tree.specs.Result.{Result, refused, done, present, Outcome}
 use Rattle.tree.specs.ResultLaws.{present-some}
-use Rattle.tree.specs.Gives.{gives, Ensures, done-with, then-do}
+use Rattle.tree.specs.Outcomes.{gives, Ensures}
+use Rattle.tree.specs.GivesLaws.{done-with, then-do}
 use Rattle.shell.specs.Steps.{longest-text}
 use Rattle.store.specs.State.{state-of}
 use Rattle.store.specs.StateLaws.{parts}

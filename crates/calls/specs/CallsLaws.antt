@@ -12,8 +12,9 @@ use Rattle.tree.specs.declared.Cause.{Cause}
 use Rattle.tree.specs.declared.Cause.the-variants.{Missing, Unsound, ShortAnswer}
 use Rattle.tree.specs.CausesLaws.{missing-number, unsound-number, short-answer-number}
 use Rattle.tree.specs.Result.{Result, refused, _>>=_, _>>_, require, present, Outcome}
-use Rattle.tree.specs.Gives.{Ensures, then-check, then-do}
 use Rattle.tree.specs.ResultLaws.{present-some, present-of, present-none, done-bind, refused-bind, done-then, refused-then, require-true, require-false, holds-bind, holds-then}
+use Rattle.tree.specs.Outcomes.{Ensures}
+use Rattle.tree.specs.GivesLaws.{then-check, then-do}
 use Rattle.store.specs.State.{State, well-formed}
 use Rattle.store.specs.StoreBytes.{encode, decode}
 use Rattle.store.specs.StoreBytesLaws.{decode-encode}

@@ -7,7 +7,7 @@ use mathlib.Core.List.{List, [], _∷_, _++_, append-assoc}
 use mathlib.Core.Bool.{true}
 use Prim.Native.Nat.{ℕ, suc, _+_, _≤_, _<_}
 use native.Mathlib.Omega.{arith}
-use lib.ListN.{length, take, drop, replicate, length-append, length-replicate, length-drop, take-append-drop}
+use lib.ListN.{length, take, drop, length-append, length-replicate, length-drop, take-append-drop}
 use lib.Seq.{paste, length-take-le, take-all, take-at, drop-at, drop-append-le, take-append-le}
 use Rattle.buffers.specs.Text.{Text}
 use Rattle.buffers.specs.Fields.{two-bytes, padded, text-at}
@@ -20,11 +20,11 @@ use Rattle.syntax.specs.FieldLaws.{content-fits}
 use Rattle.tree.specs.Layout.{row-width, most-rows, row-start, name-width, tag-offset, tag-width, whole-tag-width, content-width}
 use Rattle.tree.specs.Node.{Tag, Node, set-tag}
 use Rattle.tree.specs.Rows.{Row}
-use Rattle.tree.specs.Encoding.{kind-byte, tag-bytes, row-bytes, row-of}
-use Rattle.tree.specs.RowBytesLaws.{length-tag-bytes, node-parts}
+use Rattle.tree.specs.Encoding.{tag-bytes, row-bytes, read-row, row-spare, row-head}
+use Rattle.tree.specs.RowBytesLaws.{length-tag-bytes, node-parts, row-parts, length-row-head}
 use Rattle.tree.specs.RowAt.{row-bytes-at, row-at, tag-text-at}
 use Rattle.tree.specs.TreeBytes.{Wide, Has-row}
-use Rattle.walks.specs.RowBelowLaws.{row-name-fits}
+use Rattle.tree.specs.RowAtLaws.{row-name-fits}
 use Rattle.edits.specs.declared.Fresh.{Fresh}
 use Rattle.edits.specs.Changes.{field-put, head-bytes}
 use Rattle.edits.specs.WrittenLaws.{piece-put}
@@ -71,37 +71,22 @@ piece-in-row o P old new Q to k l e w h =
     length-append P (new ++ Q) ∙ omega (arith, length-append new Q, length-append P (old ++ Q), length-append old Q) in
     ap (λ (s : List ℕ). field-put s to k new) (paste-pieces o P old Q at w) ∙ field-pieces A B old to k lA new e ∙ sym (paste-pieces o P new Q at v)
 
--- the eight bytes before the name
-abbrev head-of : Row Node → List ℕ
-head-of r = (r .depth ∷ kind-byte (r .here .kind) ∷ r .here .owner .0 ∷ r .here .group .0 ∷ []) ++ (two-bytes (r .here .mode) ++ two-bytes (r .here .revision))
-
-abbrev spare : List ℕ
-spare = replicate 80 0
-
-row-parts : (r : Row Node) → row-bytes r ≡ head-of r ++ (padded name-width (r .name) ++ (tag-bytes (r .here .tag) ++ (padded content-width (r .here .content) ++ spare)))
-unfolding row-bytes two-bytes
-row-parts r = refl
-
-length-head : (r : Row Node) → length (head-of r) ≡ 8
-unfolding two-bytes
-length-head r = refl
-
 -- its fields take their widths
 pub record Fitting (r : Row Node) : Type 0 where
   pub name : length (r .name) ≤ name-width
   pub tag : length (tag-bytes (r .here .tag)) ≡ whole-tag-width
   pub content : length (r .here .content) ≤ content-width
 
-length-row : (H N T C : List ℕ) → length H ≡ 8 → length N ≡ 8 → length T ≡ 56 → length C ≡ 80 → length (H ++ (N ++ (T ++ (C ++ spare)))) ≡ row-width
+length-row : (H N T C : List ℕ) → length H ≡ 8 → length N ≡ 8 → length T ≡ 56 → length C ≡ 80 → length (H ++ (N ++ (T ++ (C ++ row-spare)))) ≡ row-width
 length-row H N T C h n t c =
-    length-append H (N ++ (T ++ (C ++ spare)))
-    ∙ omega (arith, length-append N (T ++ (C ++ spare)), length-append T (C ++ spare), length-append C spare, length-replicate {A = ℕ} 80 0)
+    length-append H (N ++ (T ++ (C ++ row-spare)))
+    ∙ omega (arith, length-append N (T ++ (C ++ row-spare)), length-append T (C ++ row-spare), length-append C row-spare, length-replicate {A = ℕ} 80 0)
 
 pub length-fitting : (r : Row Node) → Fitting r → length (row-bytes r) ≡ row-width
 length-fitting r f =
     ap length (row-parts r)
-    ∙ length-row (head-of r) (padded name-width (r .name)) (tag-bytes (r .here .tag)) (padded content-width (r .here .content))
-    (length-head r) (length-padded name-width (r .name) (f .name)) (f .tag) (length-padded content-width (r .here .content) (f .content))
+    ∙ length-row (row-head r) (padded name-width (r .name)) (tag-bytes (r .here .tag)) (padded content-width (r .here .content))
+    (length-row-head r) (length-padded name-width (r .name) (f .name)) (f .tag) (length-padded content-width (r .here .content) (f .content))
 
 -- a field written over in a row that was written
 field-in-row : (o P old new Q : List ℕ) (to k : ℕ) (r u : Row Node) → row-bytes r ≡ P ++ (old ++ Q) → row-bytes u ≡ P ++ (new ++ Q)
@@ -130,10 +115,10 @@ module _ (o : List ℕ) (to : ℕ) (r : Row Node) (f : Fitting r) (room : row-st
   unfolding handed-row handed-over head-bytes two-bytes
   head-put k u g =
       let v = handed-row k u g r in
-      let R = padded name-width (r .name) ++ (tag-bytes (r .here .tag) ++ (padded content-width (r .here .content) ++ spare)) in
+      let R = padded name-width (r .name) ++ (tag-bytes (r .here .tag) ++ (padded content-width (r .here .content) ++ row-spare)) in
       let q : row-start to ≡ row-start to + 0 = omega arith in
-      ap (λ (at : ℕ). paste (row-put o to r) at (head-of v) 8) q ∙ piece-put (row-put o to r) to 0 (head-of v) 8 refl
-      ∙ field-in-row o [] (head-of r) (head-of v) R to 0 r v (row-parts r) (row-parts v) refl refl (length-fitting r f) room
+      ap (λ (at : ℕ). paste (row-put o to r) at (row-head v) 8) q ∙ piece-put (row-put o to r) to 0 (row-head v) 8 refl
+      ∙ field-in-row o [] (row-head r) (row-head v) R to 0 r v (row-parts r) (row-parts v) refl refl (length-fitting r f) room
 
   -- another name
   name-put : (n : Name) → length n ≤ name-width → paste (row-put o to r) (row-start to + 8) (padded name-width n) 8 ≡ row-put o to (record { depth = r .depth; name = n; here = r .here })
@@ -141,8 +126,8 @@ module _ (o : List ℕ) (to : ℕ) (r : Row Node) (f : Fitting r) (room : row-st
       let v : Row Node = record { depth = r .depth; name = n; here = r .here } in
       let l = length-padded name-width n h in
       piece-put (row-put o to r) to 8 (padded name-width n) 8 l
-      ∙ field-in-row o (head-of r) (padded name-width (r .name)) (padded name-width n) (tag-bytes (r .here .tag) ++ (padded content-width (r .here .content) ++ spare)) to 8 r v
-      (row-parts r) (row-parts v) (length-head r) (length-padded name-width (r .name) (f .name) ∙ sym l) (length-fitting r f) room
+      ∙ field-in-row o (row-head r) (padded name-width (r .name)) (padded name-width n) (tag-bytes (r .here .tag) ++ (padded content-width (r .here .content) ++ row-spare)) to 8 r v
+      (row-parts r) (row-parts v) (length-row-head r) (length-padded name-width (r .name) (f .name) ∙ sym l) (length-fitting r f) room
 
   -- another tag
   tag-put : (t : Tag) → is-entry-path (t .path) ≡ true
@@ -150,13 +135,13 @@ module _ (o : List ℕ) (to : ℕ) (r : Row Node) (f : Fitting r) (room : row-st
   unfolding set-tag tag-bytes
   tag-put t valid =
       let v : Row Node = record { depth = r .depth; name = r .name; here = set-tag t (r .here) } in
-      let H = head-of r in
+      let H = row-head r in
       let N = padded name-width (r .name) in
-      let R = padded content-width (r .here .content) ++ spare in
+      let R = padded content-width (r .here .content) ++ row-spare in
       let T = padded tag-width (entry-text (t .path)) ++ two-bytes (t .revision) in
       field-in-row o (H ++ N) (tag-bytes (r .here .tag)) T R to 16 r v
       (row-parts r ∙ before-tag H N (tag-bytes (r .here .tag) ++ R)) (row-parts v ∙ before-tag H N (T ++ R))
-      (length-append H N ∙ omega (arith, length-head r, length-padded name-width (r .name) (f .name))) (f .tag ∙ sym (length-tag t valid)) (length-fitting r f) room
+      (length-append H N ∙ omega (arith, length-row-head r, length-padded name-width (r .name) (f .name))) (f .tag ∙ sym (length-tag t valid)) (length-fitting r f) room
 
 -- ---- a row read
 
@@ -198,11 +183,11 @@ module _ (o B : List ℕ) (n i to : ℕ) (h : i < to) (fits : to ≤ most-rows) 
   -- and depths
   pub depth-beside : row-at (paste o (row-start to) B n) i .depth ≡ row-at o i .depth
   unfolding row-at
-  depth-beside = ap (λ (l : List ℕ). row-of l .depth) row-beside
+  depth-beside = ap (λ (l : List ℕ). read-row l .depth) row-beside
 
 -- the depth is the first byte
-depth-of-bytes : (r : Row Node) → row-of (row-bytes r) .depth ≡ r .depth
-unfolding row-of row-bytes two-bytes
+depth-of-bytes : (r : Row Node) → read-row (row-bytes r) .depth ≡ r .depth
+unfolding read-row row-bytes two-bytes
 depth-of-bytes r = refl
 
 before-number : (H N P L R : List ℕ) → H ++ (N ++ ((P ++ L) ++ R)) ≡ (H ++ N) ++ (P ++ (L ++ R))
@@ -219,13 +204,13 @@ module _ (w : Copier) (k : ℕ) (n : Name) (g : Gid) (e : Entry-path) (x : Node)
   unfolding tagged-row handed-over set-tag tag-bytes
   tag-of-copy ln valid =
       let r = tagged-row w k n g e x in
-      let H = head-of r in
+      let H = row-head r in
       let N = padded name-width n in
       let P = padded tag-width (entry-text e) in
       let L = two-bytes (x .revision) in
-      let R = padded content-width (x .content) ++ spare in
+      let R = padded content-width (x .content) ++ row-spare in
       let fit = entry-text-fits e valid in
-      let l : length (H ++ N) ≡ 16 = length-append H N ∙ omega (arith, length-head r, length-padded name-width n ln) in
+      let l : length (H ++ N) ≡ 16 = length-append H N ∙ omega (arith, length-row-head r, length-padded name-width n ln) in
       ap (text-at tag-offset tag-width) (row-parts r ∙ before-number H N P L R) ∙ text-at-padded (H ++ N) (L ++ R) 16 54 (entry-text e) l (fit .0) (fit .1)
 
   module _ (o : List ℕ) (to : ℕ) (ln : length n ≤ name-width) (lc : length (x .content) ≤ content-width) (valid : is-entry-path e ≡ true) (room : row-start to ≤ length o) where
@@ -241,7 +226,7 @@ module _ (w : Copier) (k : ℕ) (n : Name) (g : Gid) (e : Entry-path) (x : Node)
     unfolding row-at tagged-row
     depth-there =
         let r = tagged-row w k n g e x in
-        ap (λ (l : List ℕ). row-of l .depth) (row-there o (row-bytes r) to (length-fitting r (copy-fitting ln lc valid)) room) ∙ depth-of-bytes r
+        ap (λ (l : List ℕ). read-row l .depth) (row-there o (row-bytes r) to (length-fitting r (copy-fitting ln lc valid)) room) ∙ depth-of-bytes r
 
 -- ---- what the code writes
 

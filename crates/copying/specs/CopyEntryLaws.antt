@@ -10,24 +10,23 @@ use Rattle.syntax.specs.PathLaws.{entry-text-fits}
 use Rattle.syntax.specs.FieldLaws.{content-fits}
 use Rattle.tree.specs.Layout.{name-width, tag-width}
 use Rattle.tree.specs.WellFormedLaws.{Place-parts, place-parts, place-below, tree-parts}
-use Rattle.tree.specs.RowContext.{index-of, around}
-use Rattle.tree.specs.RowScan.{rows-from-place, index-bound}
+use Rattle.tree.specs.RowPlaces.{index-of}
+use Rattle.tree.specs.RowPlacesLaws.{around}
+use Rattle.tree.specs.RowScanLaws.{rows-from-place}
 use Rattle.tree.specs.Encoding.{encode-tree}
 use Rattle.tree.specs.RowBytesLaws.{node-parts}
-use Rattle.tree.specs.RowAt.{row-count, row-at, all-rows}
+use Rattle.tree.specs.RowAt.{row-at, all-rows}
 use Rattle.tree.specs.TreeBytes.{Wide, Used}
-use Rattle.tree.specs.RowAtLaws.{all-rows-of-tree, row-count-of-tree}
-use Rattle.tree.specs.TreeAtLaws.{index-in-count}
+use Rattle.tree.specs.RowAtLaws.{all-rows-of-tree}
+use Rattle.tree.specs.TreeBytesLaws.{at-used, at-within, at-row}
 use Rattle.copying.specs.declared.Copier.{Copier}
 use Rattle.copying.specs.CopyRows.{deepest, most-levels, Holds-row, row-put, Stands, tagged-row, children, Job, job-rows, Written, Entry-job, entry-copy, first-row, entry-rows}
-use Rattle.copying.specs.CopyRowLaws.{row-held, row-stands}
+use Rattle.copying.specs.CopyRowLaws.{row-held}
 use Rattle.copying.specs.CopyJobLaws.{Fits, copy-wide, below-copy, place-written}
 
 module _ {w : Copier} {b : List ℕ} {at : ℕ} {group : Gid} {path : List ℕ} (j : Entry-job w b at group path) where
   entry-used : Used b at
-  entry-used =
-      let f = j .found in
-      record { sized = f .tree .sized; used = rw (f .tree .bytes, f .row) (index-in-count (j .top) (f .tree .whole) (j .spot) (j .place) (f .there)) }
+  entry-used = at-used (j .found)
 
   -- its row is held
   pub entry-held : Holds-row b at
@@ -53,7 +52,7 @@ module _ {w : Copier} {b : List ℕ} {at : ℕ} {group : Gid} {path : List ℕ} 
 
   -- it is that of its place
   pub entry-row : row-at b at ≡ record { depth = depth (j .spot); name = last (j .spot); here = j .place .here }
-  entry-row = row-stands b (entry-used .used) entry-stands
+  entry-row = at-row (j .found)
 
   module _ (o z : List ℕ) (k : ℕ) (n : Name) (wide : Wide o) (low : k + most-levels ≤ deepest) (ln : length n ≤ name-width)
       (is : z ≡ row-put o 0 (first-row j k n)) where
@@ -61,9 +60,6 @@ module _ {w : Copier} {b : List ℕ} {at : ℕ} {group : Gid} {path : List ℕ} 
     entry-fits : Fits w o 0 most-levels k n group (j .parent) (j .entry) (j .place)
     entry-fits =
         let f = j .found in
-        let c = around (j .top) (j .spot) (j .place) (f .there) in
-        let r = row-count-of-tree (j .top) (f .tree .whole) in
-        let q = ap row-count (f .tree .bytes) in
         record {
           given = j .given;
           name = ln;
@@ -73,7 +69,7 @@ module _ {w : Copier} {b : List ℕ} {at : ℕ} {group : Gid} {path : List ℕ} 
           short = j .short;
           deep = omega (arith, j .short);
           low = omega (arith, j .short);
-          room = omega (arith, index-bound c, f .tree .sized .few-rows);
+          room = omega (arith, at-within f, f .tree .sized .few-rows);
           wide = wide;
         }
 

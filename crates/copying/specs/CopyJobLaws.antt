@@ -20,10 +20,11 @@ use Rattle.tree.specs.Walk.{by-modes}
 use Rattle.tree.specs.WellFormed.{is-forest}
 use Rattle.tree.specs.WellFormedLaws.{Forest-parts, place-parts, forest-parts, forest-of-parts, forest-nil, leads-nil}
 use Rattle.tree.specs.Rows.{Row, flatten}
-use Rattle.tree.specs.RowContext.{place-rows}
+use Rattle.tree.specs.RowScan.{end-of-subtree}
+use Rattle.tree.specs.RowPlaces.{place-rows}
 use Rattle.tree.specs.Encoding.{row-bytes}
 use Rattle.tree.specs.RowBytesLaws.{node-parts}
-use Rattle.tree.specs.RowAt.{row-count, row-at, all-rows, tag-text-at, end-of-subtree}
+use Rattle.tree.specs.RowAt.{row-count, row-at, all-rows, tag-text-at}
 use Rattle.tree.specs.TreeBytes.{Wide, Has-row}
 use Rattle.copying.specs.declared.Copier.{Copier}
 use Rattle.copying.specs.Copying.{copy-mode, copied, copy}

@@ -24,11 +24,13 @@ use Rattle.tree.specs.Walk.{by-modes}
 use Rattle.tree.specs.WellFormed.{is-node}
 use Rattle.tree.specs.Rows.{Row, flatten, rows}
 use Rattle.tree.specs.RowLaws.{length-flatten}
-use Rattle.tree.specs.RowContext.{ends-flatten, place-rows, ends}
-use Rattle.tree.specs.RowScan.{below-span}
-use Rattle.tree.specs.Encoding.{row-bytes, row-of, encode-rows}
+use Rattle.tree.specs.RowScan.{first-depth, depth-of, end-of-subtree}
+use Rattle.tree.specs.RowPlaces.{place-rows, ends}
+use Rattle.tree.specs.RowPlacesLaws.{ends-flatten}
+use Rattle.tree.specs.RowScanLaws.{below-span}
+use Rattle.tree.specs.Encoding.{row-bytes, read-row, encode-rows}
 use Rattle.tree.specs.EncodingLaws.{fits, fits-parts, tree-fits, length-fitting, fitting-back}
-use Rattle.tree.specs.RowAt.{row-count, row-bytes-at, row-at, all-rows, first-depth, depth-of, end-of-subtree}
+use Rattle.tree.specs.RowAt.{row-count, row-bytes-at, row-at, all-rows}
 use Rattle.tree.specs.RowAtLaws.{row-in-rows, row-count-of-tree}
 use Rattle.tree.specs.TreeBytes.{Encodes}
 use Rattle.edits.specs.EncodedRowsLaws.{encode-tree-rows, table-part}
@@ -59,7 +61,7 @@ row-held b t i e h =
     ∙ ap (λ (j : ℕ). take row-width (drop (row-start j) (encode-rows (xs ++ (r ∷ ys))))) (sym lx)
     ∙ table-part xs (r ∷ []) ys (length-all-bytes row-width fits row-bytes length-fitting xs (f .0)) lr
     ∙ append-nil (row-bytes r) in
-    let is : row-at b i ≡ r = ap row-of there ∙ fitting-back r (g .0) in
+    let is : row-at b i ≡ r = ap read-row there ∙ fitting-back r (g .0) in
     record {
       has = record { wide = e .sized .wide; low = omega (arith, e .sized .few-rows) };
       own = ap (λ (u : Row Node). is-node (u .here)) is ∙ fits-parts r (g .0) .0;

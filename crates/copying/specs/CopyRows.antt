@@ -17,7 +17,7 @@ use Rattle.tree.specs.Node.{Node, set-tag, new-node}
 use Rattle.tree.specs.Walk.{by-modes}
 use Rattle.tree.specs.WellFormed.{is-node, is-forest}
 use Rattle.tree.specs.Rows.{Row, flatten}
-use Rattle.tree.specs.RowContext.{place-rows, ends}
+use Rattle.tree.specs.RowPlaces.{place-rows, ends}
 use Rattle.tree.specs.Encoding.{row-bytes}
 use Rattle.tree.specs.RowAt.{row-bytes-at, row-at, all-rows, tag-text-at}
 use Rattle.tree.specs.TreeBytes.{Wide, Has-row, Used, Encodes, At}

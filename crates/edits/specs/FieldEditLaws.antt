@@ -1,6 +1,6 @@
 -- The fields of a row written: which change of the tree each is.
 use mathlib.Core.Path.{_≡_, refl, sym, _∙_, ap}
-use mathlib.Core.List.{List, [], _∷_, _++_}
+use mathlib.Core.List.{List, [], _∷_, _++_, append-assoc}
 use mathlib.Core.Option.{Option, some}
 use mathlib.Core.Bool.{true}
 use Prim.Native.Nat.{ℕ, suc, _+_, _≤_}
@@ -20,17 +20,17 @@ use Rattle.tree.specs.Layout.{owner-offset, group-offset, mode-offset, revision
 use Rattle.tree.specs.Forest.{Place, update, place-at, alter}
 use Rattle.tree.specs.Node.{Tag, Node, set-owner, set-group, set-mode, set-revision, set-tag, set-content}
 use Rattle.tree.specs.Rows.{Row, flatten}
-use Rattle.tree.specs.RowContext.{index-of, around}
-use Rattle.tree.specs.RowEdits.{alter-rows, before}
 use Rattle.tree.specs.WellFormed.{is-tag, is-tree}
-use Rattle.tree.specs.Encoding.{kind-byte, tag-bytes, row-bytes, encode-rows, encode-tree}
-use Rattle.tree.specs.RowBytesLaws.{length-tag-bytes, node-parts}
+use Rattle.tree.specs.RowPlaces.{index-of}
+use Rattle.tree.specs.RowPlacesLaws.{around}
+use Rattle.tree.specs.RowChangesLaws.{alter-rows}
+use Rattle.tree.specs.Encoding.{kind-byte, tag-bytes, row-bytes, encode-rows, encode-tree, row-head, row-spare}
+use Rattle.tree.specs.RowBytesLaws.{length-tag-bytes, node-parts, length-row-head, row-parts}
 use Rattle.tree.specs.EncodingLaws.{fits, fits-parts}
 use Rattle.tree.specs.TreeBytes.{At}
 use Rattle.edits.specs.Changes.{field-bytes, field-put}
 use Rattle.edits.specs.EncodedRowsLaws.{encode-tree-rows, table-field-at, table-field-put}
 use Rattle.edits.specs.EditLaws.{cut-fits, fitting-wide}
-use Rattle.edits.specs.RowPartsLaws.{name-of, head-of, spare, length-head, row-parts, regroup-four, regroup-three}
 
 -- the row of the place at a path, with a node for its own
 abbrev row-there : Path → Node → Row Node
@@ -96,6 +96,16 @@ module _ (t : Place Node) (p : Path) (d : Place Node) (h : is-tree t ≡ true) (
       let P : List ℕ = (depth p ∷ kind-byte (x .kind) ∷ x .owner .0 ∷ x .group .0 ∷ []) ++ two-bytes (x .mode) in
       change-law 6 P (two-bytes (x .revision)) _ refl refl (set-revision v) (two-bytes v) refl refl
 
+abbrev name-of : Row Node → List ℕ
+name-of r = padded name-width (r .name)
+
+-- the parts of a row gathered around one of them
+regroup-three : (H N T R : List ℕ) → H ++ (N ++ (T ++ R)) ≡ (H ++ (N ++ T)) ++ R
+regroup-three H N T R = simp append-assoc
+
+regroup-four : (H N T B R : List ℕ) → H ++ (N ++ ((T ++ B) ++ R)) ≡ (H ++ (N ++ T)) ++ (B ++ R)
+regroup-four H N T B R = simp append-assoc
+
 module _ (t : Place Node) (p : Path) (d : Place Node) (h : is-tree t ≡ true) (there : place-at t p ≡ some d) where
   length-name : length (name-of (row-there p (d .here))) ≡ 8
   length-name = length-padded name-width (last p) (fits-parts (row-there p (d .here)) (row-fits t p d h there) .1 .0)
@@ -109,9 +119,9 @@ module _ (t : Place Node) (p : Path) (d : Place Node) (h : is-tree t ≡ true) (
       content-fits (d .here .content) (i .1) .0
 
   -- how many bytes stand before what follows the name and a stretch T
-  length-so-far : (x : Node) (T : List ℕ) (k : ℕ) → length T ≡ k → length (head-of (row-there p x) ++ (name-of (row-there p (d .here)) ++ T)) ≡ 16 + k
+  length-so-far : (x : Node) (T : List ℕ) (k : ℕ) → length T ≡ k → length (row-head (row-there p x) ++ (name-of (row-there p (d .here)) ++ T)) ≡ 16 + k
   length-so-far x T k l =
-      length-append (head-of (row-there p x)) (name-of (row-there p (d .here)) ++ T) ∙ omega (arith, length-head (row-there p x), length-append (name-of (row-there p (d .here))) T, length-name)
+      length-append (row-head (row-there p x)) (name-of (row-there p (d .here)) ++ T) ∙ omega (arith, length-row-head (row-there p x), length-append (name-of (row-there p (d .here))) T, length-name)
 
   tag-changed : (e : Entry-path) (v : ℕ) → is-entry-path e ≡ true
       → field-put (encode-tree t) (index-of t p) tag-offset (padded tag-width (entry-text e) ++ two-bytes v)
@@ -119,11 +129,11 @@ module _ (t : Place Node) (p : Path) (d : Place Node) (h : is-tree t ≡ true) (
   unfolding set-tag tag-bytes two-bytes
   tag-changed e v a =
       let x = d .here in
-      let P = head-of (row-there p x) ++ name-of (row-there p (d .here)) in
-      let Q = padded content-width (x .content) ++ spare in
+      let P = row-head (row-there p x) ++ name-of (row-there p (d .here)) in
+      let Q = padded content-width (x .content) ++ row-spare in
       let T = padded tag-width (entry-text e) in
       let g : Tag = record { path = e; revision = v } in
-      let lP : length P ≡ 16 = length-append (head-of (row-there p x)) (name-of (row-there p (d .here))) ∙ omega (arith, length-head (row-there p x), length-name) in
+      let lP : length P ≡ 16 = length-append (row-head (row-there p x)) (name-of (row-there p (d .here))) ∙ omega (arith, length-row-head (row-there p x), length-name) in
       let lT = length-padded tag-width (entry-text e) (entry-text-fits e a .0) in
       let q : length (tag-bytes (x .tag)) ≡ length (T ++ two-bytes v) =
       length-tag-bytes (x .tag) tag-fits-there ∙ sym (length-append T (two-bytes v) ∙ omega (arith, lT)) in
@@ -136,23 +146,23 @@ module _ (t : Place Node) (p : Path) (d : Place Node) (h : is-tree t ≡ true) (
   tag-revision-changed g v e =
       let x = d .here in
       let T = padded tag-width (entry-text (g .path)) in
-      let Q = padded content-width (x .content) ++ spare in
+      let Q = padded content-width (x .content) ++ row-spare in
       let new : Tag = record { path = g .path; revision = v } in
       let fit : is-tag (some g) ≡ true = ap is-tag (sym e) ∙ tag-fits-there in
       let path = and-both (is-entry-path (g .path)) _ fit .0 in
       let lT = length-padded tag-width (entry-text (g .path)) (entry-text-fits (g .path) path .0) in
-      let was : row-bytes (row-there p x) ≡ (head-of (row-there p x) ++ (name-of (row-there p (d .here)) ++ T)) ++ (two-bytes (g .revision) ++ Q) =
-      row-parts (row-there p x) ∙ ap (λ (o : Option Tag). head-of (row-there p x) ++ (name-of (row-there p (d .here)) ++ (tag-bytes o ++ Q))) e
-      ∙ regroup-four (head-of (row-there p x)) (name-of (row-there p (d .here))) T (two-bytes (g .revision)) Q in
-      change-law t p d h there 70 (head-of (row-there p x) ++ (name-of (row-there p (d .here)) ++ T)) (two-bytes (g .revision)) Q (length-so-far x T 54 lT) was (set-tag new) (two-bytes v)
+      let was : row-bytes (row-there p x) ≡ (row-head (row-there p x) ++ (name-of (row-there p (d .here)) ++ T)) ++ (two-bytes (g .revision) ++ Q) =
+      row-parts (row-there p x) ∙ ap (λ (o : Option Tag). row-head (row-there p x) ++ (name-of (row-there p (d .here)) ++ (tag-bytes o ++ Q))) e
+      ∙ regroup-four (row-head (row-there p x)) (name-of (row-there p (d .here))) T (two-bytes (g .revision)) Q in
+      change-law t p d h there 70 (row-head (row-there p x) ++ (name-of (row-there p (d .here)) ++ T)) (two-bytes (g .revision)) Q (length-so-far x T 54 lT) was (set-tag new) (two-bytes v)
       (length-two-bytes (g .revision) ∙ sym (length-two-bytes v))
-      (row-parts (row-there p (set-tag new x)) ∙ regroup-four (head-of (row-there p x)) (name-of (row-there p (d .here))) T (two-bytes v) Q)
+      (row-parts (row-there p (set-tag new x)) ∙ regroup-four (row-head (row-there p x)) (name-of (row-there p (d .here))) T (two-bytes v) Q)
 
   -- the content, where it stands
-  content-parts : (x : Node) → row-bytes (row-there p x) ≡ (head-of (row-there p x) ++ (name-of (row-there p (d .here)) ++ tag-bytes (x .tag))) ++ (padded content-width (x .content) ++ spare)
-  content-parts x = row-parts (row-there p x) ∙ regroup-three (head-of (row-there p x)) (name-of (row-there p (d .here))) (tag-bytes (x .tag)) (padded content-width (x .content) ++ spare)
+  content-parts : (x : Node) → row-bytes (row-there p x) ≡ (row-head (row-there p x) ++ (name-of (row-there p (d .here)) ++ tag-bytes (x .tag))) ++ (padded content-width (x .content) ++ row-spare)
+  content-parts x = row-parts (row-there p x) ∙ regroup-three (row-head (row-there p x)) (name-of (row-there p (d .here))) (tag-bytes (x .tag)) (padded content-width (x .content) ++ row-spare)
 
-  length-before-content : length (head-of (row-there p (d .here)) ++ (name-of (row-there p (d .here)) ++ tag-bytes (d .here .tag))) ≡ 72
+  length-before-content : length (row-head (row-there p (d .here)) ++ (name-of (row-there p (d .here)) ++ tag-bytes (d .here .tag))) ≡ 72
   length-before-content = length-so-far (d .here) (tag-bytes (d .here .tag)) 56 (length-tag-bytes (d .here .tag) tag-fits-there)
 
   length-content : length (padded content-width (d .here .content)) ≡ 80
@@ -163,14 +173,14 @@ module _ (t : Place Node) (p : Path) (d : Place Node) (h : is-tree t ≡ true) (
   unfolding set-content
   content-changed c l =
       let x = d .here in
-      change-law t p d h there 72 (head-of (row-there p x) ++ (name-of (row-there p (d .here)) ++ tag-bytes (x .tag))) (padded content-width (x .content)) spare length-before-content (content-parts x)
+      change-law t p d h there 72 (row-head (row-there p x) ++ (name-of (row-there p (d .here)) ++ tag-bytes (x .tag))) (padded content-width (x .content)) row-spare length-before-content (content-parts x)
       (set-content c) (padded content-width c) (length-content ∙ sym (length-padded content-width c l)) (content-parts (set-content c x))
 
   content-read : field-bytes (encode-tree t) (index-of t p) content-offset content-width ≡ padded content-width (d .here .content)
   content-read =
       let x = d .here in
       ap (field-bytes (encode-tree t) (index-of t p) 72) (sym length-content)
-      ∙ field-law t p d h there 72 (head-of (row-there p x) ++ (name-of (row-there p (d .here)) ++ tag-bytes (x .tag))) (padded content-width (x .content)) spare length-before-content (content-parts x)
+      ∙ field-law t p d h there 72 (row-head (row-there p x) ++ (name-of (row-there p (d .here)) ++ tag-bytes (x .tag))) (padded content-width (x .content)) row-spare length-before-content (content-parts x)
 
 -- ---- at the row of a place
 

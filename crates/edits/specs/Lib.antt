@@ -2,5 +2,4 @@ pub mod Changes
 pub mod WrittenLaws
 pub mod EncodedRowsLaws
 pub mod EditLaws
-pub mod RowPartsLaws
 pub mod FieldEditLaws

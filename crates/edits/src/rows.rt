@@ -6,7 +6,7 @@ ghost use lib.Seq.{paste};
 ghost use Rattle.tree.specs.Layout.{row-width, name-width};
 ghost use Rattle.tree.specs.Forest.{leaf};
 ghost use Rattle.tree.specs.Encoding.{kind-byte, row-bytes, encode-tree};
-ghost use Rattle.tree.specs.TreeBytes.{Wide, Gap, Stretch};
+ghost use Rattle.tree.specs.TreeBytes.{Wide, Insertable, Stretch};
 ghost use Rattle.edits.specs.Changes.{rows-put, rows-taken, fresh-node, fresh-row, head-bytes};
 use crate::Fresh;
 use buffers::clear;
@@ -29,7 +29,7 @@ use tree::count;
 
 // Puts n rows in before the one at an index; those from there on move up.
 pub fn put_rows(tree: &mut [u8], at: usize, n: usize, rows: &[u8])
-    requires { ⌜ Gap (now tree) at n ⌝ }
+    requires { ⌜ Insertable (now tree) at n ⌝ }
     requires { ⌜ row-width * n ≤ length (now rows) ⌝ }
     ensures { λ _. ⌜ now (tree .exit) ≡ rows-put (now (tree .entry)) at n (now (rows .entry)) ⌝ }
 {
@@ -89,7 +89,7 @@ fn write_row(tree: &mut [u8], at: usize, depth: u8, name: &[u8], node: Fresh)
 
 // Puts the row of a new node in before the one at an index.
 pub fn put_child(tree: &mut [u8], at: usize, depth: u8, name: &[u8], node: Fresh)
-    requires { ⌜ Gap (now tree) at 1 ⌝ }
+    requires { ⌜ Insertable (now tree) at 1 ⌝ }
     requires { ⌜ length (now name) ≤ name-width ⌝ }
     ensures { λ _. ⌜ now (tree .exit) ≡ rows-put (now (tree .entry)) at 1 (row-bytes (fresh-row depth (now (name .entry)) node)) ⌝ }
 {

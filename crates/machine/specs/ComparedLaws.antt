@@ -18,14 +18,15 @@ use Rattle.setup.specs.SetupLaws.{accepted-is-setup}
 use Rattle.tree.specs.declared.Cause.the-variants.{NoForm, ShortAnswer}
 use Rattle.tree.specs.Result.{Result, present, Outcome}
 use Rattle.tree.specs.ResultLaws.{present-some}
+use Rattle.tree.specs.Outcomes.{Agree, refusal, both}
+use Rattle.tree.specs.AgreeLaws.{each, check}
 use Rattle.tree.specs.Forest.{Forest, nil, Place, get, leaf}
 use Rattle.tree.specs.Node.{Node}
 use Rattle.tree.specs.ForestLaws.{get-first, get-insert-other}
 use Rattle.tree.specs.MapLaws.{map-nil}
 use Rattle.tree.specs.RootedLaws.{rooted-here, rooted-below}
 use Rattle.tree.specs.PlaceLaws.{leaf-here, leaf-below, update-root}
-use Rattle.tree.specs.Graft.{graft-own, get-graft, update-inside}
-use Rattle.tree.specs.Agree.{Agree, refusal, both, each, check}
+use Rattle.tree.specs.GraftLaws.{graft-own, get-graft, update-inside}
 use Rattle.store.specs.State.{Store}
 use Rattle.store.specs.Initial.{rep-node, home-node, home-name, with-home, homes, initial-tree, initial-store}
 use Rattle.machine.specs.Machine.{caller}

@@ -25,15 +25,16 @@ use Rattle.tree.specs.declared.Kind.the-variants.{File, Directory}
 use Rattle.tree.specs.declared.Cause.the-variants.{Access, WrongKind, NotEmpty, Reserved, Full, NoGrant, Stale, Untagged, RevisionsSpent, TooDeep}
 use Rattle.tree.specs.Result.{done, present, Outcome}
 use Rattle.tree.specs.ResultLaws.{present-some}
-use Rattle.tree.specs.Forest.{Place}
+use Rattle.tree.specs.Outcomes.{gives, Ensures}
+use Rattle.tree.specs.GivesLaws.{any-outcome, done-with, then-step, then-check, then-guard, then-do}
+use Rattle.tree.specs.Forest.{Place, Holds}
 use Rattle.tree.specs.Node.{is-directory, Node, set-content}
 use Rattle.tree.specs.Walk.{by-modes, walk, parent-walk, unused}
-use Rattle.tree.specs.Gives.{gives, Ensures, any-outcome, done-with, then-step, then-check, then-guard, then-do}
 use Rattle.tree.specs.UpdateLaws.{walked-at}
 use Rattle.tree.specs.WellFormed.{is-tree}
 use Rattle.tree.specs.JudgeLaws.{directory-is-one, set-revision-is, set-content-is}
-use Rattle.tree.specs.PathLaws.{drop-gone}
-use Rattle.tree.specs.ChangeAtLaws.{Holds, holds-altered, holds-alter, holds-put, holds-drop}
+use Rattle.tree.specs.OtherPathLaws.{drop-gone}
+use Rattle.tree.specs.HoldsLaws.{holds-altered, holds-alter, holds-put, holds-drop}
 use Rattle.copying.specs.Copying.{below-rep}
 use Rattle.shell.specs.Steps.{room, run-shell}
 use Rattle.store.specs.State.{Store}

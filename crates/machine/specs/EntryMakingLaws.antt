@@ -15,16 +15,17 @@ use Rattle.commands.specs.Command.{login, logout, add, co, commit, up, del, Com
 use Rattle.setup.specs.Setup.{Setup}
 use Rattle.tree.specs.declared.Cause.the-variants.{Access, NotEmpty, Reserved, Full, NoGrant, Stale, RevisionsSpent, TooDeep}
 use Rattle.tree.specs.Result.{done, Outcome}
+use Rattle.tree.specs.Outcomes.{gives, Ensures}
+use Rattle.tree.specs.GivesLaws.{any-outcome, done-with, then-check, then-guard, then-do}
 use Rattle.tree.specs.Forest.{Place, update, place-at, put, leaf}
 use Rattle.tree.specs.Node.{Node, owns}
 use Rattle.tree.specs.Walk.{by-modes, walk, parent-walk, unused}
 use Rattle.tree.specs.WellFormed.{is-tree}
-use Rattle.tree.specs.Gives.{gives, Ensures, any-outcome, done-with, then-check, then-guard, then-do}
 use Rattle.tree.specs.StepLaws.{parent-walked}
 use Rattle.tree.specs.UpdateLaws.{walked-at}
 use Rattle.tree.specs.PlaceLaws.{leaf-here}
-use Rattle.tree.specs.PathLaws.{put-stands, alter-none}
-use Rattle.tree.specs.ChangeAtLaws.{put-leaf-none, drop-still-none}
+use Rattle.tree.specs.OtherPathLaws.{put-stands, alter-none}
+use Rattle.tree.specs.HoldsLaws.{put-leaf-none, drop-still-none}
 use Rattle.copying.specs.Copying.{below-rep}
 use Rattle.shell.specs.Steps.{room, run-shell}
 use Rattle.store.specs.State.{Store}

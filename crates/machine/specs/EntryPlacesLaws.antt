@@ -18,19 +18,19 @@ use Rattle.tree.specs.declared.Kind.{Kind}
 use Rattle.tree.specs.declared.Cause.the-variants.{NoSession}
 use Rattle.tree.specs.Result.{done, Outcome}
 use Rattle.tree.specs.ResultLaws.{present-some}
-use Rattle.tree.specs.Forest.{Place, update, place-at, alter, put, drop, leaf, map-place}
+use Rattle.tree.specs.AgreeLaws.{done-first}
+use Rattle.tree.specs.Forest.{Place, update, place-at, alter, put, drop, leaf, map-place, Holds}
 use Rattle.tree.specs.ForestLaws.{leaf-map}
 use Rattle.tree.specs.RootedLaws.{rooted-put, rooted-drop, rooted-alter}
 use Rattle.tree.specs.Node.{is-directory, Node, set-tag, owns}
 use Rattle.tree.specs.Walk.{Judge, by-modes, walk, parent-walk, unused}
-use Rattle.tree.specs.Agree.{done-first}
 use Rattle.tree.specs.StepLaws.{was-unused, parent-walked}
-use Rattle.tree.specs.UpdateLaws.{at-child, walked-at}
+use Rattle.tree.specs.UpdateLaws.{place-at-child, walked-at}
+use Rattle.tree.specs.OtherPathLaws.{changed-at}
 use Rattle.tree.specs.MapLaws.{map-here}
 use Rattle.tree.specs.WellFormed.{is-tree}
-use Rattle.tree.specs.PathLaws.{changed-at}
 use Rattle.tree.specs.Graft.{Outside}
-use Rattle.tree.specs.ChangeAtLaws.{Holds, place-map, place-inside, place-outside}
+use Rattle.tree.specs.HoldsLaws.{place-map, place-inside, place-outside}
 use Rattle.copying.specs.Copying.{below-rep}
 use Rattle.store.specs.State.{Store, state-of}
 use Rattle.store.specs.StateLaws.{parts}
@@ -83,7 +83,7 @@ pub free : (j : Judge Filed) (t : Place Filed) (e : Entry-path) (f : Place Filed
     → parent-walk j t (below-rep e) ≡ done f → unused (e .name) (f .below) ≡ done tt
     → place-at t (e .folder ▹ e .name) ≡ none
 unfolding below-rep parent
-free j t e f w i = at-child t (e .folder) (e .name) f (walked-at t j (e .folder) f (parent-walked j t (e .folder ▹ e .name) w .0)) ∙ was-unused (e .name) (f .below) i
+free j t e f w i = place-at-child t (e .folder) (e .name) f (walked-at t j (e .folder) f (parent-walked j t (e .folder ▹ e .name) w .0)) ∙ was-unused (e .name) (f .below) i
 
 -- ---- what a walk meets after a change of the entries
 

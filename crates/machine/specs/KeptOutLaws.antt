@@ -12,12 +12,13 @@ use Rattle.setup.specs.Setup.{Setup}
 use Rattle.setup.specs.SetupLaws.{accepted-is-setup}
 use Rattle.tree.specs.declared.Cause.{Cause}
 use Rattle.tree.specs.Result.{refused, done}
+use Rattle.tree.specs.GivesLaws.{never-done, then-step}
 use Rattle.tree.specs.Forest.{place-at}
 use Rattle.tree.specs.Node.{allows}
-use Rattle.tree.specs.Gives.{never-done, then-step}
 use Rattle.tree.specs.PlaceLaws.{leaf-here}
-use Rattle.tree.specs.UpdateLaws.{at-top, at-child}
-use Rattle.tree.specs.Graft.{graft, get-graft}
+use Rattle.tree.specs.UpdateLaws.{place-at-root, place-at-child}
+use Rattle.tree.specs.Graft.{graft}
+use Rattle.tree.specs.GraftLaws.{get-graft}
 use Rattle.shell.specs.ShutLaws.{never-run}
 use Rattle.store.specs.State.{Store}
 use Rattle.store.specs.Initial.{rep-node}
@@ -37,7 +38,7 @@ rep-place : (h : Abstract) → Kept h → place-at (embed h .tree) (root ▹ rep
 unfolding embed
 rep-place h k =
     let t = graft (stored (h .entries)) (h .workspace) in
-    at-child t root rep t (at-top t) ∙ get-graft (stored (h .entries)) (h .workspace) (k .there)
+    place-at-child t root rep t (place-at-root t) ∙ get-graft (stored (h .entries)) (h .workspace) (k .there)
 
 -- a person's shell line with a path below `/rep` is refused
 pub shell-refused : (u : Setup) (s : Store) → Reached-without-root u s → (v : Uid) (c : Caller) → is-root v ≡ false → caller u v ≡ done c

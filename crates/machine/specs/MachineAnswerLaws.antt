@@ -22,12 +22,13 @@ use Rattle.tree.specs.declared.Cause.{Cause}
 use Rattle.tree.specs.declared.Cause.the-variants.{NoForm, UnknownCaller, Access, WrongKind, NotEmpty, Reserved, Full, NoSession, NoGrant, Stale, Untagged, RevisionsSpent, Unsound, TooDeep, ShortAnswer}
 use Rattle.tree.specs.Result.{Result, refused, done, Outcome}
 use Rattle.tree.specs.ResultLaws.{done-then, refused-then, require-true, require-false}
+use Rattle.tree.specs.Outcomes.{Gives, gives, Refuses}
+use Rattle.tree.specs.GivesLaws.{refused-by, done-with, only-refuses, present-refuses, then-step, then-check, then-guard}
 use Rattle.tree.specs.Forest.{Place, place-at}
 use Rattle.tree.specs.Node.{Node}
 use Rattle.tree.specs.Walk.{by-modes, walk, parent-walk}
+use Rattle.tree.specs.WalkRefusalLaws.{unused-refuses, walk-refuses, parent-walk-refuses}
 use Rattle.tree.specs.WellFormed.{is-tree}
-use Rattle.tree.specs.Gives.{Gives, gives, Refuses, refused-by, done-with, only-refuses, present-refuses, then-step, then-check, then-guard}
-use Rattle.tree.specs.GivesLaws.{unused-refuses, walk-refuses, parent-walk-refuses}
 use Rattle.copying.specs.Copying.{below-rep}
 use Rattle.shell.specs.Steps.{text-of}
 use Rattle.shell.specs.Answers.{Own, Fits}

@@ -27,11 +27,12 @@ use Rattle.setup.specs.SetupLaws.{accepted-is-setup}
 use Rattle.tree.specs.declared.Cause.the-variants.{NoForm, Access, WrongKind, NotEmpty, Reserved, Full, NoGrant, Stale, Untagged, RevisionsSpent, TooDeep, ShortAnswer}
 use Rattle.tree.specs.Result.{Result, done, Outcome}
 use Rattle.tree.specs.ResultLaws.{present-some}
+use Rattle.tree.specs.Outcomes.{refuses, gives, Ensures}
+use Rattle.tree.specs.GivesLaws.{any-outcome, then-step, then-check, then-guard, then-do}
 use Rattle.tree.specs.Forest.{Place, update, alter, leaf, size, height}
 use Rattle.tree.specs.Node.{is-directory, Tag, Node, set-tag, set-content}
 use Rattle.tree.specs.Walk.{Judge, by-modes, walk}
 use Rattle.tree.specs.WellFormed.{last-revision, is-node, is-tree}
-use Rattle.tree.specs.Gives.{refuses, gives, Ensures, any-outcome, then-step, then-check, then-guard, then-do}
 use Rattle.tree.specs.JudgeLaws.{kind-by-modes}
 use Rattle.tree.specs.StepLaws.{was-unused, parent-walked}
 use Rattle.tree.specs.PlaceLaws.{leaf-size}

@@ -22,13 +22,14 @@ use Rattle.tree.specs.declared.Cause.{Cause}
 use Rattle.tree.specs.declared.Cause.the-variants.{Access, WrongKind, NotEmpty, Reserved, Full, NoGrant, Stale, Untagged, RevisionsSpent, TooDeep}
 use Rattle.tree.specs.Result.{refused, present}
 use Rattle.tree.specs.ResultLaws.{refused-bind}
+use Rattle.tree.specs.Outcomes.{gives, Ensures}
+use Rattle.tree.specs.GivesLaws.{any-outcome, never-done, weaker, then-step, then-check, then-guard, then-do}
 use Rattle.tree.specs.Forest.{Place, place-at}
 use Rattle.tree.specs.Node.{is-directory, Node, owns}
 use Rattle.tree.specs.Walk.{by-modes, unused, walk, parent-walk}
 use Rattle.tree.specs.WellFormed.{is-tree}
-use Rattle.tree.specs.Gives.{gives, Ensures, any-outcome, never-done, weaker, then-step, then-check, then-guard, then-do}
 use Rattle.tree.specs.JudgeLaws.{kind-by-modes, readable-by-modes, writable-by-modes}
-use Rattle.tree.specs.PathLaws.{alter-keeps}
+use Rattle.tree.specs.OtherPathLaws.{alter-keeps}
 use Rattle.copying.specs.Copying.{below-rep}
 use Rattle.shell.specs.ShutLaws.{never-walked, never-room, never-run}
 use Rattle.shell.specs.Privacy.{Private, Unaltered, in-place, walks-first}

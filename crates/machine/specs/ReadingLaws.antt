@@ -21,7 +21,7 @@ use Rattle.setup.specs.SetupLaws.{apart}
 use Rattle.tree.specs.declared.Kind.{Kind}
 use Rattle.tree.specs.declared.Kind.the-variants.{File}
 use Rattle.tree.specs.Result.{done}
-use Rattle.tree.specs.Agree.{done-first, done-second}
+use Rattle.tree.specs.AgreeLaws.{done-first, done-second}
 use Rattle.tree.specs.Forest.{nil, Place, get, insert, update-forest, leaf, map-place}
 use Rattle.tree.specs.Node.{is-directory, Node}
 use Rattle.tree.specs.Walk.{enter, walk}

@@ -19,18 +19,20 @@ use Rattle.setup.specs.Setup.{Setup, is-setup}
 use Rattle.tree.specs.declared.Kind.{Kind}
 use Rattle.tree.specs.declared.Cause.the-variants.{Access, WrongKind, NotEmpty, Reserved, Full, NoGrant, Stale, Untagged, RevisionsSpent, TooDeep}
 use Rattle.tree.specs.Result.{Result, done, present}
+use Rattle.tree.specs.Outcomes.{Agree, both}
+use Rattle.tree.specs.AgreeLaws.{done-second, bind, each, check, guard}
 use Rattle.tree.specs.Forest.{Forest, nil, node, Place, insert, remove, at, update, update-forest, alter, put, drop, leaf, size, map-forest, map-place, rooted}
 use Rattle.tree.specs.Node.{is-directory, Node, allows, owns}
 use Rattle.tree.specs.Walk.{by-modes, enter, walk, parent-walk}
 use Rattle.tree.specs.WellFormed.{nodes}
-use Rattle.tree.specs.Agree.{Agree, both, done-second, bind, each, check, guard}
 use Rattle.tree.specs.JudgeLaws.{directory-is-one, kind-by-modes, passes-by-modes}
 use Rattle.tree.specs.StepLaws.{enters}
 use Rattle.tree.specs.ForestLaws.{empty-map, leaf-map}
 use Rattle.tree.specs.RootedLaws.{rooted-here, rooted-size, rooted-put, rooted-drop, rooted-alter, rooted-map}
 use Rattle.tree.specs.PlaceLaws.{leaf-here, leaf-size}
 use Rattle.tree.specs.MapLaws.{map-nil, map-node, map-here, map-below, unused-map, walk-map, parent-walk-map}
-use Rattle.tree.specs.Graft.{graft, Outside, nodes-graft, update-inside, walk-inside, parent-walk-inside, Seen, seen-here}
+use Rattle.tree.specs.Graft.{graft, Outside, Seen}
+use Rattle.tree.specs.GraftLaws.{nodes-graft, update-inside, walk-inside, parent-walk-inside, seen-here}
 use Rattle.copying.specs.Copying.{below-rep, Source, copied, copy-children, copy}
 use Rattle.shell.specs.Steps.{room, fit, run-shell}
 use Rattle.shell.specs.HidingLaws.{Kept-out, Beside, Alike, update-beside, walk-alike, owned-outside, file-outside, room-alike, fit-alike, run-shell-alike}

@@ -23,7 +23,7 @@ use Rattle.tree.specs.declared.Kind.{Kind}
 use Rattle.tree.specs.declared.Cause.{Cause}
 use Rattle.tree.specs.declared.Cause.the-variants.{Access, Unsound, ShortAnswer}
 use Rattle.tree.specs.Result.{refused, done, Outcome}
-use Rattle.tree.specs.Gives.{Ensures}
+use Rattle.tree.specs.Outcomes.{Ensures}
 use Rattle.tree.specs.Forest.{Place, place-at}
 use Rattle.tree.specs.Node.{Node}
 use Rattle.tree.specs.WellFormed.{is-tree}

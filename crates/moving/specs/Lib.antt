@@ -1,6 +1,5 @@
 pub mod Relabel
 pub mod RelabelLaws
 pub mod Moving
-pub mod AtLaws
 pub mod VacantLaws
 pub mod MovingLaws

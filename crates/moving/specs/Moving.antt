@@ -13,8 +13,7 @@ use Rattle.syntax.specs.Parts.{last-slash}
 use Rattle.tree.specs.Layout.{row-width}
 use Rattle.tree.specs.Forest.{Place, get, update, put, drop, size, height}
 use Rattle.tree.specs.Node.{Node, is-directory}
-use Rattle.tree.specs.RowContext.{place-rows}
-use Rattle.tree.specs.RowEdits.{lesser}
+use Rattle.tree.specs.RowPlaces.{place-rows, lesser}
 use Rattle.tree.specs.Encoding.{row-bytes}
 use Rattle.tree.specs.TreeBytes.{At}
 use Rattle.edits.specs.Changes.{rows-put}

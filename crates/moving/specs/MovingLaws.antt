@@ -17,25 +17,22 @@ use Rattle.syntax.specs.WithinLaws.{deeper, lies, lies-outside}
 use Rattle.tree.specs.Layout.{row-width, row-start, most-rows}
 use Rattle.tree.specs.Forest.{Place, place-at, size}
 use Rattle.tree.specs.Node.{Node, is-directory}
-use Rattle.tree.specs.UpdateLaws.{at-child, child-at}
-use Rattle.tree.specs.PathLaws.{drop-none, drop-some}
 use Rattle.tree.specs.WellFormed.{nodes, is-tree}
+use Rattle.tree.specs.UpdateLaws.{place-at-child, place-at-parent}
 use Rattle.tree.specs.WellFormedLaws.{tree-parts, place-below}
 use Rattle.tree.specs.ChangeLaws.{keep-drop, nodes-drop}
-use Rattle.tree.specs.RowContext.{index-of, place-rows}
-use Rattle.tree.specs.RowLaws.{length-rows}
-use Rattle.tree.specs.RowEdits.{lesser}
+use Rattle.tree.specs.OtherPathLaws.{drop-none, drop-some}
+use Rattle.tree.specs.RowScan.{end-of-subtree}
+use Rattle.tree.specs.RowPlaces.{index-of, place-rows, lesser}
 use Rattle.tree.specs.Encoding.{row-bytes, encode-tree}
-use Rattle.tree.specs.RowAt.{row-count, all-rows, end-of-subtree}
-use Rattle.tree.specs.RowAtLaws.{row-count-of-tree}
-use Rattle.tree.specs.TreeBytes.{Stretch}
-use Rattle.tree.specs.TreeAtLaws.{tree-sized}
+use Rattle.tree.specs.RowAt.{row-count, all-rows}
+use Rattle.tree.specs.TreeBytes.{Stretch, At}
+use Rattle.tree.specs.TreeBytesLaws.{encodes, encoded-count, at-index, at-used, at-end, at-within}
 use Rattle.edits.specs.Changes.{rows-put, rows-taken}
-use Rattle.edits.specs.EditLaws.{put-law, take-law, place-fits}
+use Rattle.edits.specs.EditLaws.{put-law, take-law, place-fits, place-law}
 use Rattle.moving.specs.Relabel.{relabelled}
 use Rattle.moving.specs.RelabelLaws.{relabelled-place}
 use Rattle.moving.specs.Moving.{Vacant, gap-index, relabelled-for, filled, Movable, remaining, moved, moved-rows, held-after}
-use Rattle.moving.specs.AtLaws.{at-used, at-end, at-inside, at-rows}
 use Rattle.moving.specs.VacantLaws.{vacant-name}
 
 -- a path below `/` is its parent with its last name
@@ -86,7 +83,7 @@ module _ {b : List ℕ} {at : ℕ} {to : Text} (m : Movable b at to) where
   unfolding remaining
   remaining-none =
       drop-none tree (new-parent ▹ new-name) old-parent (last (m .from)) outside-path
-      (at-child tree new-parent new-name (m .vacant .directory) (m .vacant .above .there) ∙ m .vacant .free)
+      (place-at-child tree new-parent new-name (m .vacant .directory) (m .vacant .above .there) ∙ m .vacant .free)
 
   -- and the directory above is there
   remaining-parent : (g : Place Node) × (place-at (remaining m) new-parent ≡ some g) × (g .here ≡ m .vacant .directory .here)
@@ -102,7 +99,7 @@ module _ {b : List ℕ} {at : ℕ} {to : Text} (m : Movable b at to) where
   pub movable-span : (r : ℕ) → r ≡ end-of-subtree (all-rows b) at → (at ≤ r) × ((at + (r - at) ≡ end-of-subtree (all-rows b) at) × (r - at ≤ most-rows))
   movable-span r e =
       let z = at-end (m .stands) in
-      (omega arith, (omega arith, omega (arith, at-inside (m .stands), m .stands .tree .sized .few-rows)))
+      (omega arith, (omega arith, omega (arith, at-within (m .stands), m .stands .tree .sized .few-rows)))
 
   module _ (n : ℕ) (ends : at + n ≡ end-of-subtree (all-rows b) at) where
     -- the rows of the place are its own and those below it
@@ -112,7 +109,7 @@ module _ {b : List ℕ} {at : ℕ} {to : Text} (m : Movable b at to) where
     pub movable-rows : Stretch b at n
     movable-rows =
         let z = at-used (m .stands) .sized in
-        record { wide = z .wide; few-rows = z .few-rows; inside = omega (arith, ends, at-end (m .stands), at-inside (m .stands)) }
+        record { wide = z .wide; few-rows = z .few-rows; inside = omega (arith, ends, at-end (m .stands), at-within (m .stands)) }
 
     -- ---- the bytes without them
 
@@ -120,13 +117,11 @@ module _ {b : List ℕ} {at : ℕ} {to : Text} (m : Movable b at to) where
       remaining-bytes : u ≡ encode-tree (remaining m)
       unfolding remaining
       remaining-bytes =
-          let i = child-at tree old-parent (last (m .from)) (m .place) from-parent in
-          let z = m .stands in
-          taken
-          ∙ ap (rows-taken b at) movable-count
-          ∙ ap (λ (s : List ℕ). rows-taken s at count) (z .tree .bytes)
-          ∙ ap (λ (j : ℕ). rows-taken (encode-tree tree) j count) (z .row ∙ ap (index-of tree) (parent-and-last (m .from) (m .from-below-top)))
-          ∙ take-law tree old-parent (i .0) (last (m .from)) whole (i .1) (m .place) (i .2)
+          let p = parent-and-last (m .from) (m .from-below-top) in
+          let up = place-at-parent tree old-parent (last (m .from)) (m .place) from-parent in
+          let above : At b tree old-parent (index-of tree old-parent) (up .0) = at-index (m .stands .tree) (up .1) in
+          let stands : At b tree (old-parent ▹ last (m .from)) at (m .place) = record { tree = m .stands .tree; there = from-parent; row = m .stands .row ∙ ap (index-of tree) p } in
+          taken ∙ ap (rows-taken b at) movable-count ∙ take-law above (last (m .from)) stands
 
       -- the path is vacant still
       pub remaining-vacant : Vacant u to
@@ -138,14 +133,14 @@ module _ {b : List ℕ} {at : ℕ} {to : Text} (m : Movable b at to) where
             directory = g .0;
             row = index-of (remaining m) new-parent;
             above = record {
-              tree = record { sized = rw remaining-bytes (tree-sized (remaining m) remaining-whole); whole = remaining-whole; bytes = remaining-bytes };
+              tree = record { sized = rw remaining-bytes (encodes remaining-whole .sized); whole = remaining-whole; bytes = remaining-bytes };
               there = g .1;
               row = refl;
             };
             reads = m .vacant .reads;
             below-top = m .vacant .below-top;
             enterable = ap (λ (x : Node). is-directory (x .kind)) (g .2) ∙ m .vacant .enterable;
-            free = sym (at-child (remaining m) new-parent new-name (g .0) (g .1)) ∙ remaining-none;
+            free = sym (place-at-child (remaining m) new-parent new-name (g .0) (g .1)) ∙ remaining-none;
           }
 
       -- the rows, held in a buffer, get the new name and depth
@@ -156,19 +151,20 @@ module _ {b : List ℕ} {at : ℕ} {to : Text} (m : Movable b at to) where
           let k = depth (m .vacant .path) in
           let old = all-bytes row-bytes (place-rows (depth (m .from)) (last (m .from)) (m .place)) in
           let Q = L.drop (0 + row-width * n) Z in
-          let read : take (row-width * n) (L.drop (row-start at) b) ≡ old = rw movable-count (at-rows (m .stands)) in
+          let read : take (row-width * n) (L.drop (row-start at) b) ≡ old = rw movable-count (place-law (m .stands)) in
           let i : 0 + row-width * n ≡ row-width * count = omega (arith, movable-count) in
           is
           ∙ ap (relabelled n k new-name) (held ∙ ap (λ (l : List ℕ). l ++ Q) read)
           ∙ ap (λ (j : ℕ). relabelled j k new-name (old ++ Q)) movable-count
           ∙ relabelled-place (depth (m .from)) k (last (m .from)) new-name (m .place) Q
-          (place-fits tree (m .from) (m .place) whole (m .stands .there)) (name-fits new-name (vacant-name (m .vacant)) .0) (omega (arith, m .low))
+          (place-fits (m .stands)) (name-fits new-name (vacant-name (m .vacant)) .0) (omega (arith, m .low))
           ∙ ap (λ (j : ℕ). moved-rows m ++ L.drop j Z) i
 
       -- there is room for the rows
       pub remaining-rows : row-count u + n ≤ most-rows
+      unfolding remaining-vacant
       remaining-rows =
-          let c : row-count u ≡ nodes (remaining m) = ap row-count remaining-bytes ∙ row-count-of-tree (remaining m) remaining-whole ∙ length-rows (remaining m) in
+          let c : row-count u ≡ nodes (remaining m) = encoded-count (remaining-vacant .above .tree) in
           omega (arith, remaining-room, movable-count)
 
       -- and put in there they make the tree with the place moved
@@ -180,8 +176,7 @@ module _ {b : List ℕ} {at : ℕ} {to : Text} (m : Movable b at to) where
           let Q = L.drop (row-width * count) Z in
           let rows-at : ℕ → List ℕ = λ k. all-bytes row-bytes (place-rows k new-name (m .place)) ++ Q in
           ap (rows-put u j n) is
-          ∙ ap (λ (s : List ℕ). rows-put s j n (rows-at (depth (m .vacant .path)))) remaining-bytes
-          ∙ ap (λ (x : ℕ). rows-put (encode-tree (remaining m)) j x (rows-at (depth (m .vacant .path)))) movable-count
-          ∙ ap (λ (x : ℕ). rows-put (encode-tree (remaining m)) j count (rows-at x)) (sym (parent-depth (m .vacant .path) (m .vacant .below-top)))
-          ∙ put-law (remaining m) new-parent (g .0) new-name remaining-whole (g .1) (m .place) (remaining-vacant .free) (vacant-name (m .vacant))
+          ∙ ap (λ (x : ℕ). rows-put u j x (rows-at (depth (m .vacant .path)))) movable-count
+          ∙ ap (λ (x : ℕ). rows-put u j count (rows-at x)) (sym (parent-depth (m .vacant .path) (m .vacant .below-top)))
+          ∙ put-law (remaining-vacant .above) new-name (m .place) (remaining-vacant .free) (vacant-name (m .vacant))
           (place-below tree (m .from) (m .place) (tree-parts tree whole .whole) (m .stands .there)) remaining-room Q

@@ -18,7 +18,8 @@ use Rattle.tree.specs.Forest.{Forest, nil, node, Place, size, height}
 use Rattle.tree.specs.ForestLaws.{height-node}
 use Rattle.tree.specs.Node.{Node}
 use Rattle.tree.specs.Rows.{Row, flatten}
-use Rattle.tree.specs.RowContext.{place-rows, length-place-rows}
+use Rattle.tree.specs.RowPlaces.{place-rows}
+use Rattle.tree.specs.RowPlacesLaws.{length-place-rows}
 use Rattle.tree.specs.Encoding.{kind-byte, tag-bytes, row-bytes}
 use Rattle.tree.specs.EncodingLaws.{fits, fits-parts, fits-of, length-fitting}
 use Rattle.moving.specs.Relabel.{shifted, depths-shifted, relabelled}

@@ -38,7 +38,7 @@ fn directory_row(tree: &[u8], to: &[u8]) -> usize
         groups: Groups(0),
     };
     match parent_walk(tree, root, to) {
-        Walked::At { row, above: _ } => row,
+        Walked::To { row, above: _ } => row,
         Walked::Refused(_) => 0,
     }
 }

@@ -21,13 +21,15 @@ use Rattle.tree.specs.declared.Kind.{Kind}
 use Rattle.tree.specs.declared.Kind.the-variants.{File, Directory}
 use Rattle.tree.specs.declared.Cause.the-variants.{Access, Exists, WrongKind, NotEmpty, Reserved, Full, IntoItself, TooDeep}
 use Rattle.tree.specs.Result.{done, Outcome}
+use Rattle.tree.specs.Outcomes.{Agree, both}
+use Rattle.tree.specs.AgreeLaws.{bind, check, guard}
 use Rattle.tree.specs.Forest.{Place, get, is-empty, update}
 use Rattle.tree.specs.Node.{is-directory, same-kind, Node, allows, owns}
 use Rattle.tree.specs.Walk.{Judge, by-modes, walk, parent-walk}
 use Rattle.tree.specs.WellFormed.{nodes}
-use Rattle.tree.specs.Agree.{Agree, both, bind, check, guard}
 use Rattle.tree.specs.JudgeLaws.{passes-by-modes}
-use Rattle.tree.specs.Graft.{graft, Outside, Seen, Passed, update-outside, outside-here, outside-rep, seen-here, seen-alike, seen-names, seen-outside, unused-graft, walk-graft, parent-walk-graft}
+use Rattle.tree.specs.Graft.{graft, Outside, Seen, Passed}
+use Rattle.tree.specs.GraftLaws.{update-outside, outside-here, outside-rep, seen-here, seen-alike, seen-names, seen-outside, unused-graft, walk-graft, parent-walk-graft}
 use Rattle.shell.specs.Steps.{text-of, room, fit, run-create, run-read, run-write, run-rm, run-mv, run-chmod, run-chgrp, run-chown, run-shell}
 
 -- a caller without rights at `/rep`, who neither writes in `/` nor owns one of the two

@@ -14,12 +14,13 @@ use Rattle.tree.specs.declared.Kind.{Kind}
 use Rattle.tree.specs.declared.Kind.the-variants.{File, Directory}
 use Rattle.tree.specs.declared.Cause.the-variants.{Access, Exists, WrongKind, NotEmpty, Reserved, Full, IntoItself, TooDeep}
 use Rattle.tree.specs.Result.{Result, Outcome}
+use Rattle.tree.specs.Outcomes.{Gives, gives, Refuses}
+use Rattle.tree.specs.GivesLaws.{only-refuses, then-step, then-check, then-guard}
 use Rattle.tree.specs.Forest.{Place, place-at}
 use Rattle.tree.specs.Node.{Node}
 use Rattle.tree.specs.Walk.{by-modes, walk, parent-walk}
+use Rattle.tree.specs.WalkRefusalLaws.{unused-refuses, walk-refuses, parent-walk-refuses}
 use Rattle.tree.specs.WellFormed.{is-tree}
-use Rattle.tree.specs.Gives.{Gives, gives, Refuses, only-refuses, then-step, then-check, then-guard}
-use Rattle.tree.specs.GivesLaws.{unused-refuses, walk-refuses, parent-walk-refuses}
 use Rattle.tree.specs.UpdateLaws.{walked-at}
 use Rattle.shell.specs.Steps.{text-of, room, run-create, run-read, run-write, run-rm, run-mv, run-chmod, run-chgrp, run-chown, run-shell}
 use Rattle.shell.specs.ReadTextLaws.{read-fits}

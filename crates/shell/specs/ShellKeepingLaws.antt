@@ -21,11 +21,12 @@ use Rattle.tree.specs.declared.Kind.{Kind}
 use Rattle.tree.specs.declared.Kind.the-variants.{File, Directory}
 use Rattle.tree.specs.declared.Cause.the-variants.{Access, Exists, WrongKind, NotEmpty, Reserved, Full, IntoItself, TooDeep}
 use Rattle.tree.specs.Result.{Result, done, Outcome}
+use Rattle.tree.specs.Outcomes.{gives, Ensures}
+use Rattle.tree.specs.GivesLaws.{any-outcome, done-with, then-check, then-guard, then-do}
 use Rattle.tree.specs.Forest.{Place, get, update, put, leaf, size, height}
 use Rattle.tree.specs.Node.{is-directory, Node, set-owner, set-group, set-mode, set-content, new-node}
 use Rattle.tree.specs.Walk.{by-modes, walk}
 use Rattle.tree.specs.WellFormed.{nodes, is-node, is-place, is-tree}
-use Rattle.tree.specs.Gives.{gives, Ensures, any-outcome, done-with, then-check, then-guard, then-do}
 use Rattle.tree.specs.JudgeLaws.{file-is-none, directory-is-one}
 use Rattle.tree.specs.StepLaws.{was-unused, parent-walked}
 use Rattle.tree.specs.PlaceLaws.{leaf-size}

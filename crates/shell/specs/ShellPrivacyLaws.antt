@@ -25,16 +25,17 @@ use Rattle.tree.specs.declared.Kind.{Kind}
 use Rattle.tree.specs.declared.Kind.the-variants.{File, Directory}
 use Rattle.tree.specs.declared.Cause.the-variants.{Access, Exists, WrongKind, NotEmpty, Reserved, Full, IntoItself, TooDeep}
 use Rattle.tree.specs.Result.{Result, refused, done, _>>=_}
+use Rattle.tree.specs.Outcomes.{gives, Ensures}
+use Rattle.tree.specs.GivesLaws.{any-outcome, weaker, then-step, then-check, then-guard, then-do}
 use Rattle.tree.specs.Forest.{Place, is-empty, update, place-at, put, drop}
 use Rattle.tree.specs.Node.{same-kind, Node, allows, set-mode, set-group, set-content, owns}
 use Rattle.tree.specs.Walk.{by-modes, unused, walk, parent-walk}
 use Rattle.tree.specs.WellFormed.{is-tree}
-use Rattle.tree.specs.Gives.{gives, Ensures, any-outcome, weaker, then-step, then-check, then-guard, then-do}
 use Rattle.tree.specs.ResultLaws.{done-then, refused-bind, require-true}
 use Rattle.tree.specs.JudgeLaws.{directory-not-file, allows-is, kind-by-modes, passes-by-modes}
 use Rattle.tree.specs.StepLaws.{was-unused, parent-walked}
-use Rattle.tree.specs.UpdateLaws.{at-child, walked-at}
-use Rattle.tree.specs.PathLaws.{alter-keeps, put-keeps, drop-empty-keeps, drop-gone, move-keeps, move-carries, walk-outside, walk-shut, parent-walk-shut}
+use Rattle.tree.specs.UpdateLaws.{place-at-child, walked-at}
+use Rattle.tree.specs.OtherPathLaws.{alter-keeps, put-keeps, drop-empty-keeps, drop-gone, move-keeps, move-carries, walk-outside, walk-shut, parent-walk-shut}
 use Rattle.shell.specs.Steps.{room, run-create, run-read, run-write, run-rm, run-mv, run-chmod, run-chgrp, run-chown, run-shell}
 use Rattle.shell.specs.Privacy.{Private, Writes, Unaltered, in-place, moved-along, taken-out, walks-first}
 
@@ -71,7 +72,7 @@ module _ {a : Account} (t : Place Node) (p : Path) (d : Place Node) (there : pla
   put-private q e w n b x =
       let i = parent-walked (by-modes a) t q w .0 in
       put-keeps t p d (parent q) (last q) x there (written-outside (parent q) e i b)
-      (at-child t (parent q) (last q) e (walked-at t (by-modes a) (parent q) e i) ∙ was-unused (last q) (e .below) n)
+      (place-at-child t (parent q) (last q) e (walked-at t (by-modes a) (parent q) e i) ∙ was-unused (last q) (e .below) n)
 
   -- and so does the removal of another that has nothing below it
   pub drop-private : (q : Path) (n : Name) (x e : Place Node) → walk (by-modes a) t (q ▹ n) ≡ done x
@@ -197,7 +198,7 @@ module _ (c : Caller) (m : ℕ) (t : Place Node) (p : Path) (d : Place Node) (th
         then-check TooDeep tt _ λ _.
         let l = parent-walked (by-modes (c .account)) t (r ▹ k) s .0 in
         let h = walked-at t (by-modes (c .account)) r f l in
-        let free = at-child t r k f h ∙ was-unused k (f .below) u in
+        let free = place-at-child t r k f h ∙ was-unused k (f .below) u in
         let off = not-true (within (q ▹ n) (r ▹ k)) o in
         gives (case (within (q ▹ n) p)
         (λ y. moved-along (record { place = e; stands = walked-at t (by-modes (c .account)) q e i; allowed = b }) y (move-carries t p d q n x r f k there free off (walked-at t (by-modes (c .account)) (q ▹ n) x w) h y))

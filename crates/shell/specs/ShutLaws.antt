@@ -13,13 +13,14 @@ use Rattle.tree.specs.declared.Kind.{Kind}
 use Rattle.tree.specs.declared.Kind.the-variants.{File, Directory}
 use Rattle.tree.specs.declared.Cause.the-variants.{Exists, Reserved}
 use Rattle.tree.specs.Result.{Result, done, _>>=_}
+use Rattle.tree.specs.Outcomes.{Ensures}
+use Rattle.tree.specs.GivesLaws.{then-step, then-check, then-do}
 use Rattle.tree.specs.Forest.{Place, place-at}
 use Rattle.tree.specs.Node.{Node, allows}
 use Rattle.tree.specs.Walk.{by-modes, enter, walk, parent-walk}
-use Rattle.tree.specs.Gives.{Ensures, then-step, then-check, then-do}
 use Rattle.tree.specs.JudgeLaws.{passes-by-modes}
 use Rattle.tree.specs.StepLaws.{entered, walked, parent-walked}
-use Rattle.tree.specs.PathLaws.{walk-outside}
+use Rattle.tree.specs.OtherPathLaws.{walk-outside}
 use Rattle.shell.specs.Steps.{room, run-create, run-read, run-write, run-rm, run-mv, run-chmod, run-chgrp, run-chown, run-shell}
 
 module _ (c : Caller) (t : Place Node) (p : Path) (d : Place Node) (there : place-at t p ≡ some d) (shut : allows (c .account) X (d .here) ≡ false) where

@@ -17,7 +17,7 @@ use Rattle.syntax.specs.Field.{is-content}
 use Rattle.syntax.specs.Form.{is-some}
 use Rattle.tree.specs.Layout.{row-width, tree-width, row-start, kind-offset, owner-offset, group-offset, name-offset, name-width, tag-offset, tag-revision-offset, content-offset}
 use Rattle.tree.specs.WellFormed.{last-revision, fits-kind}
-use Rattle.tree.specs.Encoding.{row-of}
+use Rattle.tree.specs.Encoding.{read-row}
 use Rattle.tree.specs.RowAt.{row-bytes-at, row-at, tag-text-at, tag-number-at}
 use Rattle.tree.specs.RowAtLaws.{byte-in-row}
 use Rattle.soundness.specs.Sound.{is-row}
@@ -59,13 +59,13 @@ module _ (b : List ℕ) (i : ℕ) where
 
   -- mode
   pub numbers-mode : is-mode (row-at b i .here .mode) ≡ false → has-numbers (row-bytes-at b i) ≡ false
-  unfolding has-numbers row-at row-of
+  unfolding has-numbers row-at read-row
   numbers-mode e = simp (e, and-false)
 
   -- and revision
   pub numbers-revision : (eqb (getD b (row-start i + kind-offset) 0) 100 || eqb (getD b (row-start i + kind-offset) 0) 102) ≡ true → getD b (row-start i + owner-offset) 0 ≤ 23 → getD b (row-start i + group-offset) 0 ≤ 24
       → is-mode (row-at b i .here .mode) ≡ true → has-numbers (row-bytes-at b i) ≡ leb (row-at b i .here .revision) 9999
-  unfolding has-numbers row-at row-of last-revision
+  unfolding has-numbers row-at read-row last-revision
   numbers-revision k o g m =
       rw (
         ap (λ (k : ℕ). eqb k 100 || eqb k 102) (byte-in-row b i 1 (omega arith)) ∙ k,
@@ -81,12 +81,12 @@ module _ (b : List ℕ) (i : ℕ) where
 
   -- the content: its bytes
   pub content-bytes : is-content (row-at b i .here .content) ≡ false → has-content (row-bytes-at b i) ≡ false
-  unfolding has-content row-at row-of
+  unfolding has-content row-at read-row
   content-bytes e = rw e
 
   -- what the kind allows
   pub content-kind : fits-kind (row-at b i .here .kind) (row-at b i .here .mode) (row-at b i .here .content) ≡ false → has-content (row-bytes-at b i) ≡ false
-  unfolding has-content row-at row-of
+  unfolding has-content row-at read-row
   content-kind e = simp (e, and-false)
 
   module _ (l : length b ≡ tree-width) (h : i < 256) where
@@ -123,7 +123,7 @@ module _ (b : List ℕ) (i : ℕ) where
     pub content-rest : (n : ℕ) → is-content (row-at b i .here .content) ≡ true
         → fits-kind (row-at b i .here .kind) (row-at b i .here .mode) (row-at b i .here .content) ≡ true → n ≡ length (row-at b i .here .content)
         → has-content (row-bytes-at b i) ≡ zeros-at (row-start i + content-offset + n) (row-start i + row-width - (row-start i + content-offset + n)) b
-    unfolding has-content row-at row-of
+    unfolding has-content row-at read-row
     content-rest n c k e =
         let f = text-fits 72 80 (omega arith) in
         let q : 160 - n ≡ row-width - (72 + n) = omega arith in

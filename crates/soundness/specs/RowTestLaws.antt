@@ -25,8 +25,8 @@ use Rattle.syntax.specs.Path.{Entry-path, entry-path}
 use Rattle.syntax.specs.PathLaws.{entry-is-entry}
 use Rattle.tree.specs.Layout.{row-width, mode-offset, revision-offset, name-offset, name-width, tag-offset, tag-width, tag-revision-offset, whole-tag-width, content-offset, content-width}
 use Rattle.tree.specs.WellFormed.{last-revision, is-tag, fits-kind, is-node}
-use Rattle.tree.specs.Encoding.{kind-byte, kind-of, tag-bytes, tag-of, row-bytes, row-of}
 use Rattle.syntax.specs.ParentLaws.{text-of-entry}
+use Rattle.tree.specs.Encoding.{kind-byte, kind-of, tag-bytes, tag-of, row-bytes, read-row}
 use Rattle.soundness.specs.Sound.{is-row}
 use Rattle.soundness.specs.Tests.{has-numbers, has-tag, has-content, row-test}
 
@@ -191,10 +191,10 @@ module _ (x : List ℕ) (h : length x ≡ row-width) (small : (k : ℕ) → getD
       ∙ ap (λ (z : List ℕ). all-zero (take (80 - n) y) && all-zero (take 80 z)) (drop-drop (80 - n) (72 + n) x ∙ ap (λ (k : ℕ). drop k x) p)
 
   -- the whole row, part by part
-  same-row : same-text (row-bytes (row-of x)) x
+  same-row : same-text (row-bytes (read-row x)) x
       ≡ ((eqb (getD x 1 0) 100 || eqb (getD x 1 0) 102)
       && (is-filled name-offset name-width x && (same-text (tag-bytes (tag-of (text-at tag-offset tag-width x) (number-at tag-revision-offset x))) (take 56 (drop 16 x)) && (is-filled content-offset content-width x && zeros-at 152 80 x))))
-  unfolding row-bytes row-of
+  unfolding row-bytes read-row
   same-row =
       let k = kind-byte (kind-of (getD x 1 0)) in
       let D : List ℕ = getD x 0 0 ∷ (k ∷ (getD x 2 0 ∷ (getD x 3 0 ∷ []))) in
@@ -221,7 +221,7 @@ module _ (x : List ℕ) (h : length x ≡ row-width) (small : (k : ℕ) → getD
 
   -- the tests of the fields are that of the row
   pub row-test-is : row-test x ≡ is-row x
-  unfolding row-test is-row is-node has-numbers has-content row-of
+  unfolding row-test is-row is-node has-numbers has-content read-row
   row-test-is =
       let T = tag-of (text-at tag-offset tag-width x) (number-at tag-revision-offset x) in
       let k = eqb (getD x 1 0) 100 || eqb (getD x 1 0) 102 in

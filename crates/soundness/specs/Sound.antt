@@ -13,12 +13,12 @@ use Rattle.tree.specs.Layout.{row-width, tree-width, row-start}
 use Rattle.tree.specs.Node.{is-directory, Node}
 use Rattle.tree.specs.Rows.{Row}
 use Rattle.tree.specs.WellFormed.{most-nodes, is-node}
-use Rattle.tree.specs.Encoding.{row-bytes, row-of}
+use Rattle.tree.specs.Encoding.{row-bytes, read-row}
 use Rattle.tree.specs.RowAt.{row-count, all-rows}
 
 -- whether bytes are those of a row with a node in range
 unfoldable pub is-row : List ℕ → Bool
-is-row x = is-node (row-of x .here) && same-text (row-bytes (row-of x)) x
+is-row x = is-node (read-row x .here) && same-text (row-bytes (read-row x)) x
 
 -- the bytes of each row
 unfoldable pub row-stretches : List ℕ → List (List ℕ)

@@ -24,7 +24,7 @@ use Rattle.tree.specs.Rows.{Row, rows}
 use Rattle.tree.specs.RowLaws.{length-rows}
 use Rattle.tree.specs.WellFormed.{most-nodes, is-node, is-tree}
 use Rattle.tree.specs.WellFormedLaws.{place-parts, place-of-parts, tree-parts, tree-of-parts, most-nodes-is}
-use Rattle.tree.specs.Encoding.{row-bytes, row-of, encode-rows, encode-tree, decode-tree}
+use Rattle.tree.specs.Encoding.{row-bytes, read-row, encode-rows, encode-tree, decode-tree}
 use Rattle.tree.specs.EncodingLaws.{fits, fits-parts, tree-fits, length-fitting, fitting-back, tree-width-is, length-encode-tree, decode-encode, encode-decode}
 use Rattle.tree.specs.RowAt.{row-count, all-rows}
 use Rattle.tree.specs.RowAtLaws.{length-all-rows, all-rows-of-tree, row-count-of-tree}
@@ -47,16 +47,16 @@ all-zero-zeros (suc n) = all-zero-zeros n
 
 -- rows that are read from their own bytes are in range, and their bytes are these
 stretches-are : (n : ℕ) (x : List ℕ) → every is-row (all-from row-width (λ s. s) n x) ≡ true
-    → (every (λ r. is-node (r .here)) (all-from row-width row-of n x) ≡ true) × (all-bytes row-bytes (all-from row-width row-of n x) ≡ take (n * row-width) x)
+    → (every (λ r. is-node (r .here)) (all-from row-width read-row n x) ≡ true) × (all-bytes row-bytes (all-from row-width read-row n x) ≡ take (n * row-width) x)
 unfolding all-from all-bytes every is-row
 stretches-are zero x h = (refl, refl)
 stretches-are (suc n) x h =
     let s = take row-width x in
     let i = and-both (is-row s) (every is-row (all-from row-width (λ s. s) n (drop row-width x))) h in
-    let j = and-both (is-node (row-of s .here)) (same-text (row-bytes (row-of s)) s) (i .0) in
+    let j = and-both (is-node (read-row s .here)) (same-text (row-bytes (read-row s)) s) (i .0) in
     let k = stretches-are n (drop row-width x) (i .1) in (
       rw (j .0) (k .0),
-      ap₂ _++_ (same-text-sound (row-bytes (row-of s)) s (j .1)) (k .1) ∙ sym (take-add row-width (n * row-width) x) ∙ ap (λ (k : ℕ). take k x) (add-comm row-width (n * row-width) ∙ sym (suc-mul n row-width)),
+      ap₂ _++_ (same-text-sound (row-bytes (read-row s)) s (j .1)) (k .1) ∙ sym (take-add row-width (n * row-width) x) ∙ ap (λ (k : ℕ). take k x) (add-comm row-width (n * row-width) ∙ sym (suc-mul n row-width)),
     )
 
 -- the bytes of rows in range, one after another, are those of each

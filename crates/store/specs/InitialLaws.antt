@@ -146,23 +146,29 @@ begun-homes u r (suc k) b h =
     let i = home-named k h in
     begun-home (suc k) v (person u v) (homes u k) (omega arith) (omega arith) (r v) (i .0) (unused-name u (home-name v) k (i .1)) (begun-homes u r k (omega arith) (i .2))
 
--- `/` is open to `/rep`
+-- `/` alone is well-formed
+pub top-whole : is-tree (topped nil) ≡ true
+top-whole = begun-top .0
+
+-- and open to `/rep`
 pub rep-open : Open rep (topped nil)
 rep-open =
     record {
-      sound = begun-top .0;
       room = omega (arith, nodes-below (topped nil), begun-top .1);
       named = rep-named;
       free = get-nil rep;
     }
 
--- and, with the homes of the accounts below k, to the home of account k
+-- with the homes of the accounts below k it is well-formed
+pub homes-whole : (u : Setup) → Primaries u → (k : ℕ) → k < 16 → is-tree (topped (homes u k)) ≡ true
+homes-whole u r k b = begun-homes u r k (omega arith) (home-named k (names-below (suc k) (omega arith)) .2) .0
+
+-- and open to the home of account k
 pub home-open : (u : Setup) → Primaries u → (k : ℕ) → k < 16 → Open (home-name (record { 0 = k })) (topped (homes u k))
 home-open u r k b =
     let i = home-named k (names-below (suc k) (omega arith)) in
     let g = begun-homes u r k (omega arith) (i .2) in
     record {
-      sound = g .0;
       room = omega (arith, nodes-below (topped (homes u k)), g .1);
       named = i .0;
       free = unused-name u (home-name (record { 0 = k })) k (i .1);

@@ -9,26 +9,27 @@ use Rattle.accounts.specs.declared.Uid.{Uid}
 use Rattle.syntax.specs.Path.{Name, is-name}
 use Rattle.setup.specs.declared.Person.{Person as Slot}
 use Rattle.setup.specs.Setup.{Person, Setup}
+use Rattle.tree.specs.Layout.{most-rows}
 use Rattle.tree.specs.Forest.{Forest, Place, get, put, leaf}
 use Rattle.tree.specs.Node.{Node}
-use Rattle.tree.specs.WellFormed.{nodes, is-tree}
+use Rattle.tree.specs.WellFormed.{nodes}
 use Rattle.tree.specs.Encoding.{encode-tree}
+use Rattle.tree.specs.TreeBytes.{Encodes}
 use Rattle.store.specs.Initial.{home-name, with-home, topped, initial-tree}
 
 -- the primary group is one of 0 to 15
 unfoldable pub slot-in-range : Slot → Bool
 slot-in-range s = ltb (s .primary .0) 16
 
--- a well-formed tree with room for a child of `/` whose name is not used yet
+-- a tree with room for a child of `/` whose name is not used yet
 pub record Open (n : Name) (t : Place Node) : Type 0 where
-  pub sound : is-tree t ≡ true
-  pub room : nodes t < 256
+  pub room : nodes t < most-rows
   pub named : is-name n ≡ true
   pub free : get n (t .below) ≡ none
 
--- the bytes of a tree that is open to a name
+-- the bytes of a well-formed tree that is open to a name
 pub record Opens (b : List ℕ) (n : Name) (t : Place Node) : Type 0 where
-  pub encoded : b ≡ encode-tree t
+  pub tree : Encodes b t
   pub ready : Open n t
 
 -- the bytes before and after a node is put in below `/`: of whatever tree they were that is open to its name, they are the one with it

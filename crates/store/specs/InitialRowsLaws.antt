@@ -2,16 +2,16 @@
 --
 -- In order: a directory put in below `/`; `/` and `/rep`; the home of an account; the accounts one after another.
 use mathlib.Core.Path.{_≡_, refl, sym, _∙_, ap}
-use mathlib.Core.List.{List, [], _∷_, _++_, map}
+use mathlib.Core.List.{List, [], _∷_, map}
 use mathlib.Core.Option.{Option, none, some}
 use mathlib.Core.Bool.{Bool, true}
 use Prim.Native.Nat.{ℕ, suc, _+_, _-_, _≤_, _<_, _/_, _%_}
 use native.Mathlib.Omega.{arith}
 use native.Mathlib.Numerals.{add-one}
 use lib.Dec.{eqb}
-use lib.ListN.{length, getD, length-append, List·getD-map}
+use lib.ListN.{length, getD, List·getD-map}
 use borrow.Author.Tests.{eqb-true, eq-eqb, ne-eqb, ltb-true, lt-ltb, le-ltb}
-use Rattle.buffers.specs.Cases.{case, contra}
+use Rattle.buffers.specs.Cases.{case}
 use Rattle.buffers.specs.Text.{every}
 use Rattle.buffers.specs.TextLaws.{every-getD}
 use Rattle.accounts.specs.declared.Uid.{Uid}
@@ -24,28 +24,24 @@ use Rattle.setup.specs.declared.Person.{Person as Slot}
 use Rattle.setup.specs.Setup.{Person, Setup, accounts, person, is-setup}
 use Rattle.setup.specs.Reader.{slot-value}
 use Rattle.setup.specs.ReaderLaws.{no-slot}
-use Rattle.tree.specs.declared.Child.{Child}
 use Rattle.tree.specs.declared.Child.the-variants.{Found, Missing}
+use Rattle.tree.specs.Layout.{name-width}
 use Rattle.tree.specs.Forest.{Forest, nil, Place, insert, put, leaf, size}
 use Rattle.tree.specs.Node.{Node}
-use Rattle.tree.specs.Rows.{rows}
-use Rattle.tree.specs.RowLaws.{length-rows}
-use Rattle.tree.specs.RowContext.{index-of, around}
-use Rattle.tree.specs.RowEdits.{lesser, before, after, length-before, put-rows}
-use Rattle.tree.specs.RowScan.{index-bound}
-use Rattle.tree.specs.RowAt.{row-count, all-rows, child-at}
-use Rattle.tree.specs.TreeBytes.{Wide}
-use Rattle.tree.specs.RowAtLaws.{row-count-of-tree}
-use Rattle.tree.specs.TreeAtLaws.{tree-sized, no-child-at-place}
-use Rattle.tree.specs.PlaceLaws.{nodes-below, put-here, put-below, update-root}
-use Rattle.tree.specs.UpdateLaws.{at-top}
+use Rattle.tree.specs.WellFormed.{is-tree}
+use Rattle.tree.specs.RowScan.{child-in}
+use Rattle.tree.specs.RowPlaces.{lesser}
+use Rattle.tree.specs.RowAt.{all-rows}
+use Rattle.tree.specs.TreeBytes.{At, Used, Insertable, Encodes}
+use Rattle.tree.specs.TreeBytesLaws.{encodes, encoded-count, at-root, at-used, at-found, at-missing}
+use Rattle.tree.specs.PlaceLaws.{put-here, put-below, update-root}
 use Rattle.tree.specs.Encoding.{row-bytes, encode-tree}
 use Rattle.edits.specs.declared.Fresh.{Fresh}
-use Rattle.edits.specs.Changes.{rows-put, fresh-node}
-use Rattle.edits.specs.EditLaws.{child-law}
+use Rattle.edits.specs.Changes.{rows-put, fresh-node, fresh-row}
+use Rattle.edits.specs.EditLaws.{spot-bound, child-law}
 use Rattle.store.specs.Initial.{directory-of, top-node, rep-node, home-node, home-name, with-home, homes, topped, initial-tree}
 use Rattle.store.specs.InitialRows.{slot-in-range, Opens}
-use Rattle.store.specs.InitialLaws.{top-alone, rep-alone, Primaries, setup-primaries, rep-open, home-open, initial-by-persons}
+use Rattle.store.specs.InitialLaws.{top-alone, rep-alone, Primaries, setup-primaries, top-whole, rep-open, homes-whole, home-open, initial-by-persons}
 
 -- a name may be given in other words
 pub opens-named : {b : List ℕ} {n m : Name} {t : Place Node} → n ≡ m → Opens b m t → Opens b n t
@@ -53,72 +49,55 @@ opens-named e h = rw e h
 
 -- ---- a directory put in
 
--- no row stands before that of `/`
-index-top : (t : Place Node) → index-of t root ≡ 0
-index-top t = omega (arith, index-bound (around t root t (at-top t)), length-rows t, nodes-below t)
-
 -- a child put in below `/`
 put-topped : (n : Name) (e : Place Node) (F : Forest Node) → put n e (topped F) ≡ topped (insert n e F)
 put-topped n e F = λ i. record { here = put-here n e (topped F) i; below = put-below n e (topped F) i }
 
--- where the row of a child belongs
-spot : Name → Place Node → ℕ
-spot n t = suc (size (lesser n (t .below)))
-
-spot-is : (n : Name) (t : Place Node) → suc (index-of t root + size (lesser n (t .below))) ≡ spot n t
-unfolding spot
-spot-is n t = omega (arith, index-top t)
+-- the bytes of a tree, if it is well-formed
+encoding : {b : List ℕ} {t : Place Node} → b ≡ encode-tree t → is-tree t ≡ true → Encodes b t
+encoding e h = rw e (encodes h)
 
 module _ (b : List ℕ) (n : Name) (t : Place Node) (h : Opens b n t) where
-  -- how many bytes and rows there are
-  pub opens-sized : (Wide b) × (0 < row-count b) × (row-count b < 256)
-  opens-sized =
-      let s = tree-sized t (h .ready .sound) in
-      rw (h .encoded) (s .wide, s .some-rows, omega (arith, row-count-of-tree t (h .ready .sound), length-rows t, h .ready .room))
+  top-at : At b t root 0 t
+  top-at = at-root (h .tree)
+
+  -- the row of `/` is in use
+  pub top-used : Used b 0
+  top-used = at-used top-at
 
   -- the name fits its field
-  pub opens-short : length n ≤ 8
+  pub opens-short : length n ≤ name-width
   opens-short = name-fits n (h .ready .named) .0
 
-  missing-there : child-at (all-rows b) 0 n ≡ Missing (spot n t)
-  missing-there =
-      let e = no-child-at-place t (h .ready .sound) root t (at-top t) n (h .ready .free) in
-      rw (h .encoded) (ap (λ (i : ℕ). child-at (all-rows (encode-tree t)) i n) (sym (index-top t)) ∙ e ∙ ap {B = Child} Missing (spot-is n t))
-
   -- the search does not find it
-  pub not-found : (j : ℕ) → Found j ≡ child-at (all-rows b) 0 n → ⊥
-  not-found j e = let q : Found j ≡ Missing (spot n t) = e ∙ missing-there in contra {b = true} refl (cc)
+  pub not-found : (j : ℕ) → Found j ≡ child-in (all-rows b) 0 n → ⊥
+  not-found j e = let f = at-found top-at n {j = j} e in no-answer (sym (h .ready .free) ∙ f .1)
 
-  module _ (j : ℕ) (found : Missing j ≡ child-at (all-rows b) 0 n) where
-    found-spot : j ≡ spot n t
-    found-spot = let q : Missing j ≡ Missing (spot n t) = found ∙ missing-there in cc
+  module _ (j : ℕ) (found : Missing j ≡ child-in (all-rows b) 0 n) where
+    found-spot : j ≡ suc (0 + size (lesser n (t .below)))
+    found-spot = at-missing top-at n {j = j} found .1
 
-    -- where it says that the row belongs is one of the rows or behind the last
-    pub spot-within : j ≤ row-count b
-    spot-within =
-        let c = around t root t (at-top t) in
-        let xs = before c n in
-        let ys = after c n in
-        let l : length (rows t) ≡ length (xs ++ ys) = ap length (put-rows c n (h .ready .free) .0) in
-        let q : row-count b ≡ length (rows t) = rw (h .encoded) (row-count-of-tree t (h .ready .sound)) in
-        omega (arith, found-spot, spot-is n t, length-before c n, length-append xs ys)
+    -- where it says that the row belongs there is a gap for it
+    pub spot-opens : Insertable b j 1
+    spot-opens = record {
+      wide = h .tree .sized .wide;
+      inside = rw found-spot (spot-bound top-at n (h .ready .free));
+      room = omega (arith, encoded-count (h .tree), h .ready .room);
+    }
 
     -- and the row put in there is the directory put in
-    pub directory-put : (f : Fresh)
-        → rows-put b j 1 (row-bytes (record { depth = 1; name = n; here = fresh-node f })) ≡ encode-tree (put n (leaf (fresh-node f)) t)
+    pub directory-put : (f : Fresh) → rows-put b j 1 (row-bytes (fresh-row 1 n f)) ≡ encode-tree (put n (leaf (fresh-node f)) t)
     unfolding depth
     directory-put f =
-        let r = row-bytes (record { depth = 1; name = n; here = fresh-node f }) in
-        ap (λ (i : ℕ). rows-put b i 1 r) (found-spot ∙ sym (spot-is n t))
-        ∙ ap (λ (l : List ℕ). rows-put l (suc (index-of t root + size (lesser n (t .below)))) 1 r) (h .encoded)
-        ∙ child-law t root t n (h .ready .sound) (at-top t) f (h .ready .free) (h .ready .named) (h .ready .room)
+        ap (λ (i : ℕ). rows-put b i 1 (row-bytes (fresh-row 1 n f))) found-spot
+        ∙ child-law top-at n f (h .ready .free) (h .ready .named) (h .ready .room)
         ∙ ap encode-tree (update-root (put n (leaf (fresh-node f))) t)
 
 -- ---- `/` and `/rep`
 
 -- `/` alone is open to `/rep`
 pub planted-opens : (b : List ℕ) → b ≡ encode-tree (leaf top-node) → Opens b rep (topped nil)
-planted-opens b e = record { encoded = e ∙ ap encode-tree top-alone; ready = rep-open }
+planted-opens b e = record { tree = encoding (e ∙ ap encode-tree top-alone) top-whole; ready = rep-open }
 
 -- and with it there are the homes of no account
 pub rep-put : (u : Setup) → put rep (leaf rep-node) (topped nil) ≡ topped (homes u 0)
@@ -218,7 +197,7 @@ module _ (ps : List Slot) where
     -- the home of account k may be put in
     pub turn-opens : (b : List ℕ) (k : ℕ) → k < 16 → b ≡ encode-tree (topped (homes of-slots k))
         → Opens b (home-name (record { 0 = k })) (topped (homes of-slots k))
-    turn-opens b k h e = record { encoded = e; ready = home-open of-slots slots-primaries k h }
+    turn-opens b k h e = record { tree = encoding e (homes-whole of-slots slots-primaries k h); ready = home-open of-slots slots-primaries k h }
 
 -- behind the last account the tree is the initial tree of every setup with the same persons
 pub turned-all : (u v : Setup) (b : List ℕ) (k : ℕ) → k ≡ 16 → b ≡ encode-tree (topped (homes u k))

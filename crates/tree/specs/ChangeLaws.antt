@@ -15,7 +15,7 @@ use Rattle.tree.specs.ForestLaws.{empty-at, size-insert, height-insert, 
 use Rattle.tree.specs.Node.{is-directory, Node}
 use Rattle.tree.specs.Walk.{Judge, walk}
 use Rattle.tree.specs.WellFormed.{nodes, is-node, leads, is-forest, is-place, is-tree}
-use Rattle.tree.specs.UpdateLaws.{by-option, at-top, at-child, child-at, walked-at, height-below, update-none, here-update, size-update, height-update}
+use Rattle.tree.specs.UpdateLaws.{by-option, place-at-root, place-at-child, place-at-parent, walked-at, height-below, update-none, here-update, size-update, height-update}
 use Rattle.tree.specs.WellFormedLaws.{leads-before, get-leads, place-parts, place-of-parts, forest-parts, forest-of-parts, tree-parts, tree-of-parts, place-below}
 
 -- ---- a place changed
@@ -58,7 +58,7 @@ place-update : (t : Place Node) (p : Path) (f : Place Node → Place Node) (d : 
 unfolding update place-at
 place-update t root f d h e w = rw (answered e) at w
 place-update t (p ▹ n) f d h e w =
-    let i = child-at t p n d e in
+    let i = place-at-parent t p n d e in
     let c = i .0 in
     let v = place-below t p c h (i .1) in
     place-update t p (under (at n f)) c h (i .1)
@@ -146,7 +146,7 @@ keep-put j t p d n e h i k b a w l m = put-at t p d n e h (walked-at t j p d i) 
 pub keep-insert : (t : Place Node) (n : Name) (e : Place Node) → is-tree t ≡ true → get n (t .below) ≡ none → is-name n ≡ true → is-place e ≡ true
     → suc (height (e .below)) ≤ 6 → nodes t + suc (size (e .below)) ≤ 256 → is-tree (record { here = t .here; below = insert n e (t .below) }) ≡ true
 unfolding update put under depth
-keep-insert t n e h b a w l m = put-at t root t n e h (at-top t) (tree-parts t h .directory) b a w (omega arith) m
+keep-insert t n e h b a w l m = put-at t root t n e h (place-at-root t) (tree-parts t h .directory) b a w (omega arith) m
 
 -- ---- a place taken out
 
@@ -253,10 +253,10 @@ place-less : (s t : Place Node) → Less s t → is-place t ≡ true → (p : Pa
 unfolding place-at
 place-less s t l h root x e = (t, refl, rw (answered e) l)
 place-less s t l h (p ▹ n) x e =
-    let i = child-at s p n x e in
+    let i = place-at-parent s p n x e in
     let j = place-less s t l h p (i .0) (i .1) in
     let k = get-fewer n (j .2 .1) (place-parts (j .0) (place-below t p (j .0) h (j .1)) .forest) x (i .2) in
-    (k .0, at-child t p n (j .0) (j .1) ∙ k .1, k .2)
+    (k .0, place-at-child t p n (j .0) (j .1) ∙ k .1, k .2)
 
 less-at : (s t : Place Node) → Less s t → is-place t ≡ true → (p : Path) (x y : Place Node) → place-at s p ≡ some x → place-at t p ≡ some y → Less x y
 less-at s t l h p x y e k = let i = place-less s t l h p x e in rw (answered (sym (i .1) ∙ k)) (i .2)
@@ -270,7 +270,7 @@ pub nodes-drop : (t : Place Node) (p : Path) (n : Name) (d : Place Node) → pla
     → nodes (update p (drop n) t) + suc (size (d .below)) ≡ nodes t
 unfolding nodes drop under
 nodes-drop t p n d e =
-    let i = child-at t p n d e in
+    let i = place-at-parent t p n d e in
     omega (arith, size-update t p (drop n) (i .0) (i .1), size-remove n (i .0 .below) d (i .2))
 
 -- a place that a walk leads to moved into a directory that a walk leads to, under a name not used there

@@ -8,7 +8,7 @@ use Rattle.tree.specs.Walk.{by-modes, look, unused, enter, walk, parent-
 use Rattle.tree.specs.Graft.{graft}
 use Rattle.tree.specs.WellFormed.{most-nodes, last-revision, nodes}
 use Rattle.tree.specs.Rows.{siblings, others, subtrees, only, tree-of}
-use Rattle.tree.specs.Encoding.{kind-of, tag-of, row-of, decode-tree}
+use Rattle.tree.specs.Encoding.{kind-of, tag-of, read-row, decode-tree}
 
 unfoldable pub compute : Unit {0}
 unfolding number wrong-setup _>>=_ _>>_ require present absent get is-empty insert remove at under update update-forest alter put drop leaf size larger height names map-forest map-place rooted is-directory same-kind allows owns new-node set-owner set-group set-mode set-revision set-tag set-content by-modes look unused enter walk parent-walk graft most-nodes last-revision nodes
@@ -16,5 +16,5 @@ compute = tt
 
 -- and those that read a tree off its bytes
 unfoldable pub compute-bytes : Unit {0}
-unfolding compute-fields siblings others subtrees only tree-of kind-of tag-of row-of decode-tree
+unfolding compute-fields siblings others subtrees only tree-of kind-of tag-of read-row decode-tree
 compute-bytes = tt

@@ -13,7 +13,7 @@ use Rattle.syntax.specs.Path.{entry-path, entry-text}
 use Rattle.syntax.specs.Form.{_>>=_, _>>_, check}
 use Rattle.tree.specs.declared.Kind.{Kind}
 use Rattle.tree.specs.declared.Kind.the-variants.{File, Directory}
-use Rattle.tree.specs.Layout.{row-width, mode-offset, revision-offset, name-offset, name-width, tag-offset, tag-width, tag-revision-offset, whole-tag-width, content-offset, content-width}
+use Rattle.tree.specs.Layout.{row-width, mode-offset, revision-offset, name-offset, name-width, tag-offset, tag-width, tag-revision-offset, whole-tag-width, content-offset, content-width, base-width}
 use Rattle.tree.specs.Forest.{Place}
 use Rattle.tree.specs.Node.{Tag, Node}
 use Rattle.tree.specs.Rows.{Row, rows, tree-of}
@@ -35,6 +35,15 @@ tag-of t v = do
   e ← entry-path t
   some (record { path = e; revision = v })
 
+-- the bytes of a row before its name
+abbrev pub row-head : Row Node → List ℕ
+row-head r =
+    (r .depth ∷ kind-byte (r .here .kind) ∷ r .here .owner .0 ∷ r .here .group .0 ∷ []) ++ (two-bytes (r .here .mode) ++ two-bytes (r .here .revision))
+
+-- and those behind its content
+abbrev pub row-spare : List ℕ
+row-spare = replicate base-width 0
+
 unfoldable pub row-bytes : Row Node → List ℕ
 row-bytes r =
     let n = r .here in
@@ -44,10 +53,10 @@ row-bytes r =
     ++ (padded name-width (r .name)
     ++ (tag-bytes (n .tag)
     ++ (padded content-width (n .content)
-    ++ replicate 80 0)))))
+    ++ row-spare)))))
 
-unfoldable pub row-of : List ℕ → Row Node
-row-of b = record {
+unfoldable pub read-row : List ℕ → Row Node
+read-row b = record {
   depth = getD b 0 0;
   name = text-at name-offset name-width b;
   here = record {
@@ -69,6 +78,6 @@ encode-tree t = encode-rows (rows t)
 
 unfoldable pub decode-tree : List ℕ → Option (Place Node)
 decode-tree b = do
-  t ← tree-of (all-from row-width row-of (number-at 0 b) (drop 2 b))
+  t ← tree-of (all-from row-width read-row (number-at 0 b) (drop 2 b))
   check (is-tree t && same-text (encode-tree t) b)
   some t

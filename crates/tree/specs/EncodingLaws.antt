@@ -25,7 +25,7 @@ use Rattle.tree.specs.Node.{is-directory, Node}
 use Rattle.tree.specs.Rows.{Row, flatten, rows, tree-of}
 use Rattle.tree.specs.RowLaws.{tree-of-rows, length-rows}
 use Rattle.tree.specs.WellFormed.{most-nodes, nodes, is-node, leads, is-forest, is-tree}
-use Rattle.tree.specs.Encoding.{row-bytes, row-of, encode-rows, encode-tree, decode-tree}
+use Rattle.tree.specs.Encoding.{row-bytes, read-row, encode-rows, encode-tree, decode-tree}
 use Rattle.tree.specs.RowBytesLaws.{length-row-bytes, row-of-bytes}
 
 -- whether a row's node is in range and its name fits its bytes
@@ -76,7 +76,7 @@ pub length-fitting : (r : Row Node) → fits r ≡ true → length (row-bytes r)
 length-fitting r h = let w = fits-parts r h in length-row-bytes r (w .0) (w .1)
 
 -- and is read back from its bytes
-pub fitting-back : (r : Row Node) → fits r ≡ true → row-of (row-bytes r) ≡ r
+pub fitting-back : (r : Row Node) → fits r ≡ true → read-row (row-bytes r) ≡ r
 fitting-back r h = let w = fits-parts r h in row-of-bytes r (w .0) (w .1)
 
 -- ---- trees
@@ -93,13 +93,13 @@ length-encode-tree t h =
     ap (λ (n : ℕ). suc (suc n)) (length-filled row-width fits row-bytes length-fitting most-nodes (rows t) (w .0) (w .1))
 
 -- the rows of a well-formed tree are read from its encoding
-pub rows-of-encoded : (t : Place Node) → is-tree t ≡ true → all-from row-width row-of (number-at 0 (encode-tree t)) (drop 2 (encode-tree t)) ≡ rows t
+pub rows-of-encoded : (t : Place Node) → is-tree t ≡ true → all-from row-width read-row (number-at 0 (encode-tree t)) (drop 2 (encode-tree t)) ≡ rows t
 unfolding encode-tree encode-rows two-bytes
 rows-of-encoded t h =
     let rs = rows t in
     let Z : List ℕ = replicate ((most-nodes - length rs) * row-width) 0 in
-    ap (λ n. all-from row-width row-of n (all-bytes row-bytes rs ++ Z)) (number-at-bytes [] (all-bytes row-bytes rs ++ Z) 0 (length rs) refl)
-    ∙ all-from-bytes row-width fits row-bytes length-fitting row-of fitting-back rs Z (tree-fits t h .0)
+    ap (λ n. all-from row-width read-row n (all-bytes row-bytes rs ++ Z)) (number-at-bytes [] (all-bytes row-bytes rs ++ Z) 0 (length rs) refl)
+    ∙ all-from-bytes row-width fits row-bytes length-fitting read-row fitting-back rs Z (tree-fits t h .0)
 
 -- a well-formed tree is read back from its encoding
 pub decode-encode : (t : Place Node) → is-tree t ≡ true → decode-tree (encode-tree t) ≡ some t
@@ -110,7 +110,7 @@ decode-encode t h = rw (rows-of-encoded t h, tree-of-rows t) (rw (h, same-text-r
 pub encode-decode : (b : List ℕ) (t : Place Node) → decode-tree b ≡ some t → (encode-tree t ≡ b) × (is-tree t ≡ true)
 unfolding decode-tree
 encode-decode b t e =
-    let i = both-read (tree-of (all-from row-width row-of (number-at 0 b) (drop 2 b))) (λ t. check (is-tree t && same-text (encode-tree t) b) >> some t) t e in
+    let i = both-read (tree-of (all-from row-width read-row (number-at 0 b) (drop 2 b))) (λ t. check (is-tree t && same-text (encode-tree t) b) >> some t) t e in
     let j = checked (is-tree (i .0) && same-text (encode-tree (i .0)) b) (some (i .0)) t (i .2) in
     let k = and-both (is-tree (i .0)) (same-text (encode-tree (i .0)) b) (j .0) in
     let q : t ≡ i .0 = answered (j .1) in

@@ -2,6 +2,7 @@
 --
 -- The payload is a parameter, so that the store's nodes and the abstract machine's entries share every definition and law.
 -- Every change of a tree is `update` at a path.
+use mathlib.Core.Path.{_≡_}
 use mathlib.Core.List.{List, [], _∷_}
 use mathlib.Core.Option.{Option, none, some}
 use mathlib.Core.Bool.{Bool, true, false, cond}
@@ -105,3 +106,9 @@ map-place g d = record { here = g (d .here); below = map-forest g (d .below) }
 -- a place with the payload x above a forest whose payloads are mapped
 unfoldable pub rooted : {A B : Type 0} → (A → B) → B → Forest A → Place B
 rooted g x f = record { here = x; below = map-forest g f }
+
+-- the place at a path has that payload
+pub record Holds {A : Type 0} (t : Place A) (p : Path) (x : A) : Type 0 where
+  pub place : Place A
+  pub stands : place-at t p ≡ some place
+  pub here : place .here ≡ x

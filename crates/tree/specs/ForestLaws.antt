@@ -4,11 +4,11 @@
 --   names, and the larger of two numbers;
 --   no siblings, and the first of some: get-nil, insert-nil, empty-is-nil, height-node;
 --   a child found: get-first, found-first, found-none;
---   a child changed: get-at, get-at-other, get-at-none, names-at, empty-at, at-at, size-at, height-at, at-twice, at-id, at-none;
---   a child put in: get-insert, get-insert-other, empty-insert, insert-at, size-insert, height-insert;
---   a child taken out: get-remove-other, empty-remove, remove-at, size-remove, height-remove; and height-get;
---   a map of the payloads goes through everything: get-map to update-map.
-use mathlib.Core.Path.{_≡_, refl, sym, _∙_, ap}
+--   a child changed: get-at, get-at-other, names-at, empty-at, at-at, size-at, height-at, at-twice, at-id, at-none;
+--   a child put in: get-insert, get-insert-other, size-insert, height-insert;
+--   a child taken out: get-remove-other, empty-remove, size-remove, height-remove; and height-get;
+--   a map of the payloads goes through everything: get-map to at-map.
+use mathlib.Core.Path.{_≡_, refl, sym, ap}
 use mathlib.Core.Option.{none, some, Option·map}
 use mathlib.Core.Bool.{true, false}
 use Prim.Native.Nat.{ℕ, suc, _+_, _≤_}
@@ -18,8 +18,8 @@ use borrow.Author.Tests.{leb-true, leb-false}
 use Rattle.buffers.specs.Cases.{case, contra}
 use Rattle.buffers.specs.Text.{same-text, precedes}
 use Rattle.buffers.specs.TextLaws.{same-text-refl, same-text-sound}
-use Rattle.syntax.specs.Path.{Name, Path, root, _▹_}
-use Rattle.tree.specs.Forest.{Forest, nil, node, Place, get, is-empty, insert, remove, at, under, update, alter, put, drop, leaf, size, larger, height, names, map-forest, map-place}
+use Rattle.syntax.specs.Path.{Name}
+use Rattle.tree.specs.Forest.{Forest, nil, node, Place, get, is-empty, insert, remove, at, under, alter, leaf, size, larger, height, names, map-forest, map-place}
 
 -- ---- names
 
@@ -112,12 +112,6 @@ module _ {A : Type 0} (m : Name) (f : Place A → Place A) where
       (λ e. case (same-text n k) (λ i. contra (same-join n m k i e) t) (λ i. rw e (rw i)))
       (λ e. rw e (rw (get-at-other n rest t)))
 
-  -- no child is made
-  pub get-at-none : (n : Name) (F : Forest A) → get n F ≡ none → get n (at m f F) ≡ none
-  get-at-none n F e = case (same-text n m)
-      (λ t. rw (at-none m f F (rw (same-text-sound n m t) at e)) e)
-      (λ t. get-at-other n F t ∙ e)
-
   -- the names stay
   pub names-at : (F : Forest A) → names (at m f F) ≡ names F
   unfolding names at
@@ -187,20 +181,6 @@ module _ {A : Type 0} (n : Name) (e : Place A) where
   get-insert-other m t nil = rw t
   get-insert-other m t (node k y ds rest) = case (precedes n k) (λ i. rw i (rw t)) (λ i. rw i (rw (get-insert-other m t rest)))
 
-  -- a forest with a child put in is not empty
-  pub empty-insert : (F : Forest A) → is-empty (insert n e F) ≡ false
-  unfolding is-empty insert
-  empty-insert nil = refl
-  empty-insert (node k y ds rest) = case (precedes n k) (λ i. rw i) (λ i. rw i)
-
-  -- putting a child in commutes with the change of another
-  pub insert-at : (m : Name) (f : Place A → Place A) → same-text n m ≡ false → (F : Forest A) → insert n e (at m f F) ≡ at m f (insert n e F)
-  unfolding insert at
-  insert-at m f t nil = rw (differ-sym n m t)
-  insert-at m f t (node k y ds rest) = case (precedes n k)
-      (λ i. case (same-text m k) (λ s. rw (s, i) (rw (differ-sym n m t, s))) (λ s. rw (s, i) (rw (differ-sym n m t, s))))
-      (λ i. case (same-text m k) (λ s. rw (s, i) (rw s)) (λ s. rw (s, i) (rw (s, insert-at m f t rest))))
-
   -- the child and all below it are counted
   pub size-insert : (F : Forest A) → size (insert n e F) ≡ size F + suc (size (e .below))
   unfolding size insert
@@ -233,14 +213,6 @@ module _ {A : Type 0} (n : Name) where
   unfolding is-empty remove
   empty-remove nil e = refl
   empty-remove (node k y ds rest) e = contra {b = true} refl (sym e)
-
-  -- taking a child out commutes with the change of another
-  pub remove-at : (m : Name) (f : Place A → Place A) → same-text n m ≡ false → (F : Forest A) → remove n (at m f F) ≡ at m f (remove n F)
-  unfolding remove at
-  remove-at m f t nil = refl
-  remove-at m f t (node k y ds rest) = case (same-text n k)
-      (λ i. case (same-text m k) (λ s. contra (same-join n m k i s) t) (λ s. rw (s, i)))
-      (λ i. case (same-text m k) (λ s. rw (s, i) (rw s)) (λ s. rw (s, i) (rw (s, remove-at m f t rest))))
 
   -- the child and all below it are no longer counted
   pub size-remove : (F : Forest A) (d : Place A) → get n F ≡ some d → size (remove n F) + suc (size (d .below)) ≡ size F
@@ -279,12 +251,6 @@ module _ {A B : Type 0} (g : A → B) where
   get-map n nil = refl
   get-map n (node k y ds rest) = case (same-text n k) (λ t. rw t) (λ t. rw t (get-map n rest))
 
-  -- the names stay
-  pub names-map : (F : Forest A) → names (map-forest g F) ≡ names F
-  unfolding names map-forest
-  names-map nil = refl
-  names-map (node k y ds rest) = rw (names-map rest)
-
   -- a forest stays empty or not
   pub empty-map : (F : Forest A) → is-empty (map-forest g F) ≡ is-empty F
   unfolding is-empty map-forest
@@ -296,12 +262,6 @@ module _ {A B : Type 0} (g : A → B) where
   unfolding size map-forest
   size-map nil = refl
   size-map (node k y ds rest) = rw (size-map ds, size-map rest)
-
-  -- the height stays
-  pub height-map : (F : Forest A) → height (map-forest g F) ≡ height F
-  unfolding height map-forest
-  height-map nil = refl
-  height-map (node k y ds rest) = rw (height-map ds, height-map rest)
 
   -- through putting a child in
   pub insert-map : (n : Name) (d : Place A) (F : Forest A) → insert n (map-place g d) (map-forest g F) ≡ map-forest g (insert n d F)
@@ -321,16 +281,6 @@ module _ {A B : Type 0} (g : A → B) where
   unfolding under map-place
   under-map f k e d = rw (e (d .below))
 
-  -- through putting a child into a place
-  pub put-map : (n : Name) (e d : Place A) → put n (map-place g e) (map-place g d) ≡ map-place g (put n e d)
-  unfolding put
-  put-map n e = under-map (insert n (map-place g e)) (insert n e) (insert-map n e)
-
-  -- through taking a child out of a place
-  pub drop-map : (n : Name) (d : Place A) → drop n (map-place g d) ≡ map-place g (drop n d)
-  unfolding drop
-  drop-map n = under-map (remove n) (remove n) (remove-map n)
-
   -- through a change of the payload
   pub alter-map : (f : B → B) (k : A → A) → ((x : A) → f (g x) ≡ g (k x)) → (d : Place A) → alter f (map-place g d) ≡ map-place g (alter k d)
   unfolding alter map-place
@@ -349,10 +299,3 @@ module _ {A B : Type 0} (g : A → B) where
   at-map f k e n (node m y ds rest) = case (same-text n m)
       (λ t. rw (t, e (record { here = y; below = ds })))
       (λ t. rw t (rw (at-map f k e n rest)))
-
-  -- and of the place at a path
-  pub update-map : (f : Place B → Place B) (k : Place A → Place A) → ((d : Place A) → f (map-place g d) ≡ map-place g (k d))
-      → (p : Path) (d : Place A) → update p f (map-place g d) ≡ map-place g (update p k d)
-  unfolding update
-  update-map f k e root d = e d
-  update-map f k e (p ▹ n) d = update-map (under (at n f)) (under (at n k)) (under-map (at n f) (at n k) (at-map f k e n)) p d

@@ -1,9 +1,7 @@
 -- What the access test's judge says of a node, and what a node's setters leave, each as an equation, for the crates above.
 use mathlib.Core.Path.{_≡_, refl, sym}
-use mathlib.Core.Option.{some}
 use mathlib.Core.Bool.{true, false, _&&_, _||_, not}
 use Prim.Native.Nat.{ℕ}
-use Rattle.buffers.specs.Cases.{contra}
 use Rattle.buffers.specs.Text.{Text}
 use Rattle.accounts.specs.declared.Right.{Right}
 use Rattle.accounts.specs.declared.Right.the-variants.{R, W, X}
@@ -11,7 +9,7 @@ use Rattle.accounts.specs.declared.Account.{Account}
 use Rattle.accounts.specs.Access.{may}
 use Rattle.tree.specs.declared.Kind.{Kind}
 use Rattle.tree.specs.declared.Kind.the-variants.{File, Directory}
-use Rattle.tree.specs.Node.{is-directory, same-kind, Tag, Node, allows, set-revision, set-tag, set-content}
+use Rattle.tree.specs.Node.{is-directory, same-kind, Node, allows, set-revision, set-content}
 use Rattle.tree.specs.Walk.{by-modes}
 
 pub file-is-none : is-directory File ≡ false
@@ -57,28 +55,9 @@ module _ (n : Node) where
   unfolding set-revision
   set-revision-is v = refl
 
-  pub set-tag-is : (t : Tag) →
-      set-tag t n ≡ record { kind = n .kind; owner = n .owner; group = n .group; mode = n .mode; revision = n .revision; tag = some t; content = n .content }
-  unfolding set-tag
-  set-tag-is t = refl
-
   pub set-content-is : (c : Text) →
       set-content c n ≡ record { kind = n .kind; owner = n .owner; group = n .group; mode = n .mode; revision = n .revision; tag = n .tag; content = c }
   unfolding set-content
   set-content-is c = refl
 
 -- ---- kinds
-
--- a kind is the same as itself
-pub same-kind-refl : (k : Kind) → same-kind k k ≡ true
-unfolding same-kind
-same-kind-refl File = refl
-same-kind-refl Directory = refl
-
--- and as no other
-pub same-kind-sound : (a b : Kind) → same-kind a b ≡ true → a ≡ b
-unfolding same-kind
-same-kind-sound File File e = refl
-same-kind-sound File Directory e = contra e refl
-same-kind-sound Directory File e = contra e refl
-same-kind-sound Directory Directory e = refl

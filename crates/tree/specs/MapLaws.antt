@@ -1,13 +1,14 @@
--- A map of the payloads goes through places, changes at paths and walks, where the judges of both sides agree.
+-- A map of the payloads goes through places and, where the judges of both sides agree, through walks.
 use mathlib.Core.Path.{_≡_, refl}
 use mathlib.Core.Option.{Option, none, some, Option·map}
 use Rattle.syntax.specs.Path.{Name, Path, root, _▹_, parent}
 use Rattle.tree.specs.declared.Cause.the-variants.{Missing, Exists}
 use Rattle.tree.specs.Result.{present, absent}
-use Rattle.tree.specs.Forest.{Forest, nil, node, Place, get, update, alter, put, drop, map-forest, map-place}
-use Rattle.tree.specs.ForestLaws.{get-map, put-map, drop-map, alter-map, update-map}
+use Rattle.tree.specs.Outcomes.{Agree, refusal, both}
+use Rattle.tree.specs.AgreeLaws.{bind, guard}
+use Rattle.tree.specs.Forest.{Forest, nil, node, Place, get, map-forest, map-place}
+use Rattle.tree.specs.ForestLaws.{get-map}
 use Rattle.tree.specs.Walk.{Judge, look, unused, enter, walk, parent-walk}
-use Rattle.tree.specs.Agree.{Agree, refusal, both, bind, guard}
 
 module _ {A B : Type 0} (g : A → B) where
   -- ---- forests and places
@@ -32,21 +33,6 @@ module _ {A B : Type 0} (g : A → B) where
   unfolding map-place
   map-below d = refl
 
-  -- ---- changes at a path
-
-  -- through a change of the payload there
-  pub update-alter-map : (h′ : B → B) (h : A → A) → ((a : A) → h′ (g a) ≡ g (h a))
-      → (p : Path) (d : Place A) → update p (alter h′) (map-place g d) ≡ map-place g (update p (alter h) d)
-  update-alter-map h′ h e = update-map g (alter h′) (alter h) (alter-map g h′ h e)
-
-  -- through putting a child in there
-  pub update-put-map : (n : Name) (e : Place A) (p : Path) (d : Place A) → update p (put n (map-place g e)) (map-place g d) ≡ map-place g (update p (put n e) d)
-  update-put-map n e = update-map g (put n (map-place g e)) (put n e) (put-map g n e)
-
-  -- through taking a child out there
-  pub update-drop-map : (n : Name) (p : Path) (d : Place A) → update p (drop n) (map-place g d) ≡ map-place g (update p (drop n) d)
-  update-drop-map n = update-map g (drop n) (drop n) (drop-map g n)
-
   -- ---- searches
 
   absent-map : (c : Option (Place A)) → absent (Option·map (map-place g) c) Exists ≡ absent c Exists
@@ -65,7 +51,7 @@ module _ {A B : Type 0} (g : A → B) where
   present-map (some d) = both refl
 
   -- the child found is the mapped one
-  pub look-map : (n : Name) (F : Forest A) → Agree (λ d e. d ≡ map-place g e) (look n (map-forest g F)) (look n F)
+  look-map : (n : Name) (F : Forest A) → Agree (λ d e. d ≡ map-place g e) (look n (map-forest g F)) (look n F)
   unfolding look
   look-map n F = rw (get-map g n F) (present-map (get n F))
 
@@ -73,7 +59,7 @@ module _ {A B : Type 0} (g : A → B) where
 
   module _ (j : Judge A) (k : Judge B) (kinds : (a : A) → k .kind (g a) ≡ j .kind a) (passes : (a : A) → k .passes (g a) ≡ j .passes a) where
     -- the same directories are entered
-    pub enter-map : (a : A) → enter k (g a) ≡ enter j a
+    enter-map : (a : A) → enter k (g a) ≡ enter j a
     unfolding enter
     enter-map a = rw (kinds a, passes a)
 

@@ -64,10 +64,10 @@ fits-bare File m c h d = contra d refl
 fits-bare Directory m [] h d = refl
 fits-bare Directory m (b ∷ c) h d = contra h (ne-eqb (length (b ∷ c)) 0 (λ e. omega arith))
 
-fits-of : (k : Kind) (m : ℕ) (c : Text) → (is-directory k || not (set-gid m)) ≡ true → (is-directory k ≡ true → c ≡ []) → fits-kind k m c ≡ true
+kind-fits : (k : Kind) (m : ℕ) (c : Text) → (is-directory k || not (set-gid m)) ≡ true → (is-directory k ≡ true → c ≡ []) → fits-kind k m c ≡ true
 unfolding fits-kind is-directory
-fits-of File m c g b = g
-fits-of Directory m c g b = rw (b refl)
+kind-fits File m c g b = g
+kind-fits Directory m c g b = rw (b refl)
 
 -- a node in range has its values in range
 pub node-ranges : (n : Node) → is-node n ≡ true → Ranges n
@@ -103,7 +103,7 @@ node-of-ranges n r = rw (
   r .revision,
   tag-of-range (n .tag) (r .tag),
   r .content,
-  fits-of (n .kind) (n .mode) (n .content) (r .gid) (r .bare),
+  kind-fits (n .kind) (n .mode) (n .content) (r .gid) (r .bare),
 )
 
 -- a node without tag and content is in range with its other values

@@ -26,7 +26,7 @@ module _ {A B : Type 0} (g : A → B) (x : B) where
   rooted-size F = size-map g F
 
   -- a change of the children at a path
-  pub rooted-update : (f : Forest B → Forest B) (k : Forest A → Forest A) → ((F : Forest A) → f (map-forest g F) ≡ map-forest g (k F))
+  rooted-update : (f : Forest B → Forest B) (k : Forest A → Forest A) → ((F : Forest A) → f (map-forest g F) ≡ map-forest g (k F))
       → (p : Path) (F : Forest A) → update p (under f) (rooted g x F) ≡ rooted g x (update-forest p k F)
   unfolding update update-forest rooted under
   rooted-update f k e root F = rw (e F)

@@ -3,40 +3,38 @@
 --
 -- In order:
 --   a field of a row: byte-in-row, number-in-row, text-in-row; its depth and kind;
---   the bytes of a text before the zeros, one by one: text-goes-on to text-part;
---   all rows by index, those of a tree's encoding, and scans over them: row-in-rows to scan-end;
---   the order of two texts, byte by byte: order-before to order-tells;
---   the tests of a scan: passes-below to child-beside;
---   where a subtree ends, and where a child stands: end-at to child-at-end.
+--   all rows by index, scans over them, and those of a tree's encoding: length-all-rows to row-count-of-tree;
+--   where a subtree ends: end-at;
+--   what is left of the search for a child: child-left to child-left-all.
 use mathlib.Core.Path.{_≡_, sym, _∙_, ap}
-use mathlib.Core.List.{List}
-use mathlib.Core.Bool.{Bool, true, false, cond}
+use mathlib.Core.List.{List, [], _∷_}
+use mathlib.Core.Bool.{Bool, true, false}
 use Prim.Native.Nat.{ℕ, suc, _+_, _*_, _≤_, _<_}
 use native.Mathlib.Omega.{arith}
 use native.Mathlib.Numerals.{add-one}
-use lib.ListN.{length, getD, take, drop}
+use lib.Dec.{eqb}
+use lib.ListN.{length, getD, take, drop, length-take}
 use lib.Seq.{drop-cons, getD-take, getD-drop, drop-drop}
-use borrow.Author.Tests.{lt-ltb, le-ltb, eq-eqb, ne-eqb}
-use Rattle.buffers.specs.declared.Order.{Order}
-use Rattle.buffers.specs.Text.{Text, same-text, order-of}
-use Rattle.buffers.specs.TextLaws.{is-before, order-tells}
+use borrow.Author.Tests.{eq-eqb, ne-eqb}
+use Rattle.buffers.specs.Cases.{case}
+use Rattle.buffers.specs.Text.{Text}
 use Rattle.buffers.specs.Fields.{number-at, unpadded, text-at}
 use Rattle.buffers.specs.FieldsLaws.{part-of-take}
 use Rattle.buffers.specs.TableLaws.{length-all-from, all-from-at}
-use Rattle.syntax.specs.Path.{Path, depth}
+use Rattle.syntax.specs.Path.{depth}
 use Rattle.tree.specs.declared.Kind.the-variants.{File, Directory}
 use Rattle.tree.specs.declared.Child.{Child}
-use Rattle.tree.specs.declared.Child.the-variants.{Found, Missing}
-use Rattle.tree.specs.Layout.{row-width, row-start, kind-offset}
+use Rattle.tree.specs.declared.Child.the-variants.{Missing}
+use Rattle.tree.specs.Layout.{row-width, row-start, kind-offset, name-width}
 use Rattle.tree.specs.Forest.{Place}
 use Rattle.tree.specs.Node.{Node}
 use Rattle.tree.specs.Rows.{Row, rows}
 use Rattle.tree.specs.WellFormed.{is-tree}
-use Rattle.tree.specs.Encoding.{kind-of, row-of, encode-tree}
+use Rattle.tree.specs.RowScan.{span, is-deeper, first-depth, depth-of, end-of-subtree, order-in, child-by, child-from, child-in}
+use Rattle.tree.specs.RowScanLaws.{span-go, span-stop, span-end, child-from-row, child-from-end}
+use Rattle.tree.specs.Encoding.{kind-of, read-row, encode-tree}
 use Rattle.tree.specs.EncodingLaws.{rows-of-encoded}
-use Rattle.tree.specs.RowContext.{place-rows, index-of, Around}
-use Rattle.tree.specs.RowScan.{span, first-passes, deeper, passes, is-child, first-at, span-go, span-stop, span-end, rows-from-place}
-use Rattle.tree.specs.RowAt.{row-count, row-bytes-at, row-at, all-rows, first-depth, depth-of, end-of-subtree, child-at}
+use Rattle.tree.specs.RowAt.{row-count, row-bytes-at, row-at, all-rows}
 
 -- ---- a field of a row
 
@@ -62,20 +60,33 @@ module _ (b : List ℕ) (i : ℕ) where
 
   -- the depth is the first byte
   pub depth-in-row : row-at b i .depth ≡ getD b (row-start i) 0
-  unfolding row-at row-of
+  unfolding row-at read-row
   depth-in-row =
       let q : row-start i + 0 ≡ row-start i = omega arith in
       byte-in-row 0 (omega arith) ∙ ap (λ (j : ℕ). getD b j 0) q
 
   -- the kind is the second: `d` for a directory
   pub directory-in-row : getD b (row-start i + kind-offset) 0 ≡ 100 → row-at b i .here .kind ≡ Directory
-  unfolding row-at row-of kind-of
+  unfolding row-at read-row kind-of
   directory-in-row e = rw (eq-eqb (getD (row-bytes-at b i) 1 0) 100 (byte-in-row 1 (omega arith) ∙ e))
 
   -- and anything else for a file
   pub file-in-row : (getD b (row-start i + kind-offset) 0 ≡ 100 → ⊥) → row-at b i .here .kind ≡ File
-  unfolding row-at row-of kind-of
+  unfolding row-at read-row kind-of
   file-in-row e = rw (ne-eqb (getD (row-bytes-at b i) 1 0) 100 (λ q. e (sym (byte-in-row 1 (omega arith)) ∙ q)))
+
+-- a text without the zeros is no longer than with them
+unpadded-fits : (l : List ℕ) → length (unpadded l) ≤ length l
+unfolding unpadded
+unpadded-fits [] = omega arith
+unpadded-fits (x ∷ l) = let i = unpadded-fits l in case (eqb x 0) (λ e. rw e (omega arith)) (λ e. rw e (omega arith))
+
+-- a name has no more bytes than its field
+pub row-name-fits : (b : List ℕ) (i : ℕ) → length (row-at b i .name) ≤ name-width
+unfolding row-at read-row text-at
+row-name-fits b i =
+    let l = drop 8 (row-bytes-at b i) in
+    omega (arith, unpadded-fits (take 8 l), length-take 8 l)
 
 -- ---- all rows
 
@@ -83,13 +94,13 @@ module _ (b : List ℕ) where
   -- there are as many rows as the count says
   pub length-all-rows : length (all-rows b) ≡ row-count b
   unfolding all-rows
-  length-all-rows = length-all-from row-width row-of (row-count b) (drop 2 b)
+  length-all-rows = length-all-from row-width read-row (row-count b) (drop 2 b)
 
   -- the row at an index is that of the bytes there
   pub row-in-rows : (i : ℕ) (z : Row Node) → i < row-count b → getD (all-rows b) i z ≡ row-at b i
   unfolding all-rows row-at row-bytes-at
   row-in-rows i z h =
-      all-from-at row-width row-of (row-count b) i (drop 2 b) z h ∙ ap (λ (l : List ℕ). row-of (take row-width l)) (drop-drop (row-width * i) 2 b)
+      all-from-at row-width read-row (row-count b) i (drop 2 b) z h ∙ ap (λ (l : List ℕ). read-row (take row-width l)) (drop-drop (row-width * i) 2 b)
 
   -- and its depth is that row's
   pub depth-of-row : (i : ℕ) → i < row-count b → depth-of (all-rows b) i ≡ row-at b i .depth
@@ -126,71 +137,36 @@ all-rows-of-tree t h = rows-of-encoded t h
 pub row-count-of-tree : (t : Place Node) → is-tree t ≡ true → row-count (encode-tree t) ≡ length (rows t)
 row-count-of-tree t h = sym (length-all-rows (encode-tree t)) ∙ ap length (all-rows-of-tree t h)
 
--- the row of a place stands at the depth of its path
-pub depth-of-place : {t : Place Node} {p : Path} {d : Place Node} → Around t p d → depth-of (rows t) (index-of t p) ≡ depth p
-unfolding depth-of first-depth place-rows
-depth-of-place c = rw (rows-from-place c)
-
--- ---- the tests of a scan
-
-module _ (k : ℕ) (n : Text) (r : Row Node) where
-  -- the scan for a child goes past a deeper row
-  pub passes-below : k < r .depth → passes k n r ≡ true
-  unfolding passes
-  passes-below h = rw (lt-ltb k (r .depth) h)
-
-  -- stops at one that is less deep
-  pub passes-above : r .depth < k → passes k n r ≡ false
-  unfolding passes
-  passes-above h = rw (le-ltb k (r .depth) (omega arith), ne-eqb (r .depth) k (λ e. omega arith))
-
-  -- and goes by the order of the names at the same depth
-  pub passes-beside : (o : Order) → r .depth ≡ k → o ≡ order-of (r .name) n → passes k n r ≡ is-before o
-  unfolding passes
-  passes-beside o e q = rw (le-ltb k (r .depth) (omega arith), eq-eqb (r .depth) k e, q) (order-tells (r .name) n)
-
-  -- a row at another depth is not the child's
-  pub child-elsewhere : (r .depth ≡ k → ⊥) → is-child k n r ≡ false
-  unfolding is-child
-  child-elsewhere h = rw (ne-eqb (r .depth) k h)
-
-  -- one at that depth is if it has the name
-  pub child-beside : r .depth ≡ k → is-child k n r ≡ same-text (r .name) n
-  unfolding is-child
-  child-beside e = rw (eq-eqb (r .depth) k e)
-
--- ---- where a subtree ends, and where a child stands
+-- ---- where a subtree ends
 
 module _ (b : List ℕ) (at i : ℕ) (h : at < row-count b) where
   -- a subtree ends where the scan does
-  pub end-at : (k : ℕ) → k ≡ row-at b at .depth → Scanned b (deeper k) (at + 1) i → span (deeper k) (drop i (all-rows b)) ≡ 0
+  pub end-at : (k : ℕ) → k ≡ row-at b at .depth → Scanned b (is-deeper k) (at + 1) i → span (is-deeper k) (drop i (all-rows b)) ≡ 0
       → i ≡ end-of-subtree (all-rows b) at
   unfolding end-of-subtree
   end-at k e g z =
       let q = rw add-one at g in
       rw (depth-of-row b at h, ← e) (omega arith)
 
-  module _ (n : Text) (k : ℕ) (e : k ≡ suc (row-at b at .depth)) where
-    -- a child is what the scan stops at, if it has the name
-    child-from-stop : Scanned b (passes k n) (at + 1) i → span (passes k n) (drop i (all-rows b)) ≡ 0
-        → child-at (all-rows b) at n ≡ cond (first-passes (is-child k n) (drop i (all-rows b))) (Found i) (Missing i)
-    unfolding child-at
-    child-from-stop g z =
-        let q = rw add-one at g in
-        let j : suc (at + span (passes k n) (drop (suc at) (all-rows b))) ≡ i = omega arith in
-        rw (depth-of-row b at h, ← e, j)
+-- ---- the search for a child
 
-    -- which is the row there
-    pub child-at-stop : (c : Bool) → Scanned b (passes k n) (at + 1) i
-        → i < row-count b → passes k n (row-at b i) ≡ false → is-child k n (row-at b i) ≡ c
-        → child-at (all-rows b) at n ≡ cond c (Found i) (Missing i)
-    child-at-stop c g l p q =
-        let f : first-passes (is-child k n) (drop i (all-rows b)) ≡ c =
-        first-at (is-child k n) (all-rows b) i (row-at b i) (omega (arith, length-all-rows b)) ∙ ap (is-child k n) (row-in-rows b i (row-at b i) l) ∙ q in
-        child-from-stop g (scan-stop b (passes k n) i l p) ∙ ap {B = Child} (λ (x : Bool). cond x (Found i) (Missing i)) f
+-- what the search for a child at a depth answers from an index on
+abbrev pub child-left : List ℕ → ℕ → Text → ℕ → Child
+child-left b k n i = child-from k n i (drop i (all-rows b))
 
-    -- behind the last row there is none
-    pub child-at-end : Scanned b (passes k n) (at + 1) i → row-count b ≤ i → child-at (all-rows b) at n ≡ Missing i
-    child-at-end g l =
-        let f : first-passes (is-child k n) (drop i (all-rows b)) ≡ false = span-end (is-child k n) (all-rows b) i (omega (arith, length-all-rows b)) .1 in
-        child-from-stop g (scan-end b (passes k n) i l) ∙ ap {B = Child} (λ (x : Bool). cond x (Found i) (Missing i)) f
+module _ (b : List ℕ) (k : ℕ) (n : Text) (i : ℕ) where
+  -- it goes by the row there
+  pub child-left-row : i < row-count b → child-left b k n i ≡ child-by (order-in k n (row-at b i)) i (child-left b k n (suc i))
+  child-left-row h =
+      child-from-row k n i (all-rows b) (row-at b i) (omega (arith, length-all-rows b))
+      ∙ ap (λ (r : Row Node). child-by (order-in k n r) i (child-left b k n (suc i))) (row-in-rows b i (row-at b i) h)
+
+  -- and ends behind the last
+  pub child-left-end : row-count b ≤ i → child-left b k n i ≡ Missing i
+  child-left-end h = child-from-end k n i (all-rows b) (omega (arith, length-all-rows b))
+
+-- behind the row of a place all of it is left
+pub child-left-all : (b : List ℕ) (at k : ℕ) (n : Text) → at < row-count b → k ≡ suc (row-at b at .depth)
+    → child-left b k n (suc at) ≡ child-in (all-rows b) at n
+unfolding child-in
+child-left-all b at k n h e = rw (depth-of-row b at h, ← e)

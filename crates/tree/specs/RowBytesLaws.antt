@@ -24,7 +24,17 @@ use Rattle.tree.specs.Layout.{row-width, mode-offset, revision-offset, n
 use Rattle.tree.specs.Node.{Tag, Node}
 use Rattle.tree.specs.Rows.{Row}
 use Rattle.tree.specs.WellFormed.{last-revision, is-tag, fits-kind, is-node}
-use Rattle.tree.specs.Encoding.{kind-byte, kind-of, tag-bytes, tag-of, row-bytes, row-of}
+use Rattle.tree.specs.Encoding.{kind-byte, kind-of, tag-bytes, tag-of, row-bytes, read-row, row-head, row-spare}
+
+-- the pieces of a row: what stands before its name, its name, tag and content, and what is spare
+pub row-parts : (r : Row Node)
+    → row-bytes r ≡ row-head r ++ (padded name-width (r .name) ++ (tag-bytes (r .here .tag) ++ (padded content-width (r .here .content) ++ row-spare)))
+unfolding row-bytes two-bytes
+row-parts r = refl
+
+pub length-row-head : (r : Row Node) → length (row-head r) ≡ 8
+unfolding two-bytes
+length-row-head r = refl
 
 -- a tag's text and number, for no tag those of zero bytes
 tag-text : Option Tag → Text
@@ -63,7 +73,7 @@ length-tag-bytes o h =
     ap length (tag-parts o) ∙ length-append (padded tag-width (tag-text o)) (two-bytes (tag-number o)) ∙ omega arith
 
 -- and is read where they stand
-pub tag-at-bytes : (P Q : List ℕ) (i : ℕ) (o : Option Tag) → length P ≡ i → is-tag o ≡ true
+tag-at-bytes : (P Q : List ℕ) (i : ℕ) (o : Option Tag) → length P ≡ i → is-tag o ≡ true
     → tag-of (text-at i 54 (P ++ (tag-bytes o ++ Q))) (number-at (i + 54) (P ++ (tag-bytes o ++ Q))) ≡ o
 tag-at-bytes P Q i o e h =
     let T = padded tag-width (tag-text o) in
@@ -77,7 +87,7 @@ tag-at-bytes P Q i o e h =
     rw (s, a, b) (tag-of-parts o h)
 
 -- a kind is read from its byte
-pub kind-of-byte : (k : Kind) → kind-of (kind-byte k) ≡ k
+kind-of-byte : (k : Kind) → kind-of (kind-byte k) ≡ k
 unfolding kind-of kind-byte
 kind-of-byte File = refl
 kind-of-byte Directory = refl
@@ -112,8 +122,8 @@ module _ (r : Row Node) (h : is-node (r .here) ≡ true) (w : (length (r .name) 
       omega arith
 
   -- and is read back from them
-  pub row-of-bytes : row-of (row-bytes r) ≡ r
-  unfolding row-of row-bytes two-bytes
+  pub row-of-bytes : read-row (row-bytes r) ≡ r
+  unfolding read-row row-bytes two-bytes
   row-of-bytes =
       let n = r .here in
       let i = node-parts n h in

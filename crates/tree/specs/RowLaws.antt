@@ -1,17 +1,14 @@
--- A tree is read back from its rows; how many rows there are, and how deep they lie.
+-- A tree is read back from its rows, and there are as many as it has nodes.
 use mathlib.Core.Path.{_≡_, refl, _∙_, ap, ap₂}
 use mathlib.Core.List.{List, [], _∷_, _++_, append-assoc, append-nil}
 use mathlib.Core.Option.{some}
 use mathlib.Core.Bool.{Bool, true, false}
-use Prim.Native.Nat.{ℕ, suc, _+_, _≤_}
+use Prim.Native.Nat.{ℕ, suc, _+_}
 use native.Mathlib.Omega.{arith}
 use lib.Dec.{eqb, leb}
 use lib.ListN.{length, length-append}
 use borrow.Author.Tests.{leb-true, le-leb, eq-eqb, ne-eqb}
-use Rattle.buffers.specs.Text.{every}
-use Rattle.buffers.specs.TextLaws.{every-append}
-use Rattle.tree.specs.Forest.{Forest, nil, node, Place, size, height}
-use Rattle.tree.specs.ForestLaws.{larger-bounds}
+use Rattle.tree.specs.Forest.{Forest, nil, node, Place, size}
 use Rattle.tree.specs.Rows.{Row, flatten, rows, Subtree, siblings, others, subtrees, only, tree-of}
 use Rattle.tree.specs.WellFormed.{nodes}
 
@@ -89,20 +86,3 @@ length-flatten k (node n x cs rest) = ap suc (length-append (flatten (suc k) cs)
 pub length-rows : {A : Type 0} (t : Place A) → length (rows t) ≡ nodes t
 unfolding rows nodes
 length-rows t = ap suc (length-flatten 1 (t .below))
-
-flatten-depth : {A : Type 0} (m k : ℕ) (F : Forest A) → k + height F ≤ suc m → every (λ r. leb (r .depth) m) (flatten k F) ≡ true
-unfolding flatten height every
-flatten-depth m k nil h = refl
-flatten-depth m k (node n x cs rest) h =
-    let w = larger-bounds (suc (height cs)) (height rest) in
-    rw (
-      le-leb k m (omega arith),
-      every-append (λ r. leb (r .depth) m) (flatten (suc k) cs) (flatten k rest),
-      flatten-depth m (suc k) cs (omega arith),
-      flatten-depth m k rest (omega arith),
-    )
-
--- no row lies deeper than the tree is high
-pub rows-depth : {A : Type 0} (t : Place A) → every (λ r. leb (r .depth) (height (t .below))) (rows t) ≡ true
-unfolding rows every
-rows-depth t = rw (le-leb 0 (height (t .below)) (omega arith)) (flatten-depth (height (t .below)) 1 (t .below) (omega arith))

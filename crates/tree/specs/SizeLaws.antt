@@ -31,7 +31,7 @@ module _ {A : Type 0} where
   names-few (node n x cs rest) = omega (arith, names-few rest)
 
   -- a place has no more below it than the tree has
-  pub size-below : (t : Place A) (p : Path) (d : Place A) → place-at t p ≡ some d → size (d .below) ≤ size (t .below)
+  size-below : (t : Place A) (p : Path) (d : Place A) → place-at t p ≡ some d → size (d .below) ≤ size (t .below)
   unfolding under size
   size-below t p d e = omega (arith, size-update t p (under (λ F. nil)) d e)
 

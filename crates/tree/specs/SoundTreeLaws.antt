@@ -18,7 +18,7 @@ use Rattle.tree.specs.Forest.{Forest, nil, node, Place, get, is-empty, p
 use Rattle.tree.specs.ForestLaws.{differ-sym}
 use Rattle.tree.specs.Node.{is-directory, Node}
 use Rattle.tree.specs.WellFormed.{last-revision, is-node, leads, is-forest, is-place, is-tree}
-use Rattle.tree.specs.UpdateLaws.{child-at, height-below}
+use Rattle.tree.specs.UpdateLaws.{place-at-parent, height-below}
 use Rattle.tree.specs.NodeLaws.{node-ranges, node-of-ranges}
 use Rattle.tree.specs.WellFormedLaws.{place-parts, place-of-parts, forest-parts, forest-of-parts, tree-parts, tree-of-parts, forest-nil, leads-nil, leads-node, leads-before}
 use Rattle.tree.specs.SoundTree.{Throughout, Everywhere, no-two, In-range, Sound-tree}
@@ -242,7 +242,7 @@ module _ {A : Type 0} (P : Place A → Type 0) where
   in-place : (t : Place A) → Everywhere t P → (p : Path) (d : Place A) → place-at t p ≡ some d → Everywhere d P
   unfolding place-at Everywhere
   in-place t h root d e = rw (answered e) h
-  in-place t h (p ▹ n) d e = let i = child-at t p n d e in in-child n (i .0 .below) d (in-place t h p (i .0) (i .1) .1) (i .2)
+  in-place t h (p ▹ n) d e = let i = place-at-parent t p n d e in in-child n (i .0 .below) d (in-place t h p (i .0) (i .1) .1) (i .2)
 
   -- what holds everywhere holds of the place at any path
   pub at-any-path : (t : Place A) → Everywhere t P → (p : Path) (d : Place A) → place-at t p ≡ some d → P d

@@ -4,7 +4,7 @@ use mathlib.Core.Option.{none, some}
 use mathlib.Core.Bool.{true}
 use Rattle.syntax.specs.Path.{Name, Path, root, _▹_, parent}
 use Rattle.tree.specs.declared.Cause.the-variants.{Missing, NotDirectory, Access, Exists}
-use Rattle.tree.specs.Result.{done, _>>=_, _>>_, require, present, absent}
+use Rattle.tree.specs.Result.{done, _>>=_, _>>_, require, present}
 use Rattle.tree.specs.ResultLaws.{present-some, was-absent, required, bind-done, then-done, done-then, done-bind}
 use Rattle.tree.specs.Forest.{Forest, Place, get}
 use Rattle.tree.specs.Node.{is-directory}
@@ -25,11 +25,6 @@ module _ {A : Type 0} where
   pub was-unused : (n : Name) (F : Forest A) → unused n F ≡ done tt → get n F ≡ none
   unfolding unused
   was-unused n F i = was-absent (get n F) Exists i
-
-  -- a name that names no child is unused
-  pub unused-none : (n : Name) (F : Forest A) → get n F ≡ none → unused n F ≡ done tt
-  unfolding unused absent
-  unused-none n F i = rw i
 
   module _ (j : Judge A) where
     -- what was entered is a directory that may be passed

@@ -11,8 +11,8 @@ use Rattle.tree.specs.Layout.{most-rows, tree-width}
 use Rattle.tree.specs.Forest.{Place, place-at}
 use Rattle.tree.specs.Node.{Node}
 use Rattle.tree.specs.WellFormed.{is-tree}
+use Rattle.tree.specs.RowPlaces.{index-of}
 use Rattle.tree.specs.Encoding.{encode-tree}
-use Rattle.tree.specs.RowContext.{index-of}
 use Rattle.tree.specs.RowAt.{row-count}
 
 -- as many bytes as a tree has
@@ -36,7 +36,7 @@ pub record Used (b : List ℕ) (i : ℕ) : Type 0 where
   pub used : i < row-count b
 
 -- n rows may be put in before the row at the index
-pub record Gap (b : List ℕ) (i n : ℕ) : Type 0 where
+pub record Insertable (b : List ℕ) (i n : ℕ) : Type 0 where
   pub wide : Wide b
   pub inside : i ≤ row-count b
   pub room : row-count b + n ≤ most-rows

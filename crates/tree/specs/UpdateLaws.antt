@@ -2,17 +2,16 @@
 -- height follow those of the place.
 use mathlib.Core.Path.{_≡_, refl, sym, _∙_, ap}
 use mathlib.Core.Option.{Option, none, some}
-use Prim.Native.Nat.{ℕ, suc, _+_, _-_, _≤_}
+use Prim.Native.Nat.{ℕ, _+_, _-_, _≤_}
 use native.Mathlib.Omega.{arith}
 use Rattle.syntax.specs.Path.{Name, Path, root, _▹_, depth}
 use Rattle.syntax.specs.Form.{_>>=_}
 use Rattle.syntax.specs.FormLaws.{no-answer, answered}
 use Rattle.tree.specs.Result.{done}
-use Rattle.tree.specs.Forest.{Place, get, at, under, update, place-at, alter, put, leaf, size, height}
-use Rattle.tree.specs.ForestLaws.{at-none, at-id, size-at, size-insert, height-at, height-get}
+use Rattle.tree.specs.Forest.{Place, get, at, under, update, place-at, leaf, size, height}
+use Rattle.tree.specs.ForestLaws.{at-none, at-id, size-at, height-at, height-get}
 use Rattle.tree.specs.Walk.{Judge, walk}
 use Rattle.tree.specs.StepLaws.{walked}
-use Rattle.tree.specs.WellFormed.{nodes}
 
 -- ---- the place at a path
 
@@ -23,19 +22,19 @@ by-option (some a) f g = g a refl
 
 module _ {A : Type 0} (t : Place A) where
   -- the top is at the empty path
-  pub at-top : place-at t root ≡ some t
+  pub place-at-root : place-at t root ≡ some t
   unfolding place-at _>>=_
-  at-top = refl
+  place-at-root = refl
 
   -- a child is at the path with its name
-  pub at-child : (p : Path) (n : Name) (d : Place A) → place-at t p ≡ some d → place-at t (p ▹ n) ≡ get n (d .below)
+  pub place-at-child : (p : Path) (n : Name) (d : Place A) → place-at t p ≡ some d → place-at t (p ▹ n) ≡ get n (d .below)
   unfolding place-at _>>=_
-  at-child p n d e = rw e
+  place-at-child p n d e = rw e
 
   -- and what is there is a child
-  pub child-at : (p : Path) (n : Name) (d : Place A) → place-at t (p ▹ n) ≡ some d → (c : Place A) × (place-at t p ≡ some c) × (get n (c .below) ≡ some d)
+  pub place-at-parent : (p : Path) (n : Name) (d : Place A) → place-at t (p ▹ n) ≡ some d → (c : Place A) × (place-at t p ≡ some c) × (get n (c .below) ≡ some d)
   unfolding place-at _>>=_
-  child-at p n d e = by-option (place-at t p)
+  place-at-parent p n d e = by-option (place-at t p)
       (λ a. let i : none ≡ some d = rw a at e in no-answer i)
       (λ c a. (c, a, rw a at e))
 
@@ -43,14 +42,14 @@ module _ {A : Type 0} (t : Place A) where
   pub walked-at : (j : Judge A) (p : Path) (d : Place A) → walk j t p ≡ done d → place-at t p ≡ some d
   unfolding walk place-at _>>=_
   walked-at j root d e = cc
-  walked-at j (p ▹ n) d e = let i = walked j t p n e in at-child p n (i .0) (walked-at j p (i .0) (i .1)) ∙ i .3
+  walked-at j (p ▹ n) d e = let i = walked j t p n e in place-at-child p n (i .0) (walked-at j p (i .0) (i .1)) ∙ i .3
 
   -- the paths below a place are within the tree
   pub height-below : (p : Path) (d : Place A) → place-at t p ≡ some d → depth p + height (d .below) ≤ height (t .below)
   unfolding place-at depth _>>=_
   height-below root d e = rw (answered e) (omega arith)
   height-below (p ▹ n) d e =
-      let i = child-at p n d e in
+      let i = place-at-parent p n d e in
       omega (arith, height-below p (i .0) (i .1), height-get n (i .0 .below) d (i .2))
 
 -- ---- changes
@@ -61,24 +60,24 @@ module _ {A : Type 0} (t : Place A) where
   unfolding update under place-at _>>=_
   update-same root f d e h = rw (answered e) at h
   update-same (p ▹ n) f d e h =
-      let i = child-at t p n d e in
+      let i = place-at-parent t p n d e in
       update-same p (under (at n f)) (i .0) (i .1) (ap (λ F. record { here = i .0 .here; below = F }) (at-id n f d h (i .0 .below) (i .2)))
 
   -- and so does a change where there is no place
   pub update-none : (p : Path) (f : Place A → Place A) → place-at t p ≡ none → update p f t ≡ t
   unfolding update under
-  update-none root f e = no-answer (sym e ∙ at-top t)
+  update-none root f e = no-answer (sym e ∙ place-at-root t)
   update-none (p ▹ n) f e = by-option (place-at t p)
       (λ a. update-none p (under (at n f)) a)
       (λ c a. update-same p (under (at n f)) c a
-      (ap (λ F. record { here = c .here; below = F }) (at-none n f (c .below) (sym (at-child t p n c a) ∙ e))))
+      (ap (λ F. record { here = c .here; below = F }) (at-none n f (c .below) (sym (place-at-child t p n c a) ∙ e))))
 
   -- what a change keeps of the payload stays at the top
   pub here-update : {B : Type 0} (k : A → B) (p : Path) (f : Place A → Place A) (d : Place A) → place-at t p ≡ some d
       → k (f d .here) ≡ k (d .here) → k (update p f t .here) ≡ k (t .here)
   unfolding update under place-at _>>=_
   here-update k root f d e h = rw (answered e) at h
-  here-update k (p ▹ n) f d e h = let i = child-at t p n d e in here-update k p (under (at n f)) (i .0) (i .1) refl
+  here-update k (p ▹ n) f d e h = let i = place-at-parent t p n d e in here-update k p (under (at n f)) (i .0) (i .1) refl
 
   -- the size changes as the place's does
   pub size-update : (p : Path) (f : Place A → Place A) (d : Place A) → place-at t p ≡ some d
@@ -86,7 +85,7 @@ module _ {A : Type 0} (t : Place A) where
   unfolding update under place-at _>>=_
   size-update root f d e = rw (answered e) (omega arith)
   size-update (p ▹ n) f d e =
-      let i = child-at t p n d e in
+      let i = place-at-parent t p n d e in
       omega (arith, size-update p (under (at n f)) (i .0) (i .1), size-at n f (i .0 .below) d (i .2))
 
   -- the height is bounded as before if the paths through the changed place are
@@ -95,24 +94,11 @@ module _ {A : Type 0} (t : Place A) where
   unfolding update under place-at depth _>>=_
   height-update k root f d e b h = let i = rw (answered e) at h in omega arith
   height-update k (p ▹ n) f d e b h =
-      let i = child-at t p n d e in
+      let i = place-at-parent t p n d e in
       height-update k p (under (at n f)) (i .0) (i .1) b
       (let w = height-at n f (k - depth p) (i .0 .below) (omega (arith, height-below t p (i .0) (i .1)))
       (λ c g. rw (answered (sym (i .2) ∙ g)) (omega arith)) in
       omega arith)
-
--- the nodes stay as many where one is altered
-pub nodes-alter : {A : Type 0} (p : Path) (g : A → A) (t : Place A) → nodes (update p (alter g) t) ≡ nodes t
-unfolding nodes alter
-nodes-alter p g t = by-option (place-at t p)
-    (λ a. rw (update-none t p (alter g) a))
-    (λ d a. omega (arith, size-update t p (alter g) d a))
-
--- a place put in is counted with all below it
-pub nodes-put : {A : Type 0} (j : Judge A) (t : Place A) (p : Path) (d : Place A) (n : Name) (e : Place A) → walk j t p ≡ done d
-    → nodes (update p (put n e) t) ≡ nodes t + suc (size (e .below))
-unfolding nodes put under
-nodes-put j t p d n e h = omega (arith, size-update t p (put n e) d (walked-at t j p d h), size-insert n e (d .below))
 
 -- a leaf has no path below it
 pub leaf-height : {A : Type 0} (x : A) → height (leaf x .below) ≡ 0

@@ -17,10 +17,10 @@ onward j (n ∷ ns) d = do
   require (is-directory (j .kind (d .here))) NotDirectory
   literal-walk j d (n ∷ ns)
 
-bind-done : {A : Type 0} (a : Result A) (f : A → Result A) → ((d : A) → f d ≡ done d) → (a >>= f) ≡ a
+bind-itself : {A : Type 0} (a : Result A) (f : A → Result A) → ((d : A) → f d ≡ done d) → (a >>= f) ≡ a
 unfolding _>>=_
-bind-done (refused why) f e = refl
-bind-done (done d) f e = e d
+bind-itself (refused why) f e = refl
+bind-itself (done d) f e = e d
 
 -- two binds of one outcome agree where what follows does
 bind-same : {A B : Type 0} (a : Result A) (f g : A → Result B) → ((d : A) → f d ≡ g d) → (a >>= f) ≡ (a >>= g)
@@ -31,7 +31,7 @@ bind-same (done d) f g e = e d
 literal-step : {A : Type 0} (j : Judge A) (d : Place A) (n : Name) (ns : List Name)
     → literal-walk j d (n ∷ ns) ≡ (require (j .passes (d .here)) Access >> (look n (d .below) >>= onward j ns))
 unfolding literal-walk onward
-literal-step j d n [] = rw (bind-done (look n (d .below)) (onward j []) (λ e. refl))
+literal-step j d n [] = rw (bind-itself (look n (d .below)) (onward j []) (λ e. refl))
 literal-step j d n (m ∷ ns) = refl
 
 onward-step : {A : Type 0} (j : Judge A) (n : Name) (ns : List Name) (a : Result (Place A))
@@ -44,7 +44,7 @@ onward-step j n ns (done d) =
 onward-walk : {A : Type 0} (j : Judge A) (t : Place A) (q : Path) (ns : List Name)
     → walk j t (extended q ns) ≡ (walk j t q >>= onward j ns)
 unfolding extended walk onward
-onward-walk j t q [] = sym (bind-done (walk j t q) (onward j []) (λ e. refl))
+onward-walk j t q [] = sym (bind-itself (walk j t q) (onward j []) (λ e. refl))
 onward-walk j t q (n ∷ ns) = onward-walk j t (q ▹ n) ns ∙ onward-step j n ns (walk j t q)
 
 -- from a directory, the walk along the names is document 01's

@@ -19,7 +19,7 @@ use Rattle.tree.specs.Walk.{Judge, by-modes, enter, walk}
 use Rattle.tree.specs.StepLaws.{entered}
 use Rattle.tree.specs.JudgeLaws.{kind-by-modes}
 use Rattle.tree.specs.WellFormed.{most-nodes, nodes, is-node, leads, is-forest, is-place, is-tree}
-use Rattle.tree.specs.UpdateLaws.{child-at, walked-at, height-below}
+use Rattle.tree.specs.UpdateLaws.{place-at-parent, walked-at, height-below}
 
 -- ---- parts
 
@@ -169,7 +169,7 @@ pub entered-directory : (a : Account) (n : Node) → enter (by-modes a) n ≡ do
 entered-directory a n e = rw (kind-by-modes a n) at (entered (by-modes a) n e .0)
 
 -- a child in a well-formed forest is well-formed
-pub get-place : (n : Name) (F : Forest Node) (d : Place Node) → is-forest F ≡ true → get n F ≡ some d → is-place d ≡ true
+get-place : (n : Name) (F : Forest Node) (d : Place Node) → is-forest F ≡ true → get n F ≡ some d → is-place d ≡ true
 unfolding get
 get-place n nil d h e = no-answer e
 get-place n (node k y cs rest) d h e =
@@ -184,7 +184,7 @@ pub place-below : (t : Place Node) (p : Path) (d : Place Node) → is-place t �
 unfolding place-at
 place-below t root d h e = rw (answered e) h
 place-below t (p ▹ n) d h e =
-    let i = child-at t p n d e in
+    let i = place-at-parent t p n d e in
     get-place n (i .0 .below) d (place-parts (i .0) (place-below t p (i .0) h (i .1)) .forest) (i .2)
 
 -- a walk in a well-formed tree leads to a well-formed place

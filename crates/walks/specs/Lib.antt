@@ -1,5 +1,8 @@
 pub mod RowBelow
 pub mod RowBelowLaws
+pub mod NamesWritten
+pub mod NamesWrittenLaws
 pub mod RowWalk
 pub mod RowWalkLaws
-pub mod WalkAtLaws
+pub mod WalkBytes
+pub mod WalkBytesLaws

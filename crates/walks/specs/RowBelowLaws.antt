@@ -1,59 +1,58 @@
 -- What the rows below a row tell is what the tree has there, and what the loops of the code go by.
 --
 -- In order:
---   the rows below by index, the greatest depth among them and their names, row by row: below-go to row-name-fits;
---   names written over a buffer: over-paste to named-length;
+--   the rows below by index, the greatest depth among them and their names, row by row: below-go to name-elsewhere;
 --   the three answers by index: children-by-next to child-text-from;
 --   on siblings' rows: first-deeper to names-flatten;
---   on the rows of a tree: has-children-of-tree, height-of-tree, child-text-of-tree.
+--   at a place of a tree: at-has-children, at-height, at-child-text.
 use mathlib.Core.Path.{_≡_, refl, sym, _∙_, ap}
-use mathlib.Core.List.{List, [], _∷_, _++_, append-assoc}
-use mathlib.Core.Option.{some}
+use mathlib.Core.List.{List, [], _∷_, _++_}
 use mathlib.Core.Bool.{true, false, not}
 use Prim.Native.Nat.{ℕ, suc, _+_, _-_, _≤_, _<_}
 use native.Mathlib.Omega.{arith}
 use native.Mathlib.Numerals.{add-one}
 use lib.Dec.{eqb, ltb}
-use lib.ListN.{length, set, take, drop, length-append, length-take}
-use lib.Seq.{drop-cons, take-at, take-length, take-append-seam, drop-append-add, set-split, drop-drop, paste}
+use lib.ListN.{drop}
+use lib.Seq.{drop-cons, take-at}
 use borrow.Author.Tests.{lt-ltb, le-ltb, le-leb, eq-eqb, ne-eqb}
 use Rattle.buffers.specs.Cases.{case}
 use Rattle.buffers.specs.Text.{Text}
-use Rattle.buffers.specs.Fields.{unpadded, text-at}
 use Rattle.syntax.specs.Pieces.{comma, joined}
 use Rattle.syntax.specs.Path.{Path, depth}
-use Rattle.tree.specs.Forest.{Forest, nil, node, Place, is-empty, place-at, larger, height, names}
+use Rattle.tree.specs.Forest.{Forest, nil, node, Place, is-empty, larger, height, names}
 use Rattle.tree.specs.ForestLaws.{larger-bounds, larger-least}
 use Rattle.tree.specs.Node.{Node}
 use Rattle.tree.specs.Rows.{Row, flatten, rows}
 use Rattle.tree.specs.RowLaws.{length-flatten}
-use Rattle.tree.specs.WellFormed.{is-tree}
-use Rattle.tree.specs.Encoding.{row-of, encode-tree}
-use Rattle.tree.specs.RowContext.{ends, index-of, Around, around}
-use Rattle.tree.specs.RowScan.{span, first-passes, deeper, first-at, span-end, ends-deeper, rows-from-children, subtree-span}
-use Rattle.tree.specs.RowAt.{row-count, row-bytes-at, row-at, all-rows, depth-of}
-use Rattle.tree.specs.RowAtLaws.{length-all-rows, row-in-rows, depth-of-row, depth-of-place, scan-stop, scan-end, all-rows-of-tree}
-use Rattle.walks.specs.RowBelow.{front-below, rows-below, has-children, deepest, height-in, names-at, child-text, over, next-place, Named}
+use Rattle.tree.specs.RowScan.{span, first-passes, is-deeper, depth-of}
+use Rattle.tree.specs.RowPlaces.{ends, index-of, Around}
+use Rattle.tree.specs.RowPlacesLaws.{around}
+use Rattle.tree.specs.RowScanLaws.{first-at, span-end, ends-deeper, rows-from-children, subtree-span, depth-of-place}
+use Rattle.tree.specs.RowAt.{row-count, row-at, all-rows}
+use Rattle.tree.specs.TreeBytes.{At}
+use Rattle.tree.specs.RowAtLaws.{length-all-rows, row-in-rows, depth-of-row, scan-stop, scan-end}
+use Rattle.tree.specs.TreeBytesLaws.{encoded-rows}
+use Rattle.walks.specs.RowBelow.{front-below, rows-below, has-children-in, deepest, height-in, names-in, child-text-in}
 
 -- ---- rows below, by index
 
 module _ (b : List ℕ) (k i : ℕ) where
   -- a deeper row lies below
   below-go : i < row-count b → k < row-at b i .depth → front-below k (drop i (all-rows b)) ≡ row-at b i ∷ front-below k (drop (suc i) (all-rows b))
-  unfolding front-below span deeper
+  unfolding front-below span is-deeper
   below-go h l =
       let q = drop-cons (all-rows b) i (row-at b i) (omega (arith, length-all-rows b)) ∙ ap (λ (r : Row Node). r ∷ drop (suc i) (all-rows b)) (row-in-rows b i (row-at b i) h) in
       rw q (rw (lt-ltb k (row-at b i .depth) l))
 
   -- one that is not ends them
   below-stop : i < row-count b → row-at b i .depth ≤ k → front-below k (drop i (all-rows b)) ≡ []
-  unfolding front-below deeper
-  below-stop h l = rw (scan-stop b (deeper k) i h (le-ltb k (row-at b i .depth) l))
+  unfolding front-below is-deeper
+  below-stop h l = rw (scan-stop b (is-deeper k) i h (le-ltb k (row-at b i .depth) l))
 
   -- and so does the end
   below-end : row-count b ≤ i → front-below k (drop i (all-rows b)) ≡ []
   unfolding front-below
-  below-end h = rw (scan-end b (deeper k) i h)
+  below-end h = rw (scan-end b (is-deeper k) i h)
 
 -- ---- the greatest depth, row by row
 
@@ -77,8 +76,8 @@ module _ (b : List ℕ) (k i m : ℕ) where
 -- ---- names, row by row
 
 -- the names of rows made of two parts
-names-append : (k : ℕ) (xs ys : List (Row Node)) → names-at k (xs ++ ys) ≡ names-at k xs ++ names-at k ys
-unfolding names-at
+names-append : (k : ℕ) (xs ys : List (Row Node)) → names-in k (xs ++ ys) ≡ names-in k xs ++ names-in k ys
+unfolding names-in
 names-append k [] ys = refl
 names-append k (x ∷ xs) ys = case (eqb (x .depth) k)
     (λ e. rw e (ap (λ (l : List Text). x .name ∷ l) (names-append k xs ys)))
@@ -87,128 +86,44 @@ names-append k (x ∷ xs) ys = case (eqb (x .depth) k)
 module _ (b : List ℕ) (k i j : ℕ) where
   -- a deeper row's name comes first, if the row lies at the depth
   pub names-go : i < row-count b → k < row-at b i .depth
-      → names-at j (front-below k (drop i (all-rows b))) ≡ names-at j (row-at b i ∷ []) ++ names-at j (front-below k (drop (i + 1) (all-rows b)))
+      → names-in j (front-below k (drop i (all-rows b))) ≡ names-in j (row-at b i ∷ []) ++ names-in j (front-below k (drop (i + 1) (all-rows b)))
   names-go h l = rw (below-go b k i h l, add-one) (names-append j (row-at b i ∷ []) (front-below k (drop (suc i) (all-rows b))))
 
   -- one that is not leaves no names
-  pub names-stop : i < row-count b → row-at b i .depth ≤ k → names-at j (front-below k (drop i (all-rows b))) ≡ []
-  unfolding names-at
+  pub names-stop : i < row-count b → row-at b i .depth ≤ k → names-in j (front-below k (drop i (all-rows b))) ≡ []
+  unfolding names-in
   names-stop h l = rw (below-stop b k i h l)
 
   -- and so does the end
-  pub names-end : row-count b ≤ i → names-at j (front-below k (drop i (all-rows b))) ≡ []
-  unfolding names-at
+  pub names-end : row-count b ≤ i → names-in j (front-below k (drop i (all-rows b))) ≡ []
+  unfolding names-in
   names-end h = rw (below-end b k i h)
 
 -- a row at a depth is named
-pub name-there : (k : ℕ) (r : Row Node) → r .depth ≡ k → names-at k (r ∷ []) ≡ r .name ∷ []
-unfolding names-at
+pub name-there : (k : ℕ) (r : Row Node) → r .depth ≡ k → names-in k (r ∷ []) ≡ r .name ∷ []
+unfolding names-in
 name-there k r e = rw (eq-eqb (r .depth) k e)
 
 -- one elsewhere is not
-pub name-elsewhere : (k : ℕ) (r : Row Node) → (r .depth ≡ k → ⊥) → names-at k (r ∷ []) ≡ []
-unfolding names-at
+pub name-elsewhere : (k : ℕ) (r : Row Node) → (r .depth ≡ k → ⊥) → names-in k (r ∷ []) ≡ []
+unfolding names-in
 name-elsewhere k r e = rw (ne-eqb (r .depth) k e)
-
--- a text without the zeros is no longer than with them
-unpadded-fits : (l : List ℕ) → length (unpadded l) ≤ length l
-unfolding unpadded
-unpadded-fits [] = omega arith
-unpadded-fits (x ∷ l) = let i = unpadded-fits l in case (eqb x 0) (λ e. rw e (omega arith)) (λ e. rw e (omega arith))
-
--- a name has at most 8 bytes
-pub row-name-fits : (b : List ℕ) (i : ℕ) → length (row-at b i .name) ≤ 8
-unfolding row-at row-of text-at
-row-name-fits b i =
-    let l = drop 8 (row-bytes-at b i) in
-    omega (arith, unpadded-fits (take 8 l), length-take 8 l)
-
--- ---- texts written over a buffer
-
--- a copy of all bytes of a text
-pub over-paste : (b t : List ℕ) (place : ℕ) → paste b place t (length t) ≡ over place t b
-unfolding over
-over-paste b t place = rw (take-length t) (append-assoc (take place b) t (drop (place + length t) b))
-
--- one byte is a store
-over-byte : (b : List ℕ) (i x : ℕ) → i < length b → set b i x ≡ over i (x ∷ []) b
-unfolding over
-over-byte b i x h = rw add-one (set-split b i x h)
-
--- a text behind another is both
-over-more : (s t a : List ℕ) → over (length s) t (s ++ drop (length s) a) ≡ (s ++ t) ++ drop (length (s ++ t)) a
-unfolding over
-over-more s t a =
-    rw (
-      take-append-seam s (drop (length s) a),
-      drop-append-add s (drop (length s) a) (length t),
-      drop-drop (length t) (length s) a,
-      length-append s t,
-    ) (sym (append-assoc s t (drop (length s + length t) a)))
-
--- what is joined, part by part
-regroup-joined : (n : Text) (c : ℕ) (t m : Text) → n ++ (c ∷ ((t ++ (c ∷ [])) ++ m)) ≡ ((n ++ (c ∷ t)) ++ (c ∷ [])) ++ m
-regroup-joined n c t m = simp append-assoc
-
--- one more text joined to others
-joined-more : (c : ℕ) (n : Text) (ns : List Text) (m : Text) → joined c ((n ∷ ns) ++ (m ∷ [])) ≡ (joined c (n ∷ ns) ++ (c ∷ [])) ++ m
-unfolding joined
-joined-more c n [] m = sym (append-assoc n (c ∷ []) m)
-joined-more c n (q ∷ qs) m =
-    ap (λ (l : Text). n ++ (c ∷ l)) (joined-more c q qs m)
-    ∙ regroup-joined n c (joined c (q ∷ qs)) m
-
-module _ (a b z : List ℕ) (m : Text) (place : ℕ) where
-  -- the first name is written without a comma
-  pub named-first : (ns : List Text) → Named a ns b place → place ≡ 0 → z ≡ over 0 m b → Named a (ns ++ (m ∷ [])) z (length m + 1)
-  unfolding next-place joined
-  named-first [] v h e = record { holds = e ∙ rw (v .holds) (over-more [] m a); next = add-one (length m) }
-  named-first (n ∷ ns) v h e = let x : ⊥ = omega (arith, v .next) in absurd x
-
-  -- another behind a comma
-  pub named-more : (ns : List Text) → Named a ns b place → (place ≡ 0 → ⊥) → place ≤ length b → z ≡ over place m (set b (place - 1) 44)
-      → Named a (ns ++ (m ∷ [])) z (place + length m + 1)
-  unfolding next-place comma
-  named-more [] v h l e = absurd (h (v .next))
-  named-more (n ∷ ns) v h l e =
-      let t = joined 44 (n ∷ ns) in
-      let u = t ++ (44 ∷ []) in
-      let p : place - 1 ≡ length t = omega (arith, v .next) in
-      let q : place ≡ length u = omega (arith, v .next, length-append t (44 ∷ [])) in
-      let first : set b (place - 1) 44 ≡ u ++ drop (length u) a =
-      over-byte b (place - 1) 44 (omega (arith, v .next)) ∙ rw (p, v .holds) (over-more t (44 ∷ []) a) in
-      let all = joined-more 44 n ns m in
-      record {
-        holds = e ∙ rw (first, all, q) (over-more u m a);
-        next = ap (λ (k : ℕ). k + length m + 1) q ∙ add-one (length u + length m) ∙ ap suc (sym (length-append u m) ∙ ap length (sym all));
-      }
-
--- no name is written yet
-pub named-nothing : (a : List ℕ) → Named a [] a 0
-unfolding next-place joined
-named-nothing a = record { holds = refl; next = refl }
-
--- the bytes of the names are those before the comma of the next
-pub named-length : (ns : List Text) → length (joined comma ns) ≡ next-place ns - 1
-unfolding next-place joined
-named-length [] = refl
-named-length (n ∷ ns) = omega arith
 
 -- ---- the three answers, by index
 
 module _ (b : List ℕ) (at : ℕ) (h : at < row-count b) where
   -- a row has children if the next one is deeper
-  pub children-by-next : at + 1 < row-count b → has-children (all-rows b) at ≡ ltb (row-at b at .depth) (row-at b (at + 1) .depth)
-  unfolding has-children deeper
+  pub children-by-next : at + 1 < row-count b → has-children-in (all-rows b) at ≡ ltb (row-at b at .depth) (row-at b (at + 1) .depth)
+  unfolding has-children-in is-deeper
   children-by-next l =
       rw (depth-of-row b at h, add-one)
-      (first-at (deeper (row-at b at .depth)) (all-rows b) (suc at) (row-at b (suc at)) (omega (arith, length-all-rows b))
-      ∙ ap (deeper (row-at b at .depth)) (row-in-rows b (suc at) (row-at b (suc at)) (omega arith)))
+      (first-at (is-deeper (row-at b at .depth)) (all-rows b) (suc at) (row-at b (suc at)) (omega (arith, length-all-rows b))
+      ∙ ap (is-deeper (row-at b at .depth)) (row-in-rows b (suc at) (row-at b (suc at)) (omega arith)))
 
   -- the last row has none
-  pub no-next : row-count b ≤ at + 1 → has-children (all-rows b) at ≡ false
-  unfolding has-children
-  no-next l = span-end (deeper (depth-of (all-rows b) at)) (all-rows b) (suc at) (omega (arith, length-all-rows b)) .1
+  pub no-next : row-count b ≤ at + 1 → has-children-in (all-rows b) at ≡ false
+  unfolding has-children-in
+  no-next l = span-end (is-deeper (depth-of (all-rows b) at)) (all-rows b) (suc at) (omega (arith, length-all-rows b)) .1
 
   module _ (k : ℕ) (e : k ≡ row-at b at .depth) where
     -- the rows below are those in front of what follows
@@ -222,16 +137,16 @@ module _ (b : List ℕ) (at : ℕ) (h : at < row-count b) where
     height-from = rw (below-from, depth-of-row b at h, ← e)
 
     -- the names of the children, from those at the next depth
-    pub child-text-from : child-text (all-rows b) at ≡ joined comma (names-at (suc k) (front-below k (drop (at + 1) (all-rows b))))
-    unfolding child-text
+    pub child-text-from : child-text-in (all-rows b) at ≡ joined comma (names-in (suc k) (front-below k (drop (at + 1) (all-rows b))))
+    unfolding child-text-in
     child-text-from = rw (below-from, depth-of-row b at h, ← e)
 
 -- ---- siblings' rows
 
 -- the first row is deeper if there are siblings
 first-deeper : {A : Type 0} (k : ℕ) (F : Forest A) (B : List (Row A)) → ends k B ≡ true
-    → first-passes (deeper k) (flatten (suc k) F ++ B) ≡ not (is-empty F)
-unfolding flatten is-empty first-passes deeper
+    → first-passes (is-deeper k) (flatten (suc k) F ++ B) ≡ not (is-empty F)
+unfolding flatten is-empty first-passes is-deeper
 first-deeper k nil B h = ends-deeper k B h
 first-deeper k (node n x cs rest) B h = lt-ltb k (suc k) (omega arith)
 
@@ -287,15 +202,15 @@ deepest-flatten m k (node n x cs rest) h =
     ∙ larger-steps m k (height cs) (height rest) h
 
 -- no row of siblings further down lies at a depth
-names-deeper : (k j : ℕ) (F : Forest Node) → k < j → names-at k (flatten j F) ≡ []
-unfolding names-at flatten
+names-deeper : (k j : ℕ) (F : Forest Node) → k < j → names-in k (flatten j F) ≡ []
+unfolding names-in flatten
 names-deeper k j nil h = refl
 names-deeper k j (node n x cs rest) h =
     rw (ne-eqb j k (λ e. omega arith), names-append k (flatten (suc j) cs) (flatten j rest), names-deeper k (suc j) cs (omega arith)) (names-deeper k j rest h)
 
 -- the rows at the depth of siblings have their names
-names-flatten : (k : ℕ) (F : Forest Node) → names-at k (flatten k F) ≡ names F
-unfolding names-at flatten names
+names-flatten : (k : ℕ) (F : Forest Node) → names-in k (flatten k F) ≡ names F
+unfolding names-in flatten names
 names-flatten k nil = refl
 names-flatten k (node n x cs rest) =
     rw (eq-eqb k k refl, names-append k (flatten (suc k) cs) (flatten k rest), names-deeper k (suc k) cs (omega arith))
@@ -312,8 +227,8 @@ module _ {t : Place Node} {p : Path} {d : Place Node} (c : Around t p d) where
       (take-at (flatten (suc (depth p)) (d .below)) (c .post) _ (length-flatten (suc (depth p)) (d .below)))
 
   -- a place has children if its forest is not empty
-  place-has-children : has-children (rows t) (index-of t p) ≡ not (is-empty (d .below))
-  unfolding has-children
+  place-has-children : has-children-in (rows t) (index-of t p) ≡ not (is-empty (d .below))
+  unfolding has-children-in
   place-has-children = rw (depth-of-place c, rows-from-children c) (first-deeper (depth p) (d .below) (c .post) (c .stops))
 
   -- they go as far down as the forest is high
@@ -326,19 +241,19 @@ module _ {t : Place Node} {p : Path} {d : Place Node} (c : Around t p d) where
       omega arith)
 
   -- those one level down have the children's names
-  child-text-of-place : child-text (rows t) (index-of t p) ≡ joined comma (names (d .below))
-  unfolding child-text
+  child-text-of-place : child-text-in (rows t) (index-of t p) ≡ joined comma (names (d .below))
+  unfolding child-text-in
   child-text-of-place = rw (depth-of-place c, rows-below-place, names-flatten (suc (depth p)) (d .below))
 
-module _ (t : Place Node) (p : Path) (d : Place Node) (h : is-tree t ≡ true) (e : place-at t p ≡ some d) where
+module _ {b : List ℕ} {t : Place Node} {p : Path} {i : ℕ} {d : Place Node} (a : At b t p i d) where
   -- a row has children if the place has
-  pub has-children-of-tree : has-children (all-rows (encode-tree t)) (index-of t p) ≡ not (is-empty (d .below))
-  has-children-of-tree = rw (all-rows-of-tree t h) (place-has-children (around t p d e))
+  pub at-has-children : has-children-in (all-rows b) i ≡ not (is-empty (d .below))
+  at-has-children = rw (encoded-rows (a .tree), a .row) (place-has-children (around t p d (a .there)))
 
   -- the rows below go as far down as the place's forest is high
-  pub height-of-tree : height-in (all-rows (encode-tree t)) (index-of t p) ≡ height (d .below)
-  height-of-tree = rw (all-rows-of-tree t h) (height-of-place (around t p d e))
+  pub at-height : height-in (all-rows b) i ≡ height (d .below)
+  at-height = rw (encoded-rows (a .tree), a .row) (height-of-place (around t p d (a .there)))
 
   -- the names are those of the place's children
-  pub child-text-of-tree : child-text (all-rows (encode-tree t)) (index-of t p) ≡ joined comma (names (d .below))
-  child-text-of-tree = rw (all-rows-of-tree t h) (child-text-of-place (around t p d e))
+  pub at-child-text : child-text-in (all-rows b) i ≡ joined comma (names (d .below))
+  at-child-text = rw (encoded-rows (a .tree), a .row) (child-text-of-place (around t p d (a .there)))

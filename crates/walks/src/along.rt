@@ -26,7 +26,7 @@ fn enter(tree: &[u8], account: Account, row: usize, above: usize) -> Walked
             if !may_at(tree, row, account, Right::X) {
                 return Walked::Refused(Cause::Access);
             }
-            Walked::At { row, above }
+            Walked::To { row, above }
         }
     }
 }
@@ -37,8 +37,8 @@ fn step(tree: &[u8], account: Account, row: usize, above: usize, name: &[u8]) ->
     ensures { λ r. ⌜ outcome r ≡ step-in account (all-rows (now (tree .entry))) (spot row above) (now (name .entry)) ⌝ }
 {
     match enter(tree, account, row, above) {
-        Walked::At { row: _, above: _ } => match find_child(tree, row, name) {
-            Child::Found(i) => Walked::At { row: i, above: row },
+        Walked::To { row: _, above: _ } => match find_child(tree, row, name) {
+            Child::Found(i) => Walked::To { row: i, above: row },
             Child::Missing(_) => Walked::Refused(Cause::Missing),
         },
         Walked::Refused(cause) => Walked::Refused(cause),
@@ -62,7 +62,7 @@ pub fn walk(tree: &[u8], account: Account, path: &[u8]) -> Walked
                 above,
                 &path[start..end],
             ) {
-                Walked::At { row: r, above: a } => {
+                Walked::To { row: r, above: a } => {
                     row = r;
                     above = a;
                     names = rest;
@@ -72,7 +72,7 @@ pub fn walk(tree: &[u8], account: Account, path: &[u8]) -> Walked
                 }
             },
             NextName::End => {
-                return Walked::At { row, above };
+                return Walked::To { row, above };
             }
         }
     }
@@ -85,7 +85,7 @@ pub fn parent_walk(tree: &[u8], account: Account, path: &[u8]) -> Walked
 {
     let slash = syntax::last_slash(path);
     match walk(tree, account, &path[..slash]) {
-        Walked::At { row, above } => enter(tree, account, row, above),
+        Walked::To { row, above } => enter(tree, account, row, above),
         Walked::Refused(cause) => Walked::Refused(cause),
     }
 }

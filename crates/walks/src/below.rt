@@ -1,13 +1,14 @@
 // What lies below a row: whether anything does, how far down it goes, and the names of the children.
 ghost use mathlib.Core.Path.{_≡_};
-ghost use mathlib.Core.List.{[], _∷_, _++_};
+ghost use mathlib.Core.List.{[], _∷_};
 ghost use Prim.Native.Nat.{_+_, _-_, _≤_, _<_};
-ghost use lib.ListN.{length, drop};
+ghost use lib.ListN.{length};
 ghost use Rattle.tree.specs.Layout.{name-width};
 ghost use Rattle.tree.specs.Forest.{larger};
 ghost use Rattle.tree.specs.RowAt.{row-at, all-rows};
 ghost use Rattle.tree.specs.TreeBytes.{Has-row, Used};
-ghost use Rattle.walks.specs.RowBelow.{has-children, height-in, names-at, child-text, Adds};
+ghost use Rattle.walks.specs.RowBelow.{has-children-in, height-in, names-in, child-text-in};
+ghost use Rattle.walks.specs.NamesWritten.{all-names-width, Writes-one, Answers};
 use buffers::write;
 use tree::count;
 use tree::depth_at;
@@ -16,7 +17,7 @@ use tree::name_at;
 // Whether a row has children: the first would be the next row.
 pub fn has_children(tree: &[u8], at: usize) -> bool
     requires { ⌜ Used (now tree) at ⌝ }
-    ensures { λ r. ⌜ r ≡ has-children (all-rows (now (tree .entry))) at ⌝ }
+    ensures { λ r. ⌜ r ≡ has-children-in (all-rows (now (tree .entry))) at ⌝ }
 {
     if count(tree) <= at + 1 {
         return false;
@@ -57,7 +58,7 @@ pub fn height_below(tree: &[u8], at: usize) -> usize
 fn add_name(answer: &mut [u8], place: usize, name: &[u8]) -> usize
     requires { ⌜ place + length (now name) ≤ length (now answer) ⌝ }
     requires { ⌜ length (now name) ≤ name-width ⌝ }
-    ensures { λ r. ⌜ Adds (now (name .entry) ∷ []) (now (answer .entry)) place (now (answer .exit)) r × (r ≤ place + 9) ⌝ }
+    ensures { λ r. ⌜ Writes-one (now (name .entry) ∷ []) (now (answer .entry)) place (now (answer .exit)) r ⌝ }
 {
     if place == 0 {
         write(answer, 0, name, name.len());
@@ -71,8 +72,8 @@ fn add_name(answer: &mut [u8], place: usize, name: &[u8]) -> usize
 // Adds the name of a row to those written if the row lies at a depth.
 fn add_child(tree: &[u8], i: usize, depth: usize, answer: &mut [u8], place: usize) -> usize
     requires { ⌜ Has-row (now tree) i ⌝ }
-    requires { ⌜ place + 8 ≤ length (now answer) ⌝ }
-    ensures { λ r. ⌜ Adds (names-at depth (row-at (now (tree .entry)) i ∷ [])) (now (answer .entry)) place (now (answer .exit)) r × (r ≤ place + 9) ⌝ }
+    requires { ⌜ place + name-width ≤ length (now answer) ⌝ }
+    ensures { λ r. ⌜ Writes-one (names-in depth (row-at (now (tree .entry)) i ∷ [])) (now (answer .entry)) place (now (answer .exit)) r ⌝ }
 {
     if depth_at(tree, i) as usize != depth {
         return place;
@@ -93,8 +94,8 @@ fn bytes_before(place: usize) -> usize
 // Writes the names of the children, parted by commas, over the answer, and tells how many bytes they take.
 pub fn child_names(tree: &[u8], at: usize, answer: &mut [u8]) -> usize
     requires { ⌜ Used (now tree) at ⌝ }
-    requires { ⌜ 2304 ≤ length (now answer) ⌝ }
-    ensures { λ r. ⌜ (let text = child-text (all-rows (now (tree .entry))) at in (r ≡ length text) × (now (answer .exit) ≡ text ++ drop (length text) (now (answer .entry)))) ⌝ }
+    requires { ⌜ all-names-width ≤ length (now answer) ⌝ }
+    ensures { λ r. ⌜ Answers (child-text-in (all-rows (now (tree .entry))) at) (now (answer .entry)) r (now (answer .exit)) ⌝ }
 {
     let n = count(tree);
     let depth = depth_at(tree, at) as usize + 1;

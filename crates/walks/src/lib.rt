@@ -14,6 +14,6 @@ use tree::Cause;
 
 // Where a walk came to: the row of the place and that of the directory above it, or why it was refused.
 pub enum Walked {
-    At { row: usize, above: usize },
+    To { row: usize, above: usize },
     Refused(Cause),
 }

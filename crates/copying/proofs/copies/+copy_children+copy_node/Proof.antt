@@ -3,7 +3,8 @@ use mathlib.Core.Path.{sym, _∙_}
 use native.Mathlib.Omega.{arith}
 use denote.Ref.{now}
 use borrow.Author.Tests.{not-true, not-false}
-use Rattle.tree.specs.RowAt.{row-count, all-rows, end-of-subtree}
+use Rattle.tree.specs.RowScan.{end-of-subtree}
+use Rattle.tree.specs.RowAt.{row-count, all-rows}
 use Rattle.copying.specs.CopyRows.{children, Job}
 use Rattle.copying.specs.CopyRowLaws.{end-above}
 use Rattle.copying.specs.CopyJobLaws.{Turn, node-held, node-room, node-low, node-spelled, node-skipped, node-children, node-written, no-level, turn-start, turn-wide, turn-end, turn-job, turn-again}

@@ -1,7 +1,6 @@
 -- `copying::copies::copy_row` meets its contract: the row handed over, and the tag below that of another.
 use mathlib.Core.Path.{ap, _∙_}
 use Prim.Native.Nat.{ℕ, suc}
-use native.Mathlib.Omega.{arith}
 use native.Mathlib.Numerals.{add-one}
 use denote.Ref.{now}
 use Rattle.tree.specs.RowAt.{row-at}

@@ -28,7 +28,7 @@ enum-told c = search needs
 returns : tie.Need-returns
 returns c v =
     let t = c .before .row .given in
-    vacant-row v superuser (t .0 .0) (t .0 .1 .0) is-superuser (ap outcome (sym (t .1)) ∙ c .before .before .before .parent-walk .ensures)
+    vacant-row v superuser (t .0 .0) (t .0 .1 .0) (ap outcome (sym (t .1)) ∙ c .before .before .before .parent-walk .ensures)
 
 returns-2 : tie.Need-returns-2
 returns-2 c v =

@@ -1,6 +1,6 @@
 -- `moving::subtree::move_place` meets its contract: the array that is chosen has room for the rows of the place.
 use native.Mathlib.Omega.{arith}
-use Rattle.moving.specs.AtLaws.{at-used}
+use Rattle.tree.specs.TreeBytesLaws.{at-used}
 use Rattle.moving.specs.MovingLaws.{movable-span}
 use Rattle.moving.proofs.subtree.move_place.Statement.{statement}
 use Rattle.moving.proofs.subtree.move_place.Tie as tie

@@ -4,7 +4,7 @@ use native.Mathlib.Omega.{arith}
 use lib.ListN.{length}
 use denote.Ref.{now}
 use Rattle.buffers.specs.Cases.{answers-false, answers-true}
-use Rattle.tree.specs.Encoding.{row-of}
+use Rattle.tree.specs.Encoding.{read-row}
 use Rattle.tree.specs.RowAt.{row-at}
 use Rattle.syntax.specs.Field.{is-content}
 use Rattle.soundness.specs.FieldTestLaws.{text-fits, content-bytes, content-kind, content-rest}
@@ -54,7 +54,7 @@ add-is-zero-3 : tie.Need-add-is-zero-3
 add-is-zero-3 c = search needs
 
 is-zero-requires : tie.Need-is-zero-requires
-unfolding row-at row-of
+unfolding row-at read-row
 is-zero-requires c κs =
     let a = c .before .before .before .before .before .before .before .before .args in
     let f = text-fits (now (a .tree)) (a .i) (omega arith) (omega arith) 72 80 (omega arith) in

@@ -3,7 +3,7 @@ use mathlib.Core.Path.{sym, _∙_, ap}
 use native.Mathlib.Omega.{arith}
 use lib.ListN.{length}
 use denote.Ref.{now}
-use Rattle.tree.specs.Encoding.{row-of}
+use Rattle.tree.specs.Encoding.{read-row}
 use Rattle.tree.specs.RowAt.{row-at}
 use Rattle.soundness.specs.FieldTestLaws.{text-fits, filled-in-row}
 use borrow.Author.Needs.{needs}
@@ -29,7 +29,7 @@ add-is-zero-3 : tie.Need-add-is-zero-3
 add-is-zero-3 c = search needs
 
 is-zero-requires : tie.Need-is-zero-requires
-unfolding row-at row-of
+unfolding row-at read-row
 is-zero-requires c κs =
     let a = c .before .before .args in
     let f = text-fits (now (a .tree)) (a .i) (omega arith) (omega arith) 8 8 (omega arith) in
@@ -37,7 +37,7 @@ is-zero-requires c κs =
     (omega arith, omega arith)
 
 returns : tie.Need-returns
-unfolding row-at row-of
+unfolding row-at read-row
 returns c =
     let a = c .before .before .before .args in
     let n = c .before .name-at in

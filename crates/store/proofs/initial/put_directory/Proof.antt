@@ -1,10 +1,9 @@
 -- `store::initial::put_directory` meets its contract: the row is put in where the search says that it belongs.
 use mathlib.Core.Path.{sym, _∙_}
-use native.Mathlib.Omega.{arith}
 use denote.Ref.{now}
 use Rattle.edits.specs.Changes.{fresh-node}
 use Rattle.store.specs.Initial.{directory-of}
-use Rattle.store.specs.InitialRowsLaws.{opens-sized, opens-short, not-found, spot-within, directory-put}
+use Rattle.store.specs.InitialRowsLaws.{top-used, opens-short, not-found, spot-opens, directory-put}
 use borrow.Author.Needs.{needs}
 use Rattle.store.proofs.initial.put_directory.Statement.{statement}
 use Rattle.store.proofs.initial.put_directory.Tie as tie
@@ -12,8 +11,7 @@ use Rattle.store.proofs.initial.put_directory.Tie as tie
 find-child-requires : tie.Need-find-child-requires
 find-child-requires c κs =
     let s = c .before .before .before in
-    let z = opens-sized (now (s .args .tree)) (now (s .args .name)) (s .pre .0) (s .pre .1) in
-    omega (arith, z)
+    top-used (now (s .args .tree)) (now (s .args .name)) (s .pre .0) (s .pre .1)
 
 enum-told : tie.Need-enum-told
 enum-told c = search needs
@@ -26,10 +24,9 @@ put-child-requires c κs =
     let s = c .before .before .before .before .before .before .before .before in
     let b = now (s .args .tree) in
     let n = now (s .args .name) in
-    let z = opens-sized b n (s .pre .0) (s .pre .1) in
     let k = c .before .before .j .given in
     let found = sym (k .1) ∙ c .before .before .before .before .find-child .ensures in
-    (record { wide = z .0; inside = spot-within b n (s .pre .0) (s .pre .1) (k .0 .0) found; room = omega (arith, z .2) }, opens-short b n (s .pre .0) (s .pre .1))
+    (spot-opens b n (s .pre .0) (s .pre .1) (k .0 .0) found, opens-short b n (s .pre .0) (s .pre .1))
 
 same-length : tie.Need-same-length
 same-length c = search needs

@@ -13,7 +13,7 @@ use Rattle.store.proofs.initial.put_home.Tie as tie
 returns : tie.Need-returns
 returns c f h =
     let a = c .before .before .before .before .args in
-    h .encoded ∙ ap (λ (g : Forest Node). encode-tree (topped g)) (sym (no-home (a .uid) (a .person) f (c .if1 .taken)))
+    h .tree .bytes ∙ ap (λ (g : Forest Node). encode-tree (topped g)) (sym (no-home (a .uid) (a .person) f (c .if1 .taken)))
 
 add-t8 : tie.Need-add-t8
 add-t8 c = search needs

@@ -3,7 +3,6 @@ use mathlib.Core.Path.{_≡_, _∙_, ap}
 use mathlib.Core.List.{List, map}
 use Prim.Native.Nat.{ℕ, _-_, _≤_, _<_}
 use native.Mathlib.Omega.{arith}
-use lib.ListN.{length}
 use Rattle.setup.specs.declared.Person.{Person as Slot}
 use Rattle.setup.specs.Reader.{slot-value}
 use Rattle.tree.specs.Encoding.{encode-tree}

@@ -2,7 +2,7 @@
 use mathlib.Core.Path.{_∙_, sym}
 use native.Mathlib.Omega.{arith}
 use denote.Ref.{now}
-use Rattle.tree.specs.Encoding.{row-of}
+use Rattle.tree.specs.Encoding.{read-row}
 use Rattle.tree.specs.RowAt.{row-at}
 use Rattle.tree.specs.RowAtLaws.{text-in-row}
 use borrow.Author.Needs.{needs}
@@ -22,7 +22,7 @@ text-requires : tie.Need-text-requires
 text-requires c κs = search needs
 
 returns : tie.Need-returns
-unfolding row-at row-of
+unfolding row-at read-row
 returns c = c .text .ensures ∙ sym (text-in-row (now (c .before .before .args .tree)) (c .before .before .args .i) 8 8 (omega arith))
 
 pub name-at-spec : {M : Type 1} → statement M

@@ -4,7 +4,7 @@ use Prim.Native.Nat.{ℕ}
 use native.Mathlib.Omega.{arith}
 use denote.Ref.{now}
 use Rattle.accounts.specs.declared.Uid.{Uid}
-use Rattle.tree.specs.Encoding.{row-of}
+use Rattle.tree.specs.Encoding.{read-row}
 use Rattle.tree.specs.RowAt.{row-at}
 use Rattle.tree.specs.RowAtLaws.{byte-in-row}
 use borrow.Author.Needs.{needs}
@@ -24,7 +24,7 @@ shared-slice-read-t7 : tie.Need-shared-slice-read-t7
 shared-slice-read-t7 c = search needs
 
 returns : tie.Need-returns
-unfolding row-at row-of
+unfolding row-at read-row
 returns c = ap {B = Uid} (λ (b : ℕ). record { 0 = b }) (sym (byte-in-row (now (c .before .args .tree)) (c .before .args .i) 2 (omega arith)))
 
 pub owner-at-spec : {M : Type 1} → statement M

@@ -2,7 +2,7 @@
 use mathlib.Core.Path.{_∙_, sym}
 use native.Mathlib.Omega.{arith}
 use denote.Ref.{now}
-use Rattle.tree.specs.Encoding.{row-of}
+use Rattle.tree.specs.Encoding.{read-row}
 use Rattle.tree.specs.RowAt.{row-at}
 use Rattle.tree.specs.RowAtLaws.{number-in-row}
 use borrow.Author.Needs.{needs}
@@ -22,7 +22,7 @@ number-requires : tie.Need-number-requires
 number-requires c κs = search needs
 
 returns : tie.Need-returns
-unfolding row-at row-of
+unfolding row-at read-row
 returns c = c .number .ensures ∙ sym (number-in-row (now (c .before .before .args .tree)) (c .before .before .args .i) 6 (omega arith))
 
 pub revision-at-spec : {M : Type 1} → statement M

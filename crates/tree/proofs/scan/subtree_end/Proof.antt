@@ -4,8 +4,8 @@ use native.Mathlib.Omega.{arith}
 use mathlib.Core.Path.{_≡_, refl}
 use mathlib.Core.List.{List}
 use borrow.Author.Tests.{lt-ltb, le-ltb}
-use Rattle.tree.specs.RowScan.{deeper}
-use Rattle.tree.specs.RowAt.{row-count, row-at, all-rows, end-of-subtree}
+use Rattle.tree.specs.RowScan.{is-deeper, end-of-subtree}
+use Rattle.tree.specs.RowAt.{row-count, row-at, all-rows}
 use Rattle.tree.specs.RowAtLaws.{Scanned, scan-go, scan-stop, scan-end, end-at}
 use Rattle.tree.proofs.scan.subtree_end.Statement.{statement}
 use Rattle.tree.proofs.scan.subtree_end.Tie as tie
@@ -15,30 +15,30 @@ record Going (tree : List ℕ) (at n depth i : ℕ) : Type 0 where
   all : n ≡ row-count tree
   from : at < row-count tree
   level : depth ≡ row-at tree at .depth
-  goes : Scanned tree (deeper depth) (at + 1) i
+  goes : Scanned tree (is-deeper depth) (at + 1) i
 
 module _ {tree : List ℕ} {at n depth i : ℕ} (g : Going tree at n depth i) where
   -- a deeper row
   goes-on : i < n → depth < row-at tree i .depth → Going tree at n depth (i + 1)
-  unfolding deeper
+  unfolding is-deeper
   goes-on h e = record {
     le = omega arith;
     all = g .all;
     from = g .from;
     level = g .level;
-    goes = scan-go tree (deeper depth) i (at + 1) (omega (arith, g .all)) (lt-ltb depth (row-at tree i .depth) e) (g .goes);
+    goes = scan-go tree (is-deeper depth) i (at + 1) (omega (arith, g .all)) (lt-ltb depth (row-at tree i .depth) e) (g .goes);
   }
 
   -- one that is not
   stops : i < n → row-at tree i .depth ≤ depth → i ≡ end-of-subtree (all-rows tree) at
-  unfolding deeper
+  unfolding is-deeper
   stops h e =
-      let stop = scan-stop tree (deeper depth) i (omega (arith, g .all)) (le-ltb depth (row-at tree i .depth) e) in
+      let stop = scan-stop tree (is-deeper depth) i (omega (arith, g .all)) (le-ltb depth (row-at tree i .depth) e) in
       end-at tree at i (g .from) depth (g .level) (g .goes) stop
 
   -- the end of the rows
   ends : n ≤ i → i ≡ end-of-subtree (all-rows tree) at
-  ends h = end-at tree at i (g .from) depth (g .level) (g .goes) (scan-end tree (deeper depth) i (omega (arith, g .all)))
+  ends h = end-at tree at i (g .from) depth (g .level) (g .goes) (scan-end tree (is-deeper depth) i (omega (arith, g .all)))
 
 abbrev Inv-loop : tie.InvT-loop
 Inv-loop tree at n depth i₀ i = Going tree at n depth i

@@ -1,9 +1,7 @@
 -- `walks::along::step` meets its contract: one law of a step for each return.
-use native.Mathlib.Omega.{arith}
 use mathlib.Core.Path.{sym, ap, _∙_}
 use denote.Ref.{now}
 use Rattle.tree.specs.RowAt.{all-rows}
-use Rattle.tree.specs.RowAtLaws.{length-all-rows}
 use Rattle.walks.specs.RowWalk.{spot, outcome}
 use Rattle.walks.specs.RowWalkLaws.{step-shut, step-found, step-missing}
 use borrow.Author.Needs.{needs}
@@ -34,7 +32,7 @@ returns c =
     let t = c .before .before .before .before .enum-told .given in
     let entered = ap outcome (sym (t .1)) ∙ c .before .before .before .before .before .before .enter .ensures in
     step-found (a .account) (all-rows (now (a .tree))) (spot (a .row) (a .above)) (now (a .name)) (t .0 .0) (t .0 .1 .0)
-    (omega (arith, length-all-rows (now (a .tree)))) entered (c .before .i .given .0 .0) (sym (c .before .i .given .1) ∙ c .before .before .before .find-child .ensures)
+    entered (c .before .i .given .0 .0) (sym (c .before .i .given .1) ∙ c .before .before .before .find-child .ensures)
 
 returns-2 : tie.Need-returns-2
 unfolding outcome
@@ -43,7 +41,7 @@ returns-2 c =
     let t = c .before .before .before .enum-told .given in
     let entered = ap outcome (sym (t .1)) ∙ c .before .before .before .before .before .enter .ensures in
     step-missing (a .account) (all-rows (now (a .tree))) (spot (a .row) (a .above)) (now (a .name)) (t .0 .0) (t .0 .1 .0)
-    (omega (arith, length-all-rows (now (a .tree)))) entered (c .enum-told2 .given .0 .0) (sym (c .enum-told2 .given .1) ∙ c .before .before .find-child .ensures)
+    entered (c .enum-told2 .given .0 .0) (sym (c .enum-told2 .given .1) ∙ c .before .before .find-child .ensures)
 
 returns-3 : tie.Need-returns-3
 returns-3 c =

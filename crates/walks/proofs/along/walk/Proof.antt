@@ -15,7 +15,7 @@ use Rattle.tree.specs.declared.Cause.{Cause}
 use Rattle.tree.specs.Result.{refused, done}
 use Rattle.tree.specs.RowAt.{row-count, all-rows}
 use Rattle.tree.specs.RowAtLaws.{length-all-rows}
-use Rattle.walks.specs.RowWalk.{spot, top-spot, step-in, walk-rows, walk-in, outcome}
+use Rattle.walks.specs.RowWalk.{spot, top-spot, step-in, walk-names-in, walk-in, outcome}
 use Rattle.walks.specs.RowWalkLaws.{step-within, walk-none, walk-on, walk-stops, outcome-at, outcome-refused}
 use Rattle.walks.proofs.along.walk.Statement.{statement}
 use Rattle.walks.proofs.along.walk.Tie as tie
@@ -23,11 +23,11 @@ use Rattle.walks.proofs.along.walk.Tie as tie
 record Going (tree : List ℕ) (account : Account) (path : List ℕ) (row above at : ℕ) : Type 0 where
   row-in : row < row-count tree
   above-in : above < row-count tree
-  goes : walk-rows account (all-rows tree) (spot row above) (names-from path at) ≡ walk-in account (all-rows tree) path
+  goes : walk-names-in account (all-rows tree) (spot row above) (names-from path at) ≡ walk-in account (all-rows tree) path
 
 -- from `/` along all names
 begins : (tree : List ℕ) (account : Account) (path : List ℕ) (at : ℕ) → at ≡ 1
-    → walk-rows account (all-rows tree) (spot 0 0) (names-from path at) ≡ walk-in account (all-rows tree) path
+    → walk-names-in account (all-rows tree) (spot 0 0) (names-from path at) ≡ walk-in account (all-rows tree) path
 unfolding walk-in top-spot
 begins tree account path at e = rw (e, names-from-first path)
 
@@ -48,7 +48,7 @@ module _ {tree : List ℕ} {account : Account} {path : List ℕ} {row above at :
           above-in = omega (arith, w .above-in);
           goes =
               sym (walk-on account rs (spot row above) (spot r a) (part path start end) (names-from path (rest .at)) e)
-              ∙ ap (walk-rows account rs (spot row above)) (sym (n .follow))
+              ∙ ap (walk-names-in account rs (spot row above)) (sym (n .follow))
               ∙ g .goes;
         }
 
@@ -56,14 +56,14 @@ module _ {tree : List ℕ} {account : Account} {path : List ℕ} {row above at :
     stops : (k : Cause) → step-in account (all-rows tree) (spot row above) (part path start end) ≡ refused k → refused k ≡ walk-in account (all-rows tree) path
     stops k e =
         sym (walk-stops account (all-rows tree) (spot row above) k (part path start end) (names-from path (rest .at)) e)
-        ∙ ap (walk-rows account (all-rows tree) (spot row above)) (sym (n .follow))
+        ∙ ap (walk-names-in account (all-rows tree) (spot row above)) (sym (n .follow))
         ∙ g .goes
 
   -- the end of the names
   ends : next-name path at ≡ End → done (spot row above) ≡ walk-in account (all-rows tree) path
   ends e =
       sym (walk-none account (all-rows tree) (spot row above))
-      ∙ ap (walk-rows account (all-rows tree) (spot row above)) (sym (names-from-end path at e))
+      ∙ ap (walk-names-in account (all-rows tree) (spot row above)) (sym (names-from-end path at e))
       ∙ g .goes
 
 abbrev Inv-loop : tie.InvT-loop

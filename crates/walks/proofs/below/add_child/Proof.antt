@@ -5,7 +5,8 @@ use native.Mathlib.Omega.{arith}
 use lib.ListN.{length}
 use denote.Ref.{now}
 use Rattle.tree.specs.RowAt.{row-at}
-use Rattle.walks.specs.RowBelowLaws.{name-there, name-elsewhere, row-name-fits}
+use Rattle.tree.specs.RowAtLaws.{row-name-fits}
+use Rattle.walks.specs.RowBelowLaws.{name-there, name-elsewhere}
 use borrow.Author.Needs.{needs}
 use Rattle.walks.proofs.below.add_child.Statement.{statement}
 use Rattle.walks.proofs.below.add_child.Tie as tie

@@ -4,8 +4,8 @@ use native.Mathlib.Omega.{arith}
 use Prim.Native.Nat.{_-_}
 use lib.ListN.{set, length-set}
 use denote.Ref.{now}
-use Rattle.walks.specs.RowBelowLaws.{named-first, named-more, over-paste}
 use borrow.Author.Needs.{needs}
+use Rattle.walks.specs.NamesWrittenLaws.{named-first, named-more, over-paste}
 use Rattle.walks.proofs.below.add_name.Statement.{statement}
 use Rattle.walks.proofs.below.add_name.Tie as tie
 

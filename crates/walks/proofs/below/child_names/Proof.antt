@@ -8,14 +8,16 @@ use denote.Ref.{now}
 use Rattle.buffers.specs.Text.{Text}
 use Rattle.syntax.specs.Pieces.{comma, joined}
 use Rattle.tree.specs.RowAt.{row-count, row-at, all-rows}
-use Rattle.walks.specs.RowBelow.{front-below, names-at, child-text, Named}
-use Rattle.walks.specs.RowBelowLaws.{names-go, names-stop, names-end, named-nothing, named-length, child-text-from}
+use Rattle.walks.specs.RowBelow.{front-below, names-in, child-text-in}
+use Rattle.walks.specs.RowBelowLaws.{names-go, names-stop, names-end, child-text-from}
+use Rattle.walks.specs.NamesWritten.{Written}
+use Rattle.walks.specs.NamesWrittenLaws.{named-nothing, named-length}
 use Rattle.walks.proofs.below.child_names.Statement.{statement}
 use Rattle.walks.proofs.below.child_names.Tie as tie
 
 -- the names of the children from a row on
 abbrev left : List ℕ → ℕ → ℕ → List Text
-left tree at i = names-at (suc (row-at tree at .depth)) (front-below (row-at tree at .depth) (drop i (all-rows tree)))
+left tree at i = names-in (suc (row-at tree at .depth)) (front-below (row-at tree at .depth) (drop i (all-rows tree)))
 
 record Going (tree : List ℕ) (at : ℕ) (answer₀ : List ℕ) (n depth : ℕ) (answer : List ℕ) (place i : ℕ) : Type 0 where
   le : i ≤ n
@@ -25,13 +27,13 @@ record Going (tree : List ℕ) (at : ℕ) (answer₀ : List ℕ) (n depth : ℕ)
   few : place + 9 * (at + 1) ≤ 9 * i
   len : length answer ≡ length answer₀
   done : List Text
-  named : Named answer₀ done answer place
+  named : Written answer₀ done answer place
   goes : done ++ left tree at i ≡ left tree at (at + 1)
 
 module _ {tree : List ℕ} {at : ℕ} {answer₀ : List ℕ} {n depth : ℕ} {answer : List ℕ} {place i : ℕ} (g : Going tree at answer₀ n depth answer place i) where
   -- a deeper row
   goes-on : (b : List ℕ) (p : ℕ) → i < n → depth ≤ row-at tree i .depth → length b ≡ length answer → p ≤ place + 9
-      → Named answer₀ (g .done ++ names-at depth (row-at tree i ∷ [])) b p → Going tree at answer₀ n depth b p (i + 1)
+      → Written answer₀ (g .done ++ names-in depth (row-at tree i ∷ [])) b p → Going tree at answer₀ n depth b p (i + 1)
   goes-on b p h l e w v = record {
     le = omega arith;
     all = g .all;
@@ -39,24 +41,24 @@ module _ {tree : List ℕ} {at : ℕ} {answer₀ : List ℕ} {n depth : ℕ} {an
     level = g .level;
     few = omega (arith, g .few);
     len = e ∙ g .len;
-    done = g .done ++ names-at depth (row-at tree i ∷ []);
+    done = g .done ++ names-in depth (row-at tree i ∷ []);
     named = v;
     goes =
         let k = row-at tree at .depth in
-        append-assoc (g .done) (names-at depth (row-at tree i ∷ [])) (left tree at (i + 1))
-        ∙ ap (λ (j : ℕ). g .done ++ (names-at j (row-at tree i ∷ []) ++ left tree at (i + 1))) (g .level)
+        append-assoc (g .done) (names-in depth (row-at tree i ∷ [])) (left tree at (i + 1))
+        ∙ ap (λ (j : ℕ). g .done ++ (names-in j (row-at tree i ∷ []) ++ left tree at (i + 1))) (g .level)
         ∙ ap (λ (ns : List Text). g .done ++ ns) (sym (names-go tree k i (suc k) (omega (arith, g .all)) (omega (arith, g .level))))
         ∙ g .goes;
   }
 
   -- when none is left, all are written
-  written : left tree at i ≡ [] → joined comma (g .done) ≡ child-text (all-rows tree) at
+  written : left tree at i ≡ [] → joined comma (g .done) ≡ child-text-in (all-rows tree) at
   written e =
       let q : g .done ≡ left tree at (at + 1) = sym (append-nil (g .done)) ∙ ap (λ (ns : List Text). g .done ++ ns) (sym e) ∙ g .goes in
       ap (joined comma) q ∙ sym (child-text-from tree at (g .from) (row-at tree at .depth) refl)
 
   answers : left tree at i ≡ [] → (r : ℕ) → r ≡ place - 1
-      → (r ≡ length (child-text (all-rows tree) at)) × (answer ≡ child-text (all-rows tree) at ++ drop (length (child-text (all-rows tree) at)) answer₀)
+      → (r ≡ length (child-text-in (all-rows tree) at)) × (answer ≡ child-text-in (all-rows tree) at ++ drop (length (child-text-in (all-rows tree) at)) answer₀)
   answers e r q =
       let w = written e in
       let s = named-length (g .done) in

@@ -1,14 +1,10 @@
--- Two outcomes agree: the same refusal, or two related things done. A proof about a command goes through its steps line by line.
+-- How two outcomes agree. A proof about a command goes through its steps line by line.
 use mathlib.Core.Path.{_≡_, refl}
 use mathlib.Core.Bool.{Bool, true, false}
 use Rattle.tree.specs.declared.Cause.{Cause}
 use Rattle.tree.specs.Result.{Result, refused, done, _>>=_, _>>_, require}
 use Rattle.tree.specs.ResultLaws.{not-done}
-
--- the same refusal, or two things done that are related by R
-pub data Agree {X Y : Type 0} (R : X → Y → Type 0) : Result X → Result Y → Type 0 where
-  refusal : (why : Cause) → Agree R (refused why) (refused why)
-  both : {x : X} {y : Y} → R x y → Agree R (done x) (done y)
+use Rattle.tree.specs.Outcomes.{Agree, refusal, both}
 
 -- one outcome on both sides
 pub itself : {X : Type 0} {R : X → X → Type 0} (a : Result X) → ((x : X) → a ≡ done x → R x x) → Agree R a a

@@ -7,13 +7,14 @@ use Rattle.buffers.specs.Cases.{case, contra}
 use Rattle.syntax.specs.Path.{Name, Path, root, _▹_, same-path, within, rep, in-rep}
 use Rattle.syntax.specs.WithinLaws.{Lies, itself, deeper, same-path-refl, lies}
 use Rattle.syntax.specs.Form.{_>>=_}
-use Rattle.tree.specs.Forest.{Place, get, is-empty, at, under, update, place-at, alter, put, drop, leaf, map-place}
+use Rattle.tree.specs.Forest.{Place, get, is-empty, at, under, update, place-at, alter, put, drop, leaf, map-place, Holds}
 use Rattle.tree.specs.ForestLaws.{get-map}
 use Rattle.tree.specs.Node.{Node}
 use Rattle.tree.specs.WellFormed.{is-tree}
 use Rattle.tree.specs.UpdateLaws.{by-option}
-use Rattle.tree.specs.PathLaws.{alone-at, changed-at, alter-keeps, put-keeps, put-stands, drop-empty-keeps, none-below, put-none, drop-none, drop-gone}
-use Rattle.tree.specs.Graft.{graft, Outside, first, further, get-graft, get-graft-other}
+use Rattle.tree.specs.OtherPathLaws.{alone-at, changed-at, alter-keeps, put-keeps, put-stands, drop-empty-keeps, none-below, put-none, drop-none, drop-gone}
+use Rattle.tree.specs.Graft.{graft, Outside, first, further}
+use Rattle.tree.specs.GraftLaws.{get-graft, get-graft-other}
 
 -- nothing stands below a place without children
 only-there : {A : Type 0} (t : Place A) {a : Path} (e : Place A) → place-at t a ≡ some e → is-empty (e .below) ≡ true
@@ -21,12 +22,6 @@ only-there : {A : Type 0} (t : Place A) {a : Path} (e : Place A) → place-at t 
 only-there t e there alone {p} l d h = rw (alone-at t l e there alone d h) (same-path-refl p)
 
 -- ---- a payload after a change
-
--- the place at a path has that payload
-pub record Holds {A : Type 0} (t : Place A) (p : Path) (x : A) : Type 0 where
-  pub place : Place A
-  pub stands : place-at t p ≡ some place
-  pub here : place .here ≡ x
 
 module _ {A : Type 0} {t : Place A} {x : A} where
   -- a change there or further down, if one there leaves the payload

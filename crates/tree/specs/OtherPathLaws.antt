@@ -24,7 +24,7 @@ use Rattle.tree.specs.Walk.{Judge, by-modes, look, enter, walk, parent-w
 use Rattle.tree.specs.JudgeLaws.{allows-is, kind-by-modes, passes-by-modes}
 use Rattle.tree.specs.StepLaws.{look-some, walked, entered, enters, walk-root, walk-step, walks-on}
 use Rattle.tree.specs.WellFormed.{is-forest, is-tree}
-use Rattle.tree.specs.UpdateLaws.{by-option, at-top, at-child, child-at, walked-at, update-none}
+use Rattle.tree.specs.UpdateLaws.{by-option, place-at-root, place-at-child, place-at-parent, walked-at, update-none}
 use Rattle.tree.specs.WellFormedLaws.{get-leads, place-parts, forest-parts, tree-parts, place-below}
 
 -- in a forest without children no child is found
@@ -39,13 +39,13 @@ module _ {A : Type 0} (t : Place A) where
   -- above a place there are places
   above-at : {p q : Path} → Lies p q → (d : Place A) → place-at t q ≡ some d → (c : Place A) × (place-at t p ≡ some c)
   above-at itself d e = (d, e)
-  above-at (deeper {q = q} {n = n} l) d e = let i = child-at t q n d e in above-at l (i .0) (i .1)
+  above-at (deeper {q = q} {n = n} l) d e = let i = place-at-parent t q n d e in above-at l (i .0) (i .1)
 
   -- nothing stands below a place without children
   pub alone-at : {a p : Path} → Lies a p → (x : Place A) → place-at t a ≡ some x → is-empty (x .below) ≡ true → (d : Place A) → place-at t p ≡ some d → a ≡ p
   alone-at itself x h z d e = refl
   alone-at (deeper {q = q} {n = n} l) x h z d e =
-      let i = child-at t q n d e in
+      let i = place-at-parent t q n d e in
       let s = rw (alone-at l x h z (i .0) (i .1)) at h in
       no-answer (sym (get-empty n (i .0 .below) (rw (answered (sym s ∙ i .1)) z)) ∙ i .2)
 
@@ -54,8 +54,8 @@ module _ {A : Type 0} (t : Place A) where
   unfolding update under place-at Form._>>=_
   changed-at root f d e = rw (answered e)
   changed-at (q ▹ n) f d e =
-      let i = child-at t q n d e in
-      at-child (update q (under (at n f)) t) q n _ (changed-at q (under (at n f)) (i .0) (i .1)) ∙ get-at n f (i .0 .below) d (i .2)
+      let i = place-at-parent t q n d e in
+      place-at-child (update q (under (at n f)) t) q n _ (changed-at q (under (at n f)) (i .0) (i .1)) ∙ get-at n f (i .0 .below) d (i .2)
 
   -- a place above a change that keeps the payload stays a place with its payload
   changed-some : {p q : Path} → Lies p q → (f : Place A → Place A) → ((x : Place A) → f x .here ≡ x .here) → (c : Place A) → place-at t p ≡ some c
@@ -74,7 +74,7 @@ module _ {A : Type 0} (t : Place A) where
   child-kept : {p q : Path} → Lies p q → (m : Name) (f : Place A → Place A) (c : Place A) → place-at t p ≡ some c → (Lies (p ▹ m) q → ⊥)
       → (q ≡ p → get m (f c .below) ≡ get m (c .below)) → place-at (update q f t) (p ▹ m) ≡ place-at t (p ▹ m)
   unfolding update under
-  child-kept {p} itself m f c e off h = at-child (update p f t) p m (f c) (changed-at p f c e) ∙ h refl ∙ sym (at-child t p m c e)
+  child-kept {p} itself m f c e off h = place-at-child (update p f t) p m (f c) (changed-at p f c e) ∙ h refl ∙ sym (place-at-child t p m c e)
   child-kept {p} (deeper {q = q} {n = n} l) m f c e off h = child-kept l m (under (at n f)) c e (λ k. off (deeper k))
       (λ s. get-at-other n f m (c .below) (case (same-text m n)
       (λ i. absurd (off (rw (s, same-text-sound m n i) itself)))
@@ -128,7 +128,7 @@ module _ {A : Type 0} (t : Place A) where
   pub put-stands : (q : Path) (e : Place A) (n : Name) (x : Place A) → place-at t q ≡ some e → place-at t (q ▹ n) ≡ none
       → place-at (update q (put n x) t) (q ▹ n) ≡ some x
   unfolding put under
-  put-stands q e n x h z = at-child (update q (put n x) t) q n (put n x e) (changed-at q (put n x) e h) ∙ get-insert n x (e .below) (sym (at-child t q n e h) ∙ z)
+  put-stands q e n x h z = place-at-child (update q (put n x) t) q n (put n x e) (changed-at q (put n x) e h) ∙ get-insert n x (e .below) (sym (place-at-child t q n e h) ∙ z)
 
 -- the place at a stands at b in another tree: what is within it is carried along
 carried-at : {A : Type 0} (t s : Place A) (x : Place A) (a b : Path) → place-at t a ≡ some x → place-at s b ≡ some x
@@ -138,8 +138,8 @@ carried-at t s x a b h k root d i e = rw i (k ∙ sym h ∙ rw (same-path-sound 
 carried-at t s x a b h k (p ▹ n) d i e = case (same-path a (p ▹ n))
     (λ o. rw o (k ∙ sym h ∙ rw (same-path-sound a (p ▹ n) o) e))
     (λ o.
-    let c = child-at t p n d e in
-    rw o (at-child s (carried a b p) n (c .0) (carried-at t s x a b h k p (c .0) (rw o at i) (c .1)) ∙ c .2))
+    let c = place-at-parent t p n d e in
+    rw o (place-at-child s (carried a b p) n (c .0) (carried-at t s x a b h k p (c .0) (rw o at i) (c .1)) ∙ c .2))
 
 module _ {A : Type 0} (t : Place A) where
   -- ---- where there is no place
@@ -210,7 +210,7 @@ pub drop-gone : (t : Place Node) → is-tree t ≡ true → (q : Path) (n : Name
 unfolding drop under
 drop-gone t whole q n = by-option (place-at t q)
     (λ e. none-below (update q (drop n) t) (deeper itself) (changed-none t itself (drop n) e))
-    (λ d e. at-child (update q (drop n) t) q n (drop n d) (changed-at t q (drop n) d e)
+    (λ d e. place-at-child (update q (drop n) t) q n (drop n d) (changed-at t q (drop n) d e)
     ∙ get-removed n (d .below) (place-parts d (place-below t q d (tree-parts t whole .whole) e) .forest))
 
 -- ---- walks
@@ -231,9 +231,9 @@ module _ {A : Type 0} (j : Judge A) (t : Place A) (p : Path) (d : Place A) (ther
       contra b (rw (answered (sym there ∙ s)) a))
       (λ i. i)
 
-enter-shut : {A : Type 0} (j : Judge A) (a : A) → is-directory (j .kind a) ≡ true → j .passes a ≡ false → enter j a ≡ refused Access
+not-entered : {A : Type 0} (j : Judge A) (a : A) → is-directory (j .kind a) ≡ true → j .passes a ≡ false → enter j a ≡ refused Access
 unfolding enter require _>>_
-enter-shut j a k b = rw (k, b)
+not-entered j a k b = rw (k, b)
 
 module _ (j : Judge Node) (kinds : (n : Node) → j .kind n ≡ n .kind) (t : Place Node) (whole : is-tree t ≡ true) where
   -- what has a child is a directory
@@ -243,43 +243,43 @@ module _ (j : Judge Node) (kinds : (n : Node) → j .kind n ≡ n .kind) (t : Pl
       (λ k. no-answer (sym (get-empty n (c .below) (place-parts c (place-below t p c (tree-parts t whole .whole) h) .childless k)) ∙ e)))
 
   -- a walk to a place leads there or is refused for want of x
-  walk-to : (p : Path) (d : Place Node) → place-at t p ≡ some d → (walk j t p ≡ done d) ⊎ (walk j t p ≡ refused Access)
-  walk-to root d e = inl (walk-root j t ∙ ap done (answered (sym e ∙ at-top t)))
-  walk-to (p ▹ n) d e =
-      let i = child-at t p n d e in
+  leads-or-refused : (p : Path) (d : Place Node) → place-at t p ≡ some d → (walk j t p ≡ done d) ⊎ (walk j t p ≡ refused Access)
+  leads-or-refused root d e = inl (walk-root j t ∙ ap done (answered (sym e ∙ place-at-root t)))
+  leads-or-refused (p ▹ n) d e =
+      let i = place-at-parent t p n d e in
       let k = parent-directory p (i .0) n d (i .1) (i .2) in
       rw (walk-step j t p n) (⊎-elim
       (λ (w : walk j t p ≡ done (i .0)). case (j .passes (i .0 .here))
       (λ b. inl (rw (w, done-bind, enters j (i .0 .here) k b, done-then) (look-some n (i .0 .below) (i .2))))
-      (λ b. inr (rw (w, done-bind, enter-shut j (i .0 .here) k b, refused-then))))
+      (λ b. inr (rw (w, done-bind, not-entered j (i .0 .here) k b, refused-then))))
       (λ (w : walk j t p ≡ refused Access). inr (rw (w, refused-bind)))
-      (walk-to p (i .0) (i .1)))
+      (leads-or-refused p (i .0) (i .1)))
 
   module _ (p : Path) (d : Place Node) (there : place-at t p ≡ some d) (directory : is-directory (d .here .kind) ≡ true) (shut : j .passes (d .here) ≡ false) where
     -- a walk to a directory that may not be passed, or below it, goes no further
-    walk-stops : {B : Type 0} (k : Place Node → Result B) {q : Path} → Lies p q → (walk j t q >>= λ e. enter j (e .here) >> k e) ≡ refused Access
-    walk-stops k itself = ⊎-elim
-        (λ (w : walk j t p ≡ done d). rw (w, done-bind, enter-shut j (d .here) (ap is-directory (kinds (d .here)) ∙ directory) shut, refused-then))
+    shut-there : {B : Type 0} (k : Place Node → Result B) {q : Path} → Lies p q → (walk j t q >>= λ e. enter j (e .here) >> k e) ≡ refused Access
+    shut-there k itself = ⊎-elim
+        (λ (w : walk j t p ≡ done d). rw (w, done-bind, not-entered j (d .here) (ap is-directory (kinds (d .here)) ∙ directory) shut, refused-then))
         (λ (w : walk j t p ≡ refused Access). rw (w, refused-bind))
-        (walk-to p d there)
-    walk-stops k (deeper {q = q} {n = n} l) = rw (walk-step j t q n, walk-stops (λ e. look n (e .below)) l, refused-bind)
+        (leads-or-refused p d there)
+    shut-there k (deeper {q = q} {n = n} l) = rw (walk-step j t q n, shut-there (λ e. look n (e .below)) l, refused-bind)
 
     -- so the walk to a path below it is refused for want of x
     pub walk-shut : (q : Path) → lies-below p q ≡ true → walk j t q ≡ refused Access
     walk-shut root b = top-not-below p b
-    walk-shut (q ▹ n) b = walk-step j t q n ∙ walk-stops (λ e. look n (e .below)) (lies p q (below-parent p q n b))
+    walk-shut (q ▹ n) b = walk-step j t q n ∙ shut-there (λ e. look n (e .below)) (lies p q (below-parent p q n b))
 
     -- and so is the parent walk
     pub parent-walk-shut : (q : Path) → lies-below p q ≡ true → parent-walk j t q ≡ refused Access
     unfolding parent-walk parent
     parent-walk-shut root b = top-not-below p b
-    parent-walk-shut (q ▹ n) b = walk-stops done (lies p q (below-parent p q n b))
+    parent-walk-shut (q ▹ n) b = shut-there done (lies p q (below-parent p q n b))
 
   -- a walk that passes everywhere leads to every place
   walk-open : ((n : Node) → j .passes n ≡ true) → (p : Path) (d : Place Node) → place-at t p ≡ some d → walk j t p ≡ done d
-  walk-open all root d e = walk-root j t ∙ ap done (answered (sym e ∙ at-top t))
+  walk-open all root d e = walk-root j t ∙ ap done (answered (sym e ∙ place-at-root t))
   walk-open all (p ▹ n) d e =
-      let i = child-at t p n d e in
+      let i = place-at-parent t p n d e in
       let k = parent-directory p (i .0) n d (i .1) (i .2) in
       walks-on j t p n (walk-open all p (i .0) (i .1)) (enters j (i .0 .here) k (all (i .0 .here))) (i .2)
 
@@ -288,7 +288,7 @@ module _ (a : Account) (top : is-root (a .uid) ≡ true) (t : Place Node) (whole
   root-passes n = passes-by-modes a n ∙ allows-is a n X ∙ may-root a X (n .owner) (n .group) (n .mode) top
 
   -- root's walk leads to every place
-  pub root-walks : (p : Path) (d : Place Node) → place-at t p ≡ some d → walk (by-modes a) t p ≡ done d
+  root-walks : (p : Path) (d : Place Node) → place-at t p ≡ some d → walk (by-modes a) t p ≡ done d
   root-walks p d e = walk-open (by-modes a) (kind-by-modes a) t whole root-passes p d e
 
   -- and root's parent walk to every directory

@@ -2,13 +2,13 @@
 -- and a payload altered is one row.
 --
 -- In order:
---   siblings in order, and those before and after a name: sorted, lesser, not-lesser, forest-sorted, tree-sorted, found-split;
---   their rows: flatten-split;
---   a tree's rows: alter-rows; before, after, length-before, spot-index, put-rows, drop-rows.
+--   siblings in order, and those before and after a name: forest-sorted to not-lesser-none;
+--   their rows: flatten-split to flatten-remove;
+--   a tree's rows: alter-rows, length-before, spot-index, put-rows, drop-rows.
 use mathlib.Core.Path.{_≡_, refl, sym, _∙_, ap}
 use mathlib.Core.List.{List, [], _∷_, _++_, append-assoc}
 use mathlib.Core.Option.{none, some}
-use mathlib.Core.Bool.{Bool, true, false, _&&_, cond}
+use mathlib.Core.Bool.{true, false}
 use Prim.Native.Nat.{ℕ, suc, _+_}
 use native.Mathlib.Omega.{arith}
 use lib.ListN.{length, length-append}
@@ -24,27 +24,13 @@ use Rattle.tree.specs.WellFormed.{leads, is-forest, is-tree}
 use Rattle.tree.specs.WellFormedLaws.{place-parts, forest-parts, tree-parts, place-below}
 use Rattle.tree.specs.Rows.{Row, flatten, rows}
 use Rattle.tree.specs.RowLaws.{length-flatten}
-use Rattle.tree.specs.RowContext.{place-rows, ahead, index-of, Around, regroup, index-child, changed}
+use Rattle.tree.specs.RowPlaces.{place-rows, ahead, index-of, Around, sorted, not-lesser, lesser, rows-before, rows-after}
+use Rattle.tree.specs.RowPlacesLaws.{regroup, index-child, changed}
 
 -- ---- siblings in order
 
--- whether siblings stand in the order of their names
-unfoldable pub sorted : {A : Type 0} → Forest A → Bool
-sorted nil = true
-sorted (node n x cs rest) = leads n rest && sorted rest
-
--- the siblings whose names precede a name, up to the first that does not
-unfoldable pub lesser : {A : Type 0} → Name → Forest A → Forest A
-lesser n nil = nil
-lesser n (node m x cs rest) = cond (precedes m n) (node m x cs (lesser n rest)) nil
-
--- and the others
-unfoldable pub not-lesser : {A : Type 0} → Name → Forest A → Forest A
-not-lesser n nil = nil
-not-lesser n (node m x cs rest) = cond (precedes m n) (not-lesser n rest) (node m x cs rest)
-
 -- the siblings of a well-formed forest stand in order
-pub forest-sorted : (F : Forest Node) → is-forest F ≡ true → sorted F ≡ true
+forest-sorted : (F : Forest Node) → is-forest F ≡ true → sorted F ≡ true
 unfolding sorted
 forest-sorted nil h = refl
 forest-sorted (node n x cs rest) h = let v = forest-parts n (record { here = x; below = cs }) rest h in rw (v .leading) (forest-sorted rest (v .others))
@@ -99,7 +85,7 @@ module _ {A : Type 0} (n : Name) where
 
 module _ {A : Type 0} (k : ℕ) (n : Name) where
   -- the rows of the lesser siblings come first
-  pub flatten-split : (F : Forest A) → flatten k F ≡ flatten k (lesser n F) ++ flatten k (not-lesser n F)
+  flatten-split : (F : Forest A) → flatten k F ≡ flatten k (lesser n F) ++ flatten k (not-lesser n F)
   unfolding flatten lesser not-lesser
   flatten-split nil = refl
   flatten-split (node m x cs rest) = case (precedes m n)
@@ -143,17 +129,9 @@ module _ {A : Type 0} {t : Place A} {p : Path} {d : Place A} (c : Around t p d) 
   alter-rows g = (c .was, changed c (alter g))
 
   module _ (n : Name) where
-    -- the rows before the place of a child of that name, there or not
-    unfoldable pub before : List (Row A)
-    before = c .pre ++ record { depth = depth p; name = last p; here = d .here } ∷ flatten (suc (depth p)) (lesser n (d .below))
-
-    -- and those after it
-    unfoldable pub after : List (Row A)
-    after = flatten (suc (depth p)) (remove n (not-lesser n (d .below))) ++ c .post
-
     -- where that place is
-    pub length-before : length before ≡ suc (index-of t p + size (lesser n (d .below)))
-    unfolding before
+    pub length-before : length (rows-before c n) ≡ suc (index-of t p + size (lesser n (d .below)))
+    unfolding rows-before
     length-before = length-append (c .pre) _ ∙ omega (arith, c .index, length-flatten (suc (depth p)) (lesser n (d .below)))
 
     -- which is the index of the child if it is there
@@ -164,15 +142,15 @@ module _ {A : Type 0} {t : Place A} {p : Path} {d : Place A} (c : Around t p d) 
     -- the place's children with rows s at the name
     stretch : (F : Forest A) (s : List (Row A))
         → flatten (suc (depth p)) F ≡ flatten (suc (depth p)) (lesser n (d .below)) ++ (s ++ flatten (suc (depth p)) (remove n (not-lesser n (d .below))))
-        → c .pre ++ (place-rows (depth p) (last p) (record { here = d .here; below = F }) ++ c .post) ≡ before ++ (s ++ after)
-    unfolding place-rows before after
+        → c .pre ++ (place-rows (depth p) (last p) (record { here = d .here; below = F }) ++ c .post) ≡ rows-before c n ++ (s ++ rows-after c n)
+    unfolding place-rows rows-before rows-after
     stretch F s q =
         ap (λ (l : List (Row A)). c .pre ++ (record { depth = depth p; name = last p; here = d .here } ∷ l ++ c .post)) q
         ∙ regroup (c .pre) _ (flatten (suc (depth p)) (lesser n (d .below))) s (flatten (suc (depth p)) (remove n (not-lesser n (d .below)))) (c .post)
 
     -- a new child's rows come between
     pub put-rows : get n (d .below) ≡ none
-        → (rows t ≡ before ++ after) × ((e : Place A) → rows (update p (put n e) t) ≡ before ++ (place-rows (suc (depth p)) n e ++ after))
+        → (rows t ≡ rows-before c n ++ rows-after c n) × ((e : Place A) → rows (update p (put n e) t) ≡ rows-before c n ++ (place-rows (suc (depth p)) n e ++ rows-after c n))
     unfolding put under
     put-rows g = (
       c .was ∙ stretch (d .below) [] (rw (not-lesser-none n (d .below) g) (flatten-split (suc (depth p)) n (d .below))),
@@ -182,7 +160,7 @@ module _ {A : Type 0} {t : Place A} {p : Path} {d : Place A} (c : Around t p d) 
 
     -- and a child's rows go from between
     pub drop-rows : (e : Place A) → sorted (d .below) ≡ true → get n (d .below) ≡ some e
-        → (rows t ≡ before ++ (place-rows (suc (depth p)) n e ++ after)) × (rows (update p (drop n) t) ≡ before ++ after)
+        → (rows t ≡ rows-before c n ++ (place-rows (suc (depth p)) n e ++ rows-after c n)) × (rows (update p (drop n) t) ≡ rows-before c n ++ rows-after c n)
     unfolding drop under
     drop-rows e s g = (
       c .was ∙ stretch (d .below) (place-rows (suc (depth p)) n e) (flatten-found (suc (depth p)) n e (d .below) s g),

@@ -1,12 +1,10 @@
--- Where a place stands among the rows of its tree: the rows before and after its own stay as they are, whatever the place
--- becomes. Siblings need not stand in order here.
+-- The rows before and after those of a place stay as they are, whatever the place becomes. Siblings need not stand in order here.
 use mathlib.Core.Path.{_≡_, refl, sym, _∙_, ap}
 use mathlib.Core.List.{List, [], _∷_, _++_, append-assoc, append-nil}
-use mathlib.Core.Option.{Option, none, some}
-use mathlib.Core.Bool.{Bool, true, cond}
+use mathlib.Core.Option.{some}
+use mathlib.Core.Bool.{true}
 use Prim.Native.Nat.{ℕ, suc, _+_}
 use native.Mathlib.Omega.{arith}
-use lib.Dec.{leb}
 use lib.ListN.{length, length-append}
 use borrow.Author.Tests.{leb-true, le-leb}
 use Rattle.buffers.specs.Cases.{case}
@@ -16,48 +14,10 @@ use Rattle.syntax.specs.Path.{Name, Path, root, _▹_, last, depth}
 use Rattle.syntax.specs.FormLaws.{no-answer, answered}
 use Rattle.tree.specs.Forest.{Forest, nil, node, Place, get, at, under, update, place-at, size}
 use Rattle.tree.specs.ForestLaws.{found-first}
+use Rattle.tree.specs.UpdateLaws.{place-at-parent, update-same}
 use Rattle.tree.specs.Rows.{Row, flatten, rows}
 use Rattle.tree.specs.RowLaws.{length-flatten}
-use Rattle.tree.specs.UpdateLaws.{child-at, update-same}
-
--- a place's rows, its own first
-unfoldable pub place-rows : {A : Type 0} → ℕ → Name → Place A → List (Row A)
-place-rows k n d = record { depth = k; name = n; here = d .here } ∷ flatten (suc k) (d .below)
-
--- no row, or the first no deeper than k
-unfoldable pub ends : {A : Type 0} → ℕ → List (Row A) → Bool
-ends k [] = true
-ends k (r ∷ rs) = leb (r .depth) k
-
--- the siblings before the first of a name
-unfoldable pub ahead : {A : Type 0} → Name → Forest A → Forest A
-ahead n nil = nil
-ahead n (node m x cs rest) = cond (same-text n m) nil (node m x cs (ahead n rest))
-
--- and those after it
-behind : {A : Type 0} → Name → Forest A → Forest A
-behind n nil = nil
-behind n (node m x cs rest) = cond (same-text n m) rest (behind n rest)
-
--- the children of a place, if there is one
-unfoldable pub children-of : {A : Type 0} → Option (Place A) → Forest A
-children-of none = nil
-children-of (some d) = d .below
-
--- how many rows stand before that of the place at a path
-unfoldable pub index-of : {A : Type 0} → Place A → Path → ℕ
-index-of t root = 0
-index-of t (p ▹ n) = suc (index-of t p + size (ahead n (children-of (place-at t p))))
-
--- the place d at p, with the rows before and after its own
-pub record Around {A : Type 0} (t : Place A) (p : Path) (d : Place A) : Type 0 where
-  pub there : place-at t p ≡ some d
-  pub pre : List (Row A)
-  pub post : List (Row A)
-  pub same : (e : Place A) → rows (update p (λ x. e) t) ≡ pre ++ (place-rows (depth p) (last p) e ++ post)
-  pub was : rows t ≡ pre ++ (place-rows (depth p) (last p) d ++ post)
-  pub stops : ends (depth p) post ≡ true
-  pub index : length pre ≡ index-of t p
+use Rattle.tree.specs.RowPlaces.{place-rows, index-of, ends, ahead, Around, children-of, behind}
 
 -- what stands around a stretch w, gathered on either side of it
 pub regroup : {B : Type 0} (u : List B) (r : B) (v w x y : List B) → u ++ (r ∷ (v ++ (w ++ x)) ++ y) ≡ (u ++ r ∷ v) ++ (w ++ (x ++ y))
@@ -65,7 +25,7 @@ regroup u r v w x y = simp append-assoc
 
 module _ {A : Type 0} where
   -- a tree's rows are those of the place of `/`
-  pub rows-top : (t : Place A) → rows t ≡ place-rows 0 [] t
+  rows-top : (t : Place A) → rows t ≡ place-rows 0 [] t
   unfolding rows place-rows
   rows-top t = refl
 
@@ -102,21 +62,21 @@ module _ {A : Type 0} where
       (λ t. let i = flatten-at k n f rest d (rw t at e) in rw t (rw i (simp append-assoc)))
 
   -- a change of the child that is found is a replacement of it
-  at-found : (n : Name) (f : Place A → Place A) (F : Forest A) (d : Place A) → get n F ≡ some d → at n f F ≡ at n (λ x. f d) F
+  at-replaced : (n : Name) (f : Place A → Place A) (F : Forest A) (d : Place A) → get n F ≡ some d → at n f F ≡ at n (λ x. f d) F
   unfolding at get
-  at-found n f nil d e = refl
-  at-found n f (node m x cs rest) d e = case (same-text n m)
+  at-replaced n f nil d e = refl
+  at-replaced n f (node m x cs rest) d e = case (same-text n m)
       (λ t. rw (t, found-first n m x cs rest d t e))
-      (λ t. rw (t, at-found n f rest d (rw t at e)))
+      (λ t. rw (t, at-replaced n f rest d (rw t at e)))
 
   -- and so is a change of the place at a path
-  pub update-at : (t : Place A) (p : Path) (f : Place A → Place A) (d : Place A) → place-at t p ≡ some d → update p f t ≡ update p (λ x. f d) t
+  update-at : (t : Place A) (p : Path) (f : Place A → Place A) (d : Place A) → place-at t p ≡ some d → update p f t ≡ update p (λ x. f d) t
   unfolding update under place-at
   update-at t root f d e = ap f (sym (answered e))
   update-at t (p ▹ n) f d e =
-      let i = child-at t p n d e in
+      let i = place-at-parent t p n d e in
       update-at t p (under (at n f)) (i .0) (i .1)
-      ∙ ap (λ (F : Forest A). update p (λ x. record { here = i .0 .here; below = F }) t) (at-found n f (i .0 .below) d (i .2))
+      ∙ ap (λ (F : Forest A). update p (λ x. record { here = i .0 .here; below = F }) t) (at-replaced n f (i .0 .below) d (i .2))
       ∙ sym (update-at t p (under (at n (λ x. f d))) (i .0) (i .1))
 
   module _ {t : Place A} {p : Path} {c : Place A} (a : Around t p c) (n : Name) where
@@ -156,7 +116,7 @@ module _ {A : Type 0} where
         index = refl;
       }
   around t (p ▹ n) d e =
-      let i = child-at t p n d e in
+      let i = place-at-parent t p n d e in
       let a = around t p (i .0) (i .1) in
       record {
         there = e;
