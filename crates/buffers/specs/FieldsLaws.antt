@@ -25,7 +25,7 @@ unpadded-append (b ∷ t) k h =
     rw (not-true (eqb b 0) (i .0)) (rw (unpadded-append t k (i .1)))
 
 -- a text without zero bytes is what was filled up
-pub unpadded-padded : (width : ℕ) (t : Text) → lacks 0 t ≡ true → unpadded (padded width t) ≡ t
+unpadded-padded : (width : ℕ) (t : Text) → lacks 0 t ≡ true → unpadded (padded width t) ≡ t
 unfolding padded
 unpadded-padded width t h = unpadded-append t (width - length t) h
 

@@ -74,15 +74,15 @@ pub record Line : Type 0 where
   pub command : Command
 
 -- a word, the kinds of its arguments, and the command that they make
-pub record Listed : Type 0 where
+pub record Word-form : Type 0 where
   pub spelling : Text
   pub kinds : List ArgumentKind
   pub makes : Makes kinds Command
 
-unfoldable pub takes : Text → (ks : List ArgumentKind) → Makes ks Command → Listed
+unfoldable pub takes : Text → (ks : List ArgumentKind) → Makes ks Command → Word-form
 takes w ks x = record { spelling = w; kinds = ks; makes = x }
 
-unfoldable pub listed : Word → Listed
+unfoldable pub listed : Word → Word-form
 unfolding takes
 listed Create = takes (bytes "create") (a.Path ∷ (a.Plain ∷ [])) (λ p m. shell (create p m))
 listed Mkdir = takes (bytes "mkdir") (a.Path ∷ (a.Mode ∷ [])) (λ p m. shell (mkdir p m))

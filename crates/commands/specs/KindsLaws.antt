@@ -85,7 +85,7 @@ unformed true e = no-answer e
 unformed false e = refl
 
 -- the code has read an argument of a kind
-pub record Read-as (k : ArgumentKind) (t : Text) (v : Argument) : Type 0 where
+pub record Argument-read (k : ArgumentKind) (t : Text) (v : Argument) : Type 0 where
   pub inside : Inside (v .part) t
   pub number : some (v .number) ≡ number-in k (span-text t (v .part))
 
@@ -98,7 +98,7 @@ answers : {A : Type 0} {m n : Option A} {x : A} → m ≡ some x → n ≡ some 
 unfolding is-some
 answers e h = record { same = e ∙ sym h; there = ap is-some h }
 
-reads : (k : ArgumentKind) (t : Text) (v : Argument) → Read-as k t v → Reads (value k t v) (reader k (span-text t (v .part)))
+reads : (k : ArgumentKind) (t : Text) (v : Argument) → Argument-read k t v → Reads (value k t v) (reader k (span-text t (v .part)))
 unfolding value reader number-in path-in entry-in uid gid password content check _>>=_ _>>_
 reads a.Path t v h = record { same = rw (inside-text (h .inside)); there = formed _ _ (h .number) }
 reads a.Entry t v h = record { same = rw (inside-text (h .inside)); there = formed _ _ (h .number) }
@@ -151,7 +151,7 @@ texts-of t (v ∷ vs) = span-text t (v .part) ∷ texts-of t vs
 Each : List ArgumentKind → Text → List Argument → Type 0
 Each [] t vs = Unit
 Each (k ∷ ks) t [] = ⊥
-Each (k ∷ ks) t (v ∷ vs) = Read-as k t v × Each ks t vs
+Each (k ∷ ks) t (v ∷ vs) = Argument-read k t v × Each ks t vs
 
 each-reads : {X : Type 0} (ks : List ArgumentKind) (x : Makes ks X) (t : Text) (vs : List Argument) → Each ks t vs →
     Reads (values-of ks x t vs) (arguments-of ks x (take (length ks) (texts-of t vs)))
@@ -166,12 +166,12 @@ each-reads (k ∷ ks) x t (v ∷ vs) h =
 
 -- three arguments, of which those behind the kinds are absent
 pub three-read : {X : Type 0} (ks : List ArgumentKind) (x : Makes ks X) (t : Text) (v w z : Argument) → length ks ≤ 3 →
-    Read-as (getD ks 0 a.Absent) t v → Read-as (getD ks 1 a.Absent) t w → Read-as (getD ks 2 a.Absent) t z →
+    Argument-read (getD ks 0 a.Absent) t v → Argument-read (getD ks 1 a.Absent) t w → Argument-read (getD ks 2 a.Absent) t z →
     Reads (values-of ks x t (v ∷ (w ∷ (z ∷ [])))) (arguments-of ks x (take (length ks) (span-text t (v .part) ∷ (span-text t (w .part) ∷ (span-text t (z .part) ∷ [])))))
 unfolding texts-of Each
 three-read ks x t v w z h p q r = each-reads ks x t (v ∷ (w ∷ (z ∷ []))) (each ks h p q r)
   where
-    each : (ks : List ArgumentKind) → length ks ≤ 3 → Read-as (getD ks 0 a.Absent) t v → Read-as (getD ks 1 a.Absent) t w → Read-as (getD ks 2 a.Absent) t z →
+    each : (ks : List ArgumentKind) → length ks ≤ 3 → Argument-read (getD ks 0 a.Absent) t v → Argument-read (getD ks 1 a.Absent) t w → Argument-read (getD ks 2 a.Absent) t z →
         Each ks t (v ∷ (w ∷ (z ∷ [])))
     each [] h p q r = tt
     each (k ∷ []) h p q r = (p, tt)

@@ -197,7 +197,7 @@ unfolding with-entry
 with-entry-placed t s f k e = let i : _ = both-read (entry-in t s) (λ p. some (f p)) k e in entry-placed t s (i .0) (i .1)
 
 -- every part of a command with a meaning lies inside the line
-pub meaning-placed : (t : Text) (c : Parts) (k : Command) → meaning t c ≡ some k → Placed t c
+meaning-placed : (t : Text) (c : Parts) (k : Command) → meaning t c ≡ some k → Placed t c
 unfolding meaning Placed
 meaning-placed t (Create p m) k e = with-path-placed t p _ k e
 meaning-placed t (Mkdir p m) k e = with-path-placed t p _ k e

@@ -235,12 +235,12 @@ module _ (w : Copier) {b o : List ℕ} {at above to left : ℕ} (j : Job childre
     pub rest : Forest Node
     pub done : List (Row Node)
     pub here : drop i (all-rows b) ≡ flatten (suc (j .level)) rest ++ j .stands .post
-    pub wrote : Written o to done next z
+    wrote : Written o to done next z
     pub goes : rows-of siblings ≡ done ++ rows-of rest
     pub whole : is-forest rest ≡ true
     pub high : height rest ≤ height siblings
     pub few : length done + size rest ≤ size siblings
-    pub left-over : i + size rest ≡ suc (at + size siblings)
+    left-over : i + size rest ≡ suc (at + size siblings)
 
   pub turn-start : Turn o (at + 1) to
   turn-start = record {

@@ -24,7 +24,7 @@ use Rattle.tree.specs.Node.{allows, owns}
 use Rattle.tree.specs.Result.{done, present}
 use Rattle.tree.specs.ResultLaws.{present-some, bind-done}
 use Rattle.tree.specs.JudgeLaws.{allows-is}
-use Rattle.store.specs.PersonLaws.{In-range, person-in-range}
+use Rattle.store.specs.PersonLaws.{Person-in-range, person-in-range}
 use Rattle.store.specs.Initial.{directory-of, top-node, rep-node}
 use Rattle.machine.specs.Machine.{person-caller, known-caller, caller}
 use Rattle.machine.specs.EntryJudgeLaws.{top-allows}
@@ -60,7 +60,7 @@ pub person-not-root : (u : Setup) (v : Uid) (c : Caller) → is-root v ≡ false
 person-not-root u v c r h = rw (caller-uid u v c h) r
 
 -- a person is not in the group of all service accounts
-no-service : (v : Uid) (p : Person) → In-range v p → member all-services (with-group (p .primary) (p .further)) ≡ false
+no-service : (v : Uid) (p : Person) → Person-in-range v p → member all-services (with-group (p .primary) (p .further)) ≡ false
 unfolding member same-gid all-services
 no-service v p b = rw (member-with all-services (p .primary) (p .further), ne-eqb 24 (p .primary .0) (omega arith), div-eq-of-lt {n = p .further .0} {m = 2 ^ 24} (omega arith))
 

@@ -31,7 +31,7 @@ use Rattle.tree.specs.WalkRefusalLaws.{unused-refuses, walk-refuses, parent-wal
 use Rattle.tree.specs.WellFormed.{is-tree}
 use Rattle.copying.specs.Copying.{below-rep}
 use Rattle.shell.specs.Steps.{text-of}
-use Rattle.shell.specs.Answers.{Own, Fits}
+use Rattle.shell.specs.Answers.{Own, Text-fits}
 use Rattle.shell.specs.ShellAnswerLaws.{none-fits, room-refuses, run-shell-answers, place-text-fits}
 use Rattle.store.specs.State.{Store}
 use Rattle.machine.specs.Machine.{Machine, known-caller, caller, run-login, run-logout, session, run-add, run-co, working-file, original, run-commit, run-up, run-del, run-repository, run}
@@ -179,8 +179,8 @@ module _ {S A : Type 0} (M : Machine S A) (setup : Setup) (s : S) where
 
 -- the text of a done line fits, on a well-formed store
 pub perform-fits : (setup : Setup) (s : Store) → is-tree (s .tree) ≡ true → (text : Text) (o : Outcome Store)
-    → perform store setup s text ≡ done o → Fits (o .text)
-perform-fits setup s h text o e = done-with (perform-gives store setup s Fits none-fits (place-text-fits (s .tree) h) text) e
+    → perform store setup s text ≡ done o → Text-fits (o .text)
+perform-fits setup s h text o e = done-with (perform-gives store setup s Text-fits none-fits (place-text-fits (s .tree) h) text) e
 
 module _ {S A : Type 0} (M : Machine S A) (setup : Setup) (s : S) (call : Call) where
   -- no step is refused 18

@@ -38,9 +38,9 @@ both-between low high1 high2 a b = do
   n ← between low high2 b
   some (m, n)
 
-unfoldable pub pair-of : NumberPair → Option (ℕ × ℕ)
-pair-of (Both m n) = some (m, n)
-pair-of Nothing = none
+unfoldable pub both-of : NumberPair → Option (ℕ × ℕ)
+both-of (Both m n) = some (m, n)
+both-of Nothing = none
 
 -- nothing where the line has no form, or the line told; a password outside the text tells none
 unfoldable pub line-told : Text → SetupLine → Option (Option Setup-line)

@@ -33,7 +33,7 @@ use Rattle.syntax.specs.FieldLaws.{read-byte}
 use Rattle.syntax.specs.Path.{is-name}
 use Rattle.syntax.specs.Parts.{part, span-text, Inside, text-in, number-of}
 use Rattle.setup.specs.Setup.{Setup-line, p-line, g-line, r-line, l-line, longest-line, person-uid, person-or-root, person-gid, plain-role, setup-form, setup-forms, setup-line-of, setup-line}
-use Rattle.setup.specs.Line.{line-form, both-between, pair-of, line-told}
+use Rattle.setup.specs.Line.{line-form, both-between, both-of, line-told}
 
 -- a word of one byte, and of another number of bytes
 pub one-byte : (t : Text) (w : Span) → Inside w t → w .end - w .start ≡ 1 → span-text t w ≡ getD t (w .start) 0 ∷ []
@@ -55,7 +55,7 @@ unfolding setup-line-of by-form setup-forms setup-form same-text bytes
 other-byte b s p g r l = rw (ne-eqb b 112 p, ne-eqb b 103 g, ne-eqb b 114 r, ne-eqb b 108 l)
 
 -- neither two arguments nor three are no line
-pub no-line : (w : Text) (s : List Text) → (length s ≡ 2 → ⊥) → (length s ≡ 3 → ⊥) → setup-line-of (w ∷ s) ≡ none
+no-line : (w : Text) (s : List Text) → (length s ≡ 2 → ⊥) → (length s ≡ 3 → ⊥) → setup-line-of (w ∷ s) ≡ none
 unfolding setup-line-of by-form setup-forms setup-form
 no-line w s h k = case (same-text w (bytes "p"))
     (λ p. rw p (two-refuses person-uid person-gid p-line s h))
@@ -90,17 +90,17 @@ two-numbers f g x low high1 high2 a b = by (between low high1 a) (between low hi
     by (some u) (some v) = refl
 
 -- the numbers that the code read
-pub first-none : (low high1 high2 : ℕ) (a b : Text) (r : Number) → r ≡ No-number → number-of r ≡ between low high1 a → pair-of Nothing ≡ both-between low high1 high2 a b
-unfolding both-between pair-of number-of _>>=_
+pub first-none : (low high1 high2 : ℕ) (a b : Text) (r : Number) → r ≡ No-number → number-of r ≡ between low high1 a → both-of Nothing ≡ both-between low high1 high2 a b
+unfolding both-between both-of number-of _>>=_
 first-none low high1 high2 a b r e h = rw (← h, e)
 
-pub second-none : (low high1 high2 : ℕ) (a b : Text) (r : Number) → r ≡ No-number → number-of r ≡ between low high2 b → pair-of Nothing ≡ both-between low high1 high2 a b
-unfolding both-between pair-of number-of _>>=_
+pub second-none : (low high1 high2 : ℕ) (a b : Text) (r : Number) → r ≡ No-number → number-of r ≡ between low high2 b → both-of Nothing ≡ both-between low high1 high2 a b
+unfolding both-between both-of number-of _>>=_
 second-none low high1 high2 a b r e h = sym (then-none (between low high1 a) _ (λ m. rw (← h, e)))
 
 pub both-numbers : (low high1 high2 : ℕ) (a b : Text) (m n : ℕ) (r s : Number) → high1 < 256 → high2 < 256 → r ≡ Value m → s ≡ Value n →
-    number-of r ≡ between low high1 a → number-of s ≡ between low high2 b → pair-of (Both (m % 256) (n % 256)) ≡ both-between low high1 high2 a b
-unfolding both-between pair-of number-of _>>=_
+    number-of r ≡ between low high1 a → number-of s ≡ between low high2 b → both-of (Both (m % 256) (n % 256)) ≡ both-between low high1 high2 a b
+unfolding both-between both-of number-of _>>=_
 both-numbers low high1 high2 a b m n r s h k d e f g =
     let first : some m ≡ between low high1 a = rw d at f in
     let second : some n ≡ between low high2 b = rw e at g in
@@ -143,13 +143,13 @@ pub told-wrong : (t : Text) {answer : Option Setup-line} → answer ≡ none →
 unfolding line-told
 told-wrong t e = rw e
 
-module _ (t : Text) {answer : Option Setup-line} (f : ℕ × ℕ → Setup-line) {m : Option (ℕ × ℕ)} {q : NumberPair} (form : answer ≡ Option·map f m) (told : pair-of q ≡ m) where
+module _ (t : Text) {answer : Option Setup-line} (f : ℕ × ℕ → Setup-line) {m : Option (ℕ × ℕ)} {q : NumberPair} (form : answer ≡ Option·map f m) (told : both-of q ≡ m) where
   pub told-nothing : q ≡ Nothing → line-told t Wrong ≡ Option·map some answer
-  unfolding line-told pair-of
+  unfolding line-told both-of
   told-nothing e = rw (form, ← told, e)
 
   pub told-both : {a b : ℕ} {x : Option (Option Setup-line)} → q ≡ Both a b → x ≡ some (some (f (a, b))) → x ≡ Option·map some answer
-  unfolding pair-of
+  unfolding both-of
   told-both e h = rw (form, ← told, e, h)
 
 -- a line that is too long has no form

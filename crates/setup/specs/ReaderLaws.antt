@@ -48,7 +48,7 @@ map-set f (a ∷ l) (suc i) v = ap (λ r. f a ∷ r) (map-set f l i v)
 abbrev pub no-slot : Slot
 no-slot = record { primary = record { 0 = 0 }; further = record { 0 = 0 } }
 
-abbrev pub slot-at : Held-setup → Uid → Slot
+abbrev slot-at : Held-setup → Uid → Slot
 slot-at s u = getD (s .persons) (u .0) no-slot
 
 -- the person in it, or none
@@ -65,7 +65,7 @@ named : (t : Text) (s : Held-setup) (u : Uid) → Held t s → u .0 < 16 → is-
 named t s u h k = ap is-some (slot-of t s u h k) ∙ slot-some (slot-at s u)
 
 -- what a slot of a person holds
-abbrev pub person-in : Slot → Person
+abbrev person-in : Slot → Person
 person-in p = record { primary = p .primary; further = p .further }
 
 no-person : (p : Slot) → eqb (p .primary .0) 0 ≡ true → slot-value p ≡ none
@@ -80,10 +80,10 @@ same-person : (p : Slot) {g : Gid} {f : Groups} → (p .primary ≡ g) × (p .fu
 same-person p e = λ i. some (record { primary = e .0 i; further = e .1 i })
 
 -- a setup with a person stored
-abbrev pub stored : Held-setup → ℕ → Slot → Held-setup
-stored s k x = record { persons = set (s .persons) k x; pairs = s .pairs; paired = s .paired; grants = s .grants; granted = s .granted }
+abbrev pub line-stored : Held-setup → ℕ → Slot → Held-setup
+line-stored s k x = record { persons = set (s .persons) k x; pairs = s .pairs; paired = s .paired; grants = s .grants; granted = s .granted }
 
-stored-value : (t : Text) (s : Held-setup) (u : Uid) (x : Slot) (p : Person) → slot-value x ≡ some p → setup-value t (stored s (u .0) x) ≡ with-person u p (setup-value t s)
+stored-value : (t : Text) (s : Held-setup) (u : Uid) (x : Slot) (p : Person) → slot-value x ≡ some p → setup-value t (line-stored s (u .0) x) ≡ with-person u p (setup-value t s)
 unfolding setup-value with-person
 stored-value t s u x p e = λ i. record {
   persons = (map-set slot-value (s .persons) (u .0) x ∙ ap (λ v. set (map slot-value (s .persons)) (u .0) v) e) i;
@@ -91,7 +91,7 @@ stored-value t s u x p e = λ i. record {
   grants = map (grant-value t) (take (s .granted) (s .grants));
 }
 
-pub stored-held : (t : Text) (s : Held-setup) (k : ℕ) (x : Slot) → Held t s → Held t (stored s k x)
+pub stored-held : (t : Text) (s : Held-setup) (k : ℕ) (x : Slot) → Held t s → Held t (line-stored s k x)
 stored-held t s k x h = record {
   slots = length-set (s .persons) k x ∙ h .slots;
   room-for-pairs = h .room-for-pairs;
@@ -187,7 +187,7 @@ pub record Accepts-if (l : Setup-line) (d : Reading) (passes : Bool) (d′ : Rea
 -- each line after what has been read
 module _ (t : Text) (k : ℕ) (s : Held-setup) (h : Held t s) where
   pub person-accepted : (u : Uid) (g : Gid) (p : Slot) → u .0 < 16 → 0 < g .0 → (p .primary ≡ g) × (p .further ≡ no-groups) →
-      Accepts-if (p-line u g) (reading-of t k s) (may-name k (slot-at s u .primary)) (reading-of t 0 (stored s (u .0) p))
+      Accepts-if (p-line u g) (reading-of t k s) (may-name k (slot-at s u .primary)) (reading-of t 0 (line-stored s (u .0) p))
   unfolding accept reading-of may-name
   person-accepted u g p i n e =
       let free : not (is-some (person (setup-value t s) u)) ≡ eqb (slot-at s u .primary .0) 0 = rw (named t s u h i) (Bool·not-not _) in
@@ -195,7 +195,7 @@ module _ (t : Text) (k : ℕ) (s : Held-setup) (h : Held t s) where
       record { is = check-both _ _ _ ∙ rw (free, stored-value t s u p _ new) }
 
   pub group-accepted : (u : Uid) (g : Gid) (p : Slot) → u .0 < 16 → (p .primary ≡ slot-at s u .primary) × (p .further ≡ with-group g (slot-at s u .further)) →
-      Accepts-if (g-line u g) (reading-of t k s) (may-join k (slot-at s u .primary)) (reading-of t 1 (stored s (u .0) p))
+      Accepts-if (g-line u g) (reading-of t k s) (may-join k (slot-at s u .primary)) (reading-of t 1 (line-stored s (u .0) p))
   unfolding accept reading-of may-join joining _>>=_
   group-accepted u g p i e =
       let was : Slot = slot-at s u in

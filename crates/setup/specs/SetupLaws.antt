@@ -97,7 +97,7 @@ unfolding in-range
 l-range t u r w e = ltb-true (u .0) 16 (and-both (ltb (u .0) 16) _ (line-gives t (l-line u r w) e) .0)
 
 -- the parts of a setup in range
-pub record Ranges (s : Setup) : Type 0 where
+pub record Setup-ranges (s : Setup) : Type 0 where
   pub count : length (s .persons) ≡ 16
   pub zeroth : is-some (getD (s .persons) 0 none) ≡ false
   pub slots : every is-slot (s .persons) ≡ true
@@ -107,7 +107,7 @@ pub record Ranges (s : Setup) : Type 0 where
   pub all-grants : every (is-grant s) (s .grants) ≡ true
 
 -- a setup in range has them
-pub apart : (s : Setup) → is-setup s ≡ true → Ranges s
+pub apart : (s : Setup) → is-setup s ≡ true → Setup-ranges s
 unfolding is-setup accounts most-pairs most-grants
 apart s h =
     let a : _ = and-both (eqb (length (s .persons)) 16 && (not (is-some (getD (s .persons) 0 none)) && every is-slot (s .persons))) _ h in
@@ -127,7 +127,7 @@ apart s h =
     }
 
 -- and with them it is in range
-pub together : (s : Setup) → Ranges s → is-setup s ≡ true
+pub together : (s : Setup) → Setup-ranges s → is-setup s ≡ true
 unfolding is-setup accounts most-pairs most-grants
 together s r = both (both (eq-eqb (length (s .persons)) 16 (r .count)) (both (ap not (r .zeroth)) (r .slots)))
     (both (both (le-leb (length (s .pairs)) 28 (r .few-pairs)) (r .all-pairs)) (both (le-leb (length (s .grants)) 32 (r .few-grants)) (r .all-grants)))
@@ -152,7 +152,7 @@ still-granted u p s l g h =
     let i : _ = and-both (is-root (g .uid) || is-some (getD (s .persons) (g .uid .0) none)) _ h in
     both (or-implies (is-root (g .uid)) _ _ (somebody-stays (s .persons) (u .0) (g .uid .0) p l) (i .0)) (i .1)
 
-person-ranges : (u : Uid) (p : Person) (s : Setup) → one-to-15 (u .0) ≡ true → is-person p ≡ true → Ranges s → Ranges (with-person u p s)
+person-ranges : (u : Uid) (p : Person) (s : Setup) → one-to-15 (u .0) ≡ true → is-person p ≡ true → Setup-ranges s → Setup-ranges (with-person u p s)
 unfolding with-person is-slot one-to-15
 person-ranges u p s h k r =
     let i : _ = and-both (leb 1 (u .0)) (leb (u .0) 15) h in
@@ -168,7 +168,7 @@ person-ranges u p s h k r =
       all-grants = every-implies (is-grant s) (is-grant (with-person u p s)) (still-granted u p s high) (s .grants) (r .all-grants);
     }
 
-pair-ranges : (p : Pair) (s : Setup) → is-pair p ≡ true → length (s .pairs) < 28 → Ranges s → Ranges (with-pair p s)
+pair-ranges : (p : Pair) (s : Setup) → is-pair p ≡ true → length (s .pairs) < 28 → Setup-ranges s → Setup-ranges (with-pair p s)
 unfolding with-pair every is-grant person
 pair-ranges p s h l r =
     record {
@@ -181,7 +181,7 @@ pair-ranges p s h l r =
       all-grants = r .all-grants;
     }
 
-grant-ranges : (g : Grant) (s : Setup) → is-grant s g ≡ true → length (s .grants) < 32 → Ranges s → Ranges (with-grant g s)
+grant-ranges : (g : Grant) (s : Setup) → is-grant s g ≡ true → length (s .grants) < 32 → Setup-ranges s → Setup-ranges (with-grant g s)
 unfolding with-grant every is-grant person
 grant-ranges g s h l r =
     record {
@@ -221,7 +221,7 @@ unfolding person is-slot
 person-found s u p h e = rw e at (every-getD is-slot (s .persons) (u .0) none h refl)
 
 -- a line that fits keeps what has been read in range
-accept-keeps : (l : Setup-line) (d d′ : Reading) → in-range l ≡ true → accept l d ≡ some d′ → Ranges (d .so-far) → Ranges (d′ .so-far)
+accept-keeps : (l : Setup-line) (d d′ : Reading) → in-range l ≡ true → accept l d ≡ some d′ → Setup-ranges (d .so-far) → Setup-ranges (d′ .so-far)
 unfolding accept in-range is-pair is-grant most-pairs most-grants
 accept-keeps (p-line u g) d d′ h e r =
     let i : _ = and-both (one-to-15 (u .0)) (one-to-15 (g .0)) h in
@@ -266,7 +266,7 @@ continued (some d) n rest s e = (d, refl, e)
 accepted-one : {s s′ : Setup} → accepted s ≡ accepted s′ → s′ ≡ s
 accepted-one e = cc
 
-read-keeps : (ts : List Text) (n : ℕ) (d : Reading) (s : Setup) → Ranges (d .so-far) → read-lines ts n d ≡ accepted s → Ranges s
+read-keeps : (ts : List Text) (n : ℕ) (d : Reading) (s : Setup) → Setup-ranges (d .so-far) → read-lines ts n d ≡ accepted s → Setup-ranges s
 unfolding read-lines
 read-keeps [] n d s r e = contra {b = true} refl (cc)
 read-keeps (t ∷ []) n d s r e = contra {b = true} refl (cc)

@@ -7,7 +7,7 @@ ghost use lib.ListN.{length, drop};
 ghost use Rattle.buffers.specs.Text.{Text};
 ghost use Rattle.syntax.specs.Parts.{Inside, part, span-text};
 ghost use Rattle.setup.specs.Setup.{setup-line-of, setup-line};
-ghost use Rattle.setup.specs.Line.{line-form, two-texts, three-texts, both-between, pair-of, line-told};
+ghost use Rattle.setup.specs.Line.{line-form, two-texts, three-texts, both-between, both-of, line-told};
 use crate::LineKind;
 use crate::NumberPair;
 use crate::SetupLine;
@@ -41,7 +41,7 @@ fn word_at(text: &[u8], w: Span) -> LineKind
 // The numbers, from low to a bound each, that two parts are.
 fn numbers_at(text: &[u8], a: Span, b: Span, low: u16, high1: u16, high2: u16) -> NumberPair
     requires { ⌜ (Inside a (now text)) × ((Inside b (now text)) × ((high1 < 256) × (high2 < 256))) ⌝ }
-    ensures { λ r. ⌜ pair-of r ≡ both-between low high1 high2 (span-text (now (text .entry)) a) (span-text (now (text .entry)) b) ⌝ }
+    ensures { λ r. ⌜ both-of r ≡ both-between low high1 high2 (span-text (now (text .entry)) a) (span-text (now (text .entry)) b) ⌝ }
 {
     match number_at(text, a, low, high1) {
         Number::Nothing => NumberPair::Nothing,

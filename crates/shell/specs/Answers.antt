@@ -35,5 +35,5 @@ abbrev pub Own : Cause → Type 0
 Own why = own why ≡ true
 
 -- no text, or one of at most 2294 bytes
-abbrev pub Fits : Option Text → Type 0
-Fits o = (x : Text) → o ≡ some x → length x ≤ longest-text
+abbrev pub Text-fits : Option Text → Type 0
+Text-fits o = (x : Text) → o ≡ some x → length x ≤ longest-text

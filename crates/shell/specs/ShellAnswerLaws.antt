@@ -24,10 +24,10 @@ use Rattle.tree.specs.WellFormed.{is-tree}
 use Rattle.tree.specs.UpdateLaws.{walked-at}
 use Rattle.shell.specs.Steps.{text-of, room, run-create, run-read, run-write, run-rm, run-mv, run-chmod, run-chgrp, run-chown, run-shell}
 use Rattle.shell.specs.ReadTextLaws.{read-fits}
-use Rattle.shell.specs.Answers.{Own, Fits}
+use Rattle.shell.specs.Answers.{Own, Text-fits}
 
 -- no text fits
-pub none-fits : Fits none
+pub none-fits : Text-fits none
 none-fits x e = no-answer e
 
 module _ (c : Caller) (m : ℕ) (t : Place Node) where
@@ -135,5 +135,5 @@ module _ (c : Caller) (m : ℕ) (t : Place Node) where
     run-shell-answers (chown p owner) = chown-answers p owner
 
 -- the text of a place of a well-formed tree fits
-pub place-text-fits : (t : Place Node) → is-tree t ≡ true → (p : Path) (d : Place Node) → place-at t p ≡ some d → Fits (some (text-of d))
+pub place-text-fits : (t : Place Node) → is-tree t ≡ true → (p : Path) (d : Place Node) → place-at t p ≡ some d → Text-fits (some (text-of d))
 place-text-fits t h p d e x i = rw (answered i) (read-fits t p d h e)

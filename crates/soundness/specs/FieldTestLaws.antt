@@ -95,15 +95,15 @@ module _ (b : List ℕ) (i : ℕ) where
     length-row = length-take-le row-width (drop (row-start i) b) (omega (arith, length-drop (row-start i) b))
 
     -- no text of a row is longer than its field
-    pub text-fits : (k w : ℕ) → k + w ≤ row-width → length (text-at k w (row-bytes-at b i)) ≤ w
-    text-fits k w j = length-text-at k w (row-bytes-at b i) (omega (arith, length-row))
+    pub text-within : (k w : ℕ) → k + w ≤ row-width → length (text-at k w (row-bytes-at b i)) ≤ w
+    text-within k w j = length-text-at k w (row-bytes-at b i) (omega (arith, length-row))
 
     -- a field is filled up with zeros
     pub filled-in-row : (k w n : ℕ) → k + w ≤ row-width → n ≡ length (text-at k w (row-bytes-at b i))
         → is-filled k w (row-bytes-at b i) ≡ zeros-at (row-start i + k + n) (row-start i + (k + w) - (row-start i + k + n)) b
     unfolding is-filled
     filled-in-row k w n j e =
-        let f = text-fits k w j in
+        let f = text-within k w j in
         let q : w - n ≡ k + w - (k + n) = omega arith in
         rw (← e) (ap (λ (m : ℕ). zeros-at (k + n) m (row-bytes-at b i)) q ∙ zeros-behind k (k + w) n (omega arith) j)
 
@@ -125,7 +125,7 @@ module _ (b : List ℕ) (i : ℕ) where
         → has-content (row-bytes-at b i) ≡ zeros-at (row-start i + content-offset + n) (row-start i + row-width - (row-start i + content-offset + n)) b
     unfolding has-content row-at read-row
     content-rest n c k e =
-        let f = text-fits 72 80 (omega arith) in
+        let f = text-within 72 80 (omega arith) in
         let q : 160 - n ≡ row-width - (72 + n) = omega arith in
         rw (c, k) (rw (← e) (ap (λ (m : ℕ). zeros-at (72 + n) m (row-bytes-at b i)) q ∙ zeros-behind 72 row-width n (omega arith) (omega arith)))
 

@@ -168,7 +168,7 @@ assembled b Z n c z =
     ap₂ _++_ c e ∙ take-append-drop 2 b
 
 -- bytes that pass are those of a well-formed tree
-pub sound-encodes : (b : List ℕ) → is-sound b ≡ true → (t : Place Node) × ((is-tree t ≡ true) × (encode-tree t ≡ b))
+sound-encodes : (b : List ℕ) → is-sound b ≡ true → (t : Place Node) × ((is-tree t ≡ true) × (encode-tree t ≡ b))
 unfolding encode-tree encode-rows most-nodes row-stretches all-rows
 sound-encodes b h =
     let s = sound-parts b h in
@@ -198,9 +198,9 @@ module _ (t : Place Node) (h : is-tree t ≡ true) where
   encoded-rows = refl
 
   -- so they pass
-  pub tree-is-sound : is-sound (encode-tree t) ≡ true
+  pub encoding-is-sound : is-sound (encode-tree t) ≡ true
   unfolding row-stretches
-  tree-is-sound =
+  encoding-is-sound =
       let b = encode-tree t in
       let rs = rows t in
       let n = row-count-of-tree t h in
@@ -224,7 +224,7 @@ unfolding is-some
 sound-read b none e = case (is-sound b)
     (λ s. let t = sound-encodes b s in no-answer (sym e ∙ ap decode-tree (sym (t .1 .1)) ∙ decode-encode (t .0) (t .1 .0)))
     (λ s. s)
-sound-read b (some t) e = let i = encode-decode b t e in ap is-sound (sym (i .0)) ∙ tree-is-sound t (i .1)
+sound-read b (some t) e = let i = encode-decode b t e in ap is-sound (sym (i .0)) ∙ encoding-is-sound t (i .1)
 
 -- so the test is whether bytes are read as a tree
 pub sound-is : (b : List ℕ) → is-sound b ≡ is-some (decode-tree b)

@@ -21,11 +21,11 @@ within l i a h = case (ltb i (length l))
     (λ t. contra {b = true} refl (cc (List·getD-eq-default l none (ltb-false i (length l) t))))
 
 -- an account's number, its primary group and its further groups
-abbrev pub In-range : Uid → Person → Type 0
-In-range v p = (v .0 < 16) × (p .primary .0 < 16) × (p .further .0 < 65536)
+abbrev pub Person-in-range : Uid → Person → Type 0
+Person-in-range v p = (v .0 < 16) × (p .primary .0 < 16) × (p .further .0 < 65536)
 
 -- the persons of a setup in range are in range
-pub person-in-range : (u : Setup) → is-setup u ≡ true → (v : Uid) (p : Person) → person u v ≡ some p → In-range v p
+pub person-in-range : (u : Setup) → is-setup u ≡ true → (v : Uid) (p : Person) → person u v ≡ some p → Person-in-range v p
 unfolding person is-slot is-person
 person-in-range u s v p h =
     let r = apart u s in

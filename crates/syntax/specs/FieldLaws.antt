@@ -126,7 +126,7 @@ content-fits c h = (
 )
 
 -- a number that is read is in range, and fits a byte
-pub read-range : (low high n : ℕ) (t : Text) → some n ≡ between low high t → (low ≤ n) × (n ≤ high)
+read-range : (low high n : ℕ) (t : Text) → some n ≡ between low high t → (low ≤ n) × (n ≤ high)
 read-range low high n t e =
     let i : _ = and-both (leb low n) (leb n high) (between-gives low high t n (sym e)) in
     (leb-true low n (i .0), leb-true n high (i .1))

@@ -19,7 +19,7 @@ use Rattle.syntax.specs.PartsLaws.{piece-end-le, pieces-first-from, piec
 -- the field that starts at a place
 pub record Field-at (t : Text) (at : ℕ) (f : Field) : Type 0 where
   pub begins : at ≤ length t
-  pub starts : f .start ≡ at
+  starts : f .start ≡ at
   pub ends : f .end ≡ at + piece-length comma (drop at t)
   pub within : f .end ≤ length t
   pub last : f .last ≡ eqb (f .end) (length t)

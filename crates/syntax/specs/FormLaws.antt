@@ -54,13 +54,13 @@ checked-gives test s x e = let i : _ = checked (test s) (some s) x e in rw (answ
 
 module _ {X : Type 0} (test : X → Bool) where
   -- a form without arguments
-  pub none-gives : {x : X} → test x ≡ true → Answers-pass (none-of x) test
+  none-gives : {x : X} → test x ≡ true → Answers-pass (none-of x) test
   unfolding none-of
   none-gives h [] y e = rw (answered e) h
   none-gives h (s ∷ more) y e = no-answer e
 
   -- a form of one argument
-  pub one-gives : {A : Type 0} {read : Text → Option A} {of : A → Bool} {x : A → X} →
+  one-gives : {A : Type 0} {read : Text → Option A} {of : A → Bool} {x : A → X} →
       Answers-pass read of → ((a : A) → of a ≡ true → test (x a) ≡ true) → Answers-pass (one-of read x) test
   unfolding one-of
   one-gives h k [] y e = no-answer e
@@ -105,12 +105,12 @@ module _ {X : Type 0} (test : X → Bool) where
       (λ t. by-form-gives hs w s y (rw t at e))
 
 -- forms refuse another number of arguments
-pub none-refuses : {X : Type 0} (x : X) (ts : List Text) → (length ts ≡ 0 → ⊥) → none-of x ts ≡ none
+none-refuses : {X : Type 0} (x : X) (ts : List Text) → (length ts ≡ 0 → ⊥) → none-of x ts ≡ none
 unfolding none-of
 none-refuses x [] h = absurd (h refl)
 none-refuses x (s ∷ ts) h = refl
 
-pub one-refuses : {A X : Type 0} (r : Text → Option A) (x : A → X) (ts : List Text) → (length ts ≡ 1 → ⊥) → one-of r x ts ≡ none
+one-refuses : {A X : Type 0} (r : Text → Option A) (x : A → X) (ts : List Text) → (length ts ≡ 1 → ⊥) → one-of r x ts ≡ none
 unfolding one-of
 one-refuses r x [] h = refl
 one-refuses r x (s ∷ ts) h = then-none (r s) (λ a. none-of (x a) ts) (λ a. none-refuses (x a) ts (λ e. h (ap suc e)))

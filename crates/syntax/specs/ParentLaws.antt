@@ -26,7 +26,7 @@ use Rattle.syntax.specs.PathPartsLaws.{names-read-past, names-read-next,
 -- ---- the names of a path text
 
 -- all names are read where as many are asked for as there are bytes
-pub names-enough : (t : Text) (at n m : ℕ) → length t ≤ at + n → length t ≤ at + m → names-read t at n ≡ names-read t at m
+names-enough : (t : Text) (at n m : ℕ) → length t ≤ at + n → length t ≤ at + m → names-read t at n ≡ names-read t at m
 names-enough t at zero m h k = names-read-past t at 0 (omega arith) ∙ sym (names-read-past t at m (omega arith))
 names-enough t at (suc n) zero h k = names-read-past t at (suc n) (omega arith) ∙ sym (names-read-past t at 0 (omega arith))
 names-enough t at (suc n) (suc m) h k =
@@ -48,7 +48,7 @@ path-names-of-path t p e =
     rw (names-enough t 1 (length t) (6 + length t) (omega arith) (omega arith)) (names-read-path t p (6 + length t) e (omega arith))
 
 -- the empty text has none
-pub no-names : path-names [] ≡ []
+no-names : path-names [] ≡ []
 unfolding path-names names-read
 no-names = refl
 
@@ -105,7 +105,7 @@ names-from-next t at start end rest e = case (leb (length t) at)
 -- ---- the last `/`
 
 -- the last `/` is one of the bytes, or 0
-pub slash-before-le : (t : Text) (n : ℕ) → slash-before t n ≤ n
+slash-before-le : (t : Text) (n : ℕ) → slash-before t n ≤ n
 unfolding slash-before
 slash-before-le t zero = omega arith
 slash-before-le t (suc n) = case (eqb (getD t n 0) 47) (λ e. rw e (omega arith)) (λ e. rw e (omega (arith, slash-before-le t n)))

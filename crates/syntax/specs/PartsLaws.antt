@@ -42,7 +42,7 @@ text-inside t s x e =
     (true-inside t s (i .0), answered (i .1))
 
 -- a piece is no longer than its text
-pub piece-length-le : (b : ℕ) (t : Text) → piece-length b t ≤ length t
+piece-length-le : (b : ℕ) (t : Text) → piece-length b t ≤ length t
 unfolding piece-length
 piece-length-le b [] = omega arith
 piece-length-le b (c ∷ t) = case (eqb c b) (λ e. rw e (omega arith)) (λ e. rw e (omega (arith, piece-length-le b t)))
@@ -57,7 +57,7 @@ pieces-first b (c ∷ t) h = case (eqb c b)
     (λ e. let k : suc (piece-length b t) < suc (length t) = rw e at h in rw (e, pieces-first b t (omega arith)))
 
 -- a text without one is its only piece
-pub pieces-only : (b : ℕ) (t : Text) → piece-length b t ≡ length t → pieces b t ≡ t ∷ []
+pieces-only : (b : ℕ) (t : Text) → piece-length b t ≡ length t → pieces b t ≡ t ∷ []
 unfolding piece-length pieces prefix-first
 pieces-only b [] h = refl
 pieces-only b (c ∷ t) h = case (eqb c b)

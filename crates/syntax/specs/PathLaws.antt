@@ -149,7 +149,7 @@ without-rep-back (root ▹ n) = rw (same-text-refl rep)
 without-rep-back (p ▹ m ▹ n) = rw (without-rep-back (p ▹ m))
 
 -- the location of an entry is read as that entry
-pub in-rep-back : (e : Entry-path) → entry-at (entry-location e) ≡ some e
+in-rep-back : (e : Entry-path) → entry-at (entry-location e) ≡ some e
 unfolding entry-at entry-location _>>=_
 in-rep-back e = rw (without-rep-back (e .folder))
 

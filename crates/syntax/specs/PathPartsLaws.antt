@@ -1,5 +1,5 @@
 -- Laws of paths by their parts: the names of a path, read one piece after another; the texts that are paths and entry paths;
--- and what the readers of names give of a path (`names-of-path`).
+-- and what the readers of names give of a path.
 use mathlib.Core.Path.{_≡_, refl, sym, ap, _∙_}
 use mathlib.Core.List.{List, [], _∷_, _++_}
 use mathlib.Core.Option.{none, some}
@@ -91,7 +91,7 @@ path-top (b ∷ []) h e = rw (eq-eqb b 47 e)
 path-top (b ∷ (c ∷ t)) h e = let z : ⊥ = omega arith in absurd z
 
 -- a longer text is one where the pieces behind its `/` are names
-pub path-pieces : (t : Text) → 1 < length t → getD t 0 0 ≡ 47 → path t ≡ names-from-top ([] ∷ pieces 47 (drop 1 t))
+path-pieces : (t : Text) → 1 < length t → getD t 0 0 ≡ 47 → path t ≡ names-from-top ([] ∷ pieces 47 (drop 1 t))
 unfolding path same-text bytes pieces
 path-pieces [] h e = let z : ⊥ = omega arith in absurd z
 path-pieces (b ∷ []) h e = let z : ⊥ = omega arith in absurd z
@@ -221,7 +221,7 @@ name-comes t at h = case (ltb at (length t))
     (λ l. contra {b = true} refl (sym (rw (drop-of-length-le t (ltb-false at (length t) l)) at h)))
 
 -- the names read from a place on are the pieces there, where these are names
-pub names-read-pieces : (t : Text) (at n : ℕ) → at ≤ length t → every is-name (pieces 47 (drop at t)) ≡ true →
+names-read-pieces : (t : Text) (at n : ℕ) → at ≤ length t → every is-name (pieces 47 (drop at t)) ≡ true →
     length (pieces 47 (drop at t)) ≤ n → names-read t at n ≡ pieces 47 (drop at t)
 unfolding every
 names-read-pieces t at zero h k l = let z : ⊥ = omega (arith, pieces-some 47 (drop at t)) in absurd z
@@ -267,7 +267,3 @@ names-read-path (b ∷ (c ∷ t)) p n e h =
     let slash : b ≡ 47 = path-slash (b ∷ (c ∷ t)) p e (omega arith) in
     let i : _ = names-of-top (pieces 47 (c ∷ t)) p (sym (path-pieces (b ∷ (c ∷ t)) (omega arith) slash) ∙ e) in
     rw (names-read-pieces (b ∷ (c ∷ t)) 1 n (omega arith) (i .0) (omega (arith, i .1))) (i .2)
-
--- and seven are enough
-pub names-of-path : (t : Text) (p : Path) → path t ≡ some p → extended root (names-read t 1 7) ≡ p
-names-of-path t p e = names-read-path t p 7 e (omega arith)

@@ -9,18 +9,11 @@
 -- | kept for a merge base | 152 | 80 |
 use Prim.Native.Nat.{ℕ, _+_, _*_}
 
-abbrev pub count-width : ℕ
-count-width = 2
-
 abbrev pub row-width : ℕ
 row-width = 232
 
 abbrev pub most-rows : ℕ
 most-rows = 256
-
--- all rows
-abbrev pub rows-width : ℕ
-rows-width = 59392
 
 -- the number of rows, and all rows
 abbrev pub tree-width : ℕ

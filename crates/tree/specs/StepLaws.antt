@@ -12,7 +12,7 @@ use Rattle.tree.specs.Walk.{Judge, look, unused, enter, walk, parent-wal
 
 module _ {A : Type 0} where
   -- the child that was found
-  pub looked : (n : Name) (F : Forest A) {d : Place A} → look n F ≡ done d → get n F ≡ some d
+  looked : (n : Name) (F : Forest A) {d : Place A} → look n F ≡ done d → get n F ≡ some d
   unfolding look
   looked n F i = present-some (get n F) Missing i
 

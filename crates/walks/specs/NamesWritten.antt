@@ -21,17 +21,17 @@ next-place [] = 0
 next-place (n ∷ ns) = suc (length (joined comma (n ∷ ns)))
 
 -- b is a with names written over its first bytes, and the next name goes to that place
-pub record Written (a : List ℕ) (ns : List Text) (b : List ℕ) (place : ℕ) : Type 0 where
+pub record Names-written (a : List ℕ) (ns : List Text) (b : List ℕ) (place : ℕ) : Type 0 where
   pub holds : b ≡ joined comma ns ++ drop (length (joined comma ns)) a
   pub next : place ≡ next-place ns
 
 -- names written behind any others
-abbrev pub Writes : List Text → List ℕ → ℕ → List ℕ → ℕ → Type 0
-Writes ms b place c next = (a : List ℕ) → (ns : List Text) → Written a ns b place → Written a (ns ++ ms) c next
+abbrev pub Adds-names : List Text → List ℕ → ℕ → List ℕ → ℕ → Type 0
+Adds-names ms b place c next = (a : List ℕ) → (ns : List Text) → Names-written a ns b place → Names-written a (ns ++ ms) c next
 
 -- one name or none
 abbrev pub Writes-one : List Text → List ℕ → ℕ → List ℕ → ℕ → Type 0
-Writes-one ms b place c next = Writes ms b place c next × (next ≤ place + suc name-width)
+Writes-one ms b place c next = Adds-names ms b place c next × (next ≤ place + suc name-width)
 
 -- b is a with a text in front, and r tells how many bytes it takes
 abbrev pub Answers : Text → List ℕ → ℕ → List ℕ → Type 0

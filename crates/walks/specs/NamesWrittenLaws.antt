@@ -8,7 +8,7 @@ use lib.ListN.{length, set, take, drop, length-append}
 use lib.Seq.{take-length, take-append-seam, drop-append-add, set-split, drop-drop, paste}
 use Rattle.buffers.specs.Text.{Text}
 use Rattle.syntax.specs.Pieces.{comma, joined}
-use Rattle.walks.specs.NamesWritten.{over, next-place, Written}
+use Rattle.walks.specs.NamesWritten.{over, next-place, Names-written}
 
 -- a copy of all bytes of a text
 pub over-paste : (b t : List ℕ) (place : ℕ) → paste b place t (length t) ≡ over place t b
@@ -45,14 +45,14 @@ joined-behind c n (q ∷ qs) m =
 
 module _ (a b z : List ℕ) (m : Text) (place : ℕ) where
   -- the first name is written without a comma
-  pub named-first : (ns : List Text) → Written a ns b place → place ≡ 0 → z ≡ over 0 m b → Written a (ns ++ (m ∷ [])) z (length m + 1)
+  pub named-first : (ns : List Text) → Names-written a ns b place → place ≡ 0 → z ≡ over 0 m b → Names-written a (ns ++ (m ∷ [])) z (length m + 1)
   unfolding next-place joined
   named-first [] v h e = record { holds = e ∙ rw (v .holds) (over-more [] m a); next = add-one (length m) }
   named-first (n ∷ ns) v h e = let x : ⊥ = omega (arith, v .next) in absurd x
 
   -- another behind a comma
-  pub named-more : (ns : List Text) → Written a ns b place → (place ≡ 0 → ⊥) → place ≤ length b → z ≡ over place m (set b (place - 1) 44)
-      → Written a (ns ++ (m ∷ [])) z (place + length m + 1)
+  pub named-more : (ns : List Text) → Names-written a ns b place → (place ≡ 0 → ⊥) → place ≤ length b → z ≡ over place m (set b (place - 1) 44)
+      → Names-written a (ns ++ (m ∷ [])) z (place + length m + 1)
   unfolding next-place comma
   named-more [] v h l e = absurd (h (v .next))
   named-more (n ∷ ns) v h l e =
@@ -69,7 +69,7 @@ module _ (a b z : List ℕ) (m : Text) (place : ℕ) where
       }
 
 -- no name is written yet
-pub named-nothing : (a : List ℕ) → Written a [] a 0
+pub named-nothing : (a : List ℕ) → Names-written a [] a 0
 unfolding next-place joined
 named-nothing a = record { holds = refl; next = refl }
 

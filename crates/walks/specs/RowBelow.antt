@@ -24,13 +24,13 @@ unfoldable pub has-children-in : List (Row Node) → ℕ → Bool
 has-children-in rs at = first-passes (is-deeper (depth-of rs at)) (drop (suc at) rs)
 
 -- the greatest of a number and the depths of rows
-unfoldable pub deepest : ℕ → List (Row Node) → ℕ
-deepest m [] = m
-deepest m (r ∷ rs) = deepest (larger m (r .depth)) rs
+unfoldable pub deepest-in : ℕ → List (Row Node) → ℕ
+deepest-in m [] = m
+deepest-in m (r ∷ rs) = deepest-in (larger m (r .depth)) rs
 
 -- how far below a row the rows below it go
 unfoldable pub height-in : List (Row Node) → ℕ → ℕ
-height-in rs at = deepest (depth-of rs at) (rows-below rs at) - depth-of rs at
+height-in rs at = deepest-in (depth-of rs at) (rows-below rs at) - depth-of rs at
 
 -- the names of the rows at depth k
 unfoldable pub names-in : ℕ → List (Row Node) → List Text

@@ -32,7 +32,7 @@ use Rattle.tree.specs.RowAt.{row-count, row-at, all-rows}
 use Rattle.tree.specs.TreeBytes.{At}
 use Rattle.tree.specs.RowAtLaws.{length-all-rows, row-in-rows, depth-of-row, scan-stop, scan-end}
 use Rattle.tree.specs.TreeBytesLaws.{encoded-rows}
-use Rattle.walks.specs.RowBelow.{front-below, rows-below, has-children-in, deepest, height-in, names-in, child-text-in}
+use Rattle.walks.specs.RowBelow.{front-below, rows-below, has-children-in, deepest-in, height-in, names-in, child-text-in}
 
 -- ---- rows below, by index
 
@@ -59,18 +59,18 @@ module _ (b : List ℕ) (k i : ℕ) where
 module _ (b : List ℕ) (k i m : ℕ) where
   -- a deeper row is compared
   pub deepest-go : i < row-count b → k < row-at b i .depth
-      → deepest m (front-below k (drop i (all-rows b))) ≡ deepest (larger m (row-at b i .depth)) (front-below k (drop (i + 1) (all-rows b)))
-  unfolding deepest
+      → deepest-in m (front-below k (drop i (all-rows b))) ≡ deepest-in (larger m (row-at b i .depth)) (front-below k (drop (i + 1) (all-rows b)))
+  unfolding deepest-in
   deepest-go h l = rw (below-go b k i h l, add-one)
 
   -- one that is not leaves what there is
-  pub deepest-stop : i < row-count b → row-at b i .depth ≤ k → deepest m (front-below k (drop i (all-rows b))) ≡ m
-  unfolding deepest
+  pub deepest-stop : i < row-count b → row-at b i .depth ≤ k → deepest-in m (front-below k (drop i (all-rows b))) ≡ m
+  unfolding deepest-in
   deepest-stop h l = rw (below-stop b k i h l)
 
   -- and so does the end
-  pub deepest-end : row-count b ≤ i → deepest m (front-below k (drop i (all-rows b))) ≡ m
-  unfolding deepest
+  pub deepest-end : row-count b ≤ i → deepest-in m (front-below k (drop i (all-rows b))) ≡ m
+  unfolding deepest-in
   deepest-end h = rw (below-end b k i h)
 
 -- ---- names, row by row
@@ -132,7 +132,7 @@ module _ (b : List ℕ) (at : ℕ) (h : at < row-count b) where
     below-from = rw (depth-of-row b at h, ← e, add-one)
 
     -- how far they go, from the greatest depth
-    pub height-from : height-in (all-rows b) at ≡ deepest k (front-below k (drop (at + 1) (all-rows b))) - k
+    pub height-from : height-in (all-rows b) at ≡ deepest-in k (front-below k (drop (at + 1) (all-rows b))) - k
     unfolding height-in
     height-from = rw (below-from, depth-of-row b at h, ← e)
 
@@ -162,8 +162,8 @@ larger-first a b h =
     omega arith
 
 -- the greatest depth of rows made of two parts
-deepest-append : (m : ℕ) (xs ys : List (Row Node)) → deepest m (xs ++ ys) ≡ deepest (deepest m xs) ys
-unfolding deepest
+deepest-append : (m : ℕ) (xs ys : List (Row Node)) → deepest-in m (xs ++ ys) ≡ deepest-in (deepest-in m xs) ys
+unfolding deepest-in
 deepest-append m [] ys = refl
 deepest-append m (x ∷ xs) ys = deepest-append (larger m (x .depth)) xs ys
 
@@ -188,8 +188,8 @@ larger-steps m k c r h =
     omega arith
 
 -- siblings' rows go as far down as the forest is high
-deepest-flatten : (m k : ℕ) (F : Forest Node) → k ≤ m → deepest m (flatten (suc k) F) ≡ larger m (k + height F)
-unfolding deepest flatten height
+deepest-flatten : (m k : ℕ) (F : Forest Node) → k ≤ m → deepest-in m (flatten (suc k) F) ≡ larger m (k + height F)
+unfolding deepest-in flatten height
 deepest-flatten m k nil h = sym (larger-first m (k + 0) (omega arith))
 deepest-flatten m k (node n x cs rest) h =
     let a = larger m (suc k) in
@@ -197,7 +197,7 @@ deepest-flatten m k (node n x cs rest) h =
     let ba = larger-bounds m (suc k) in
     let bb = larger-bounds a (suc k + height cs) in
     deepest-append a (flatten (suc (suc k)) cs) (flatten (suc k) rest)
-    ∙ ap (λ (j : ℕ). deepest j (flatten (suc k) rest)) (deepest-flatten a (suc k) cs (omega arith))
+    ∙ ap (λ (j : ℕ). deepest-in j (flatten (suc k) rest)) (deepest-flatten a (suc k) cs (omega arith))
     ∙ deepest-flatten b k rest (omega arith)
     ∙ larger-steps m k (height cs) (height rest) h
 

@@ -25,7 +25,7 @@ use Rattle.setup.specs.SetupLaws.{p-range, g-range, l-range}
 use Rattle.setup.specs.Line.{line-told}
 use Rattle.setup.specs.LineLaws.{told-none, told-line, grant-told}
 use Rattle.setup.specs.Reader.{Held, reading-of, fits-after, account-of}
-use Rattle.setup.specs.ReaderLaws.{Accepts-if, no-slot, stored, stored-held, paired-with, paired-held, granted-with, granted-held, pair-room, grant-room, person-accepted, group-accepted, pair-accepted, grant-accepted}
+use Rattle.setup.specs.ReaderLaws.{Accepts-if, no-slot, line-stored, stored-held, paired-with, paired-held, granted-with, granted-held, pair-room, grant-room, person-accepted, group-accepted, pair-accepted, grant-accepted}
 use Rattle.setup.specs.LinesLaws.{begins, ends-early, end-accepted, end-wrong, line-formless, line-refused, line-accepted, wrong-read, accepted-read}
 use Rattle.setup.proofs.reader.read_setup.Statement.{statement}
 use Rattle.setup.proofs.reader.read_setup.Tie as tie
@@ -118,20 +118,20 @@ module _ {t : Text} {s : Setup} {kind at number end : ℕ} where
 
   -- a line that fits leads on
   person-next : {r : SetupLine} {u : Uid} {g : Gid} (k : ℕ) (p : Slot) → Line t s kind at number end r → r ≡ Person u g → Tested s kind r k true →
-      (p .primary ≡ g) × (p .further ≡ no-groups) → Going t (stored s k p) 0 (end + 1) (number + 1)
+      (p .primary ≡ g) × (p .further ≡ no-groups) → Going t (line-stored s k p) 0 (end + 1) (number + 1)
   unfolding account-of fits-after
   person-next {r} {u} {g} k p x e f n =
       let i = p-range _ u g (is-person x e) in
       let slot : k ≡ u .0 = rw e at (f .slot) in
-      rw slot (next x 0 (stored s (u .0) p) (is-person x e) (person-accepted t kind s (x .going .held) u g p (i .0) (i .1 .0) n) (rw (e, slot) at (f .test)) (omega arith) (stored-held t s (u .0) p (x .going .held)))
+      rw slot (next x 0 (line-stored s (u .0) p) (is-person x e) (person-accepted t kind s (x .going .held) u g p (i .0) (i .1 .0) n) (rw (e, slot) at (f .test)) (omega arith) (stored-held t s (u .0) p (x .going .held)))
 
   group-next : {r : SetupLine} {u : Uid} {g : Gid} (k : ℕ) (p : Slot) → Line t s kind at number end r → r ≡ Group u g → Tested s kind r k true →
-      (p .primary ≡ getD (s .persons) k no-slot .primary) × (p .further ≡ with-group g (getD (s .persons) k no-slot .further)) → Going t (stored s k p) 1 (end + 1) (number + 1)
+      (p .primary ≡ getD (s .persons) k no-slot .primary) × (p .further ≡ with-group g (getD (s .persons) k no-slot .further)) → Going t (line-stored s k p) 1 (end + 1) (number + 1)
   unfolding account-of fits-after
   group-next {r} {u} {g} k p x e f n =
       let i = g-range _ u g (is-group x e) in
       let slot : k ≡ u .0 = rw e at (f .slot) in
-      rw slot (next x 1 (stored s (u .0) p) (is-group x e) (group-accepted t kind s (x .going .held) u g p (i .0) (rw slot at n)) (rw (e, slot) at (f .test)) (omega arith) (stored-held t s (u .0) p (x .going .held)))
+      rw slot (next x 1 (line-stored s (u .0) p) (is-group x e) (group-accepted t kind s (x .going .held) u g p (i .0) (rw slot at n)) (rw (e, slot) at (f .test)) (omega arith) (stored-held t s (u .0) p (x .going .held)))
 
   pair-next : {r : SetupLine} {senior junior : Role} {k : ℕ} → Line t s kind at number end r → r ≡ Pair senior junior → Tested s kind r k true →
       Going t (paired-with s (record { senior = senior; junior = junior })) 2 (end + 1) (number + 1)

@@ -7,7 +7,7 @@ use Rattle.buffers.specs.Cases.{answers-false, answers-true}
 use Rattle.tree.specs.Encoding.{read-row}
 use Rattle.tree.specs.RowAt.{row-at}
 use Rattle.syntax.specs.Field.{is-content}
-use Rattle.soundness.specs.FieldTestLaws.{text-fits, content-bytes, content-kind, content-rest}
+use Rattle.soundness.specs.FieldTestLaws.{text-within, content-bytes, content-kind, content-rest}
 use borrow.Author.Needs.{needs}
 use Rattle.soundness.proofs.row.has_content.Statement.{statement}
 use Rattle.soundness.proofs.row.has_content.Tie as tie
@@ -57,7 +57,7 @@ is-zero-requires : tie.Need-is-zero-requires
 unfolding row-at read-row
 is-zero-requires c κs =
     let a = c .before .before .before .before .before .before .before .before .args in
-    let f = text-fits (now (a .tree)) (a .i) (omega arith) (omega arith) 72 80 (omega arith) in
+    let f = text-within (now (a .tree)) (a .i) (omega arith) (omega arith) 72 80 (omega arith) in
     let e = ap length (c .before .before .before .before .before .before .content-at .ensures) in
     (omega arith, omega arith)
 

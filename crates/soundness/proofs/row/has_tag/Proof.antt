@@ -10,7 +10,7 @@ use Rattle.buffers.specs.Text.{Text}
 use Rattle.syntax.specs.Path.{entry-path}
 use Rattle.syntax.specs.Form.{is-some}
 use Rattle.tree.specs.RowAt.{tag-text-at}
-use Rattle.soundness.specs.FieldTestLaws.{text-fits, tag-none, tag-unfilled, tag-filled}
+use Rattle.soundness.specs.FieldTestLaws.{text-within, tag-none, tag-unfilled, tag-filled}
 use borrow.Author.Needs.{needs}
 use Rattle.soundness.proofs.row.has_tag.Statement.{statement}
 use Rattle.soundness.proofs.row.has_tag.Tie as tie
@@ -55,7 +55,7 @@ is-zero-requires-2 : tie.Need-is-zero-requires-2
 unfolding tag-text-at
 is-zero-requires-2 c κs =
     let a = c .before .before .before .before .args in
-    let f = text-fits (now (a .tree)) (a .i) (omega arith) (omega arith) 16 54 (omega arith) in
+    let f = text-within (now (a .tree)) (a .i) (omega arith) (omega arith) 16 54 (omega arith) in
     let e = ap length (c .before .before .tag-path-at .ensures) in
     (omega arith, omega arith)
 

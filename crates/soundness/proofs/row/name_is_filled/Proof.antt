@@ -5,7 +5,7 @@ use lib.ListN.{length}
 use denote.Ref.{now}
 use Rattle.tree.specs.Encoding.{read-row}
 use Rattle.tree.specs.RowAt.{row-at}
-use Rattle.soundness.specs.FieldTestLaws.{text-fits, filled-in-row}
+use Rattle.soundness.specs.FieldTestLaws.{text-within, filled-in-row}
 use borrow.Author.Needs.{needs}
 use Rattle.soundness.proofs.row.name_is_filled.Statement.{statement}
 use Rattle.soundness.proofs.row.name_is_filled.Tie as tie
@@ -32,7 +32,7 @@ is-zero-requires : tie.Need-is-zero-requires
 unfolding row-at read-row
 is-zero-requires c κs =
     let a = c .before .before .args in
-    let f = text-fits (now (a .tree)) (a .i) (omega arith) (omega arith) 8 8 (omega arith) in
+    let f = text-within (now (a .tree)) (a .i) (omega arith) (omega arith) 8 8 (omega arith) in
     let e = ap length (c .name-at .ensures) in
     (omega arith, omega arith)
 

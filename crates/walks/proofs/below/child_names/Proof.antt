@@ -10,7 +10,7 @@ use Rattle.syntax.specs.Pieces.{comma, joined}
 use Rattle.tree.specs.RowAt.{row-count, row-at, all-rows}
 use Rattle.walks.specs.RowBelow.{front-below, names-in, child-text-in}
 use Rattle.walks.specs.RowBelowLaws.{names-go, names-stop, names-end, child-text-from}
-use Rattle.walks.specs.NamesWritten.{Written}
+use Rattle.walks.specs.NamesWritten.{Names-written}
 use Rattle.walks.specs.NamesWrittenLaws.{named-nothing, named-length}
 use Rattle.walks.proofs.below.child_names.Statement.{statement}
 use Rattle.walks.proofs.below.child_names.Tie as tie
@@ -27,13 +27,13 @@ record Going (tree : List ℕ) (at : ℕ) (answer₀ : List ℕ) (n depth : ℕ)
   few : place + 9 * (at + 1) ≤ 9 * i
   len : length answer ≡ length answer₀
   done : List Text
-  named : Written answer₀ done answer place
+  named : Names-written answer₀ done answer place
   goes : done ++ left tree at i ≡ left tree at (at + 1)
 
 module _ {tree : List ℕ} {at : ℕ} {answer₀ : List ℕ} {n depth : ℕ} {answer : List ℕ} {place i : ℕ} (g : Going tree at answer₀ n depth answer place i) where
   -- a deeper row
   goes-on : (b : List ℕ) (p : ℕ) → i < n → depth ≤ row-at tree i .depth → length b ≡ length answer → p ≤ place + 9
-      → Written answer₀ (g .done ++ names-in depth (row-at tree i ∷ [])) b p → Going tree at answer₀ n depth b p (i + 1)
+      → Names-written answer₀ (g .done ++ names-in depth (row-at tree i ∷ [])) b p → Going tree at answer₀ n depth b p (i + 1)
   goes-on b p h l e w v = record {
     le = omega arith;
     all = g .all;

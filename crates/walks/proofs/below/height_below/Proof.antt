@@ -7,7 +7,7 @@ use lib.ListN.{drop}
 use Rattle.tree.specs.Forest.{larger}
 use Rattle.tree.specs.ForestLaws.{larger-bounds}
 use Rattle.tree.specs.RowAt.{row-count, row-at, all-rows}
-use Rattle.walks.specs.RowBelow.{front-below, deepest, height-in}
+use Rattle.walks.specs.RowBelow.{front-below, deepest-in, height-in}
 use Rattle.walks.specs.RowBelowLaws.{deepest-go, deepest-stop, deepest-end, height-from}
 use Rattle.walks.proofs.below.height_below.Statement.{statement}
 use Rattle.walks.proofs.below.height_below.Tie as tie
@@ -19,7 +19,7 @@ record Going (tree : List ℕ) (at n depth most i : ℕ) : Type 0 where
   level : depth ≡ row-at tree at .depth
   least : depth ≤ most
   byte : most ≤ 255
-  goes : deepest most (front-below depth (drop i (all-rows tree))) ≡ deepest depth (front-below depth (drop (at + 1) (all-rows tree)))
+  goes : deepest-in most (front-below depth (drop i (all-rows tree))) ≡ deepest-in depth (front-below depth (drop (at + 1) (all-rows tree)))
 
 module _ {tree : List ℕ} {at n depth most i : ℕ} (g : Going tree at n depth most i) where
   -- a deeper row
@@ -35,7 +35,7 @@ module _ {tree : List ℕ} {at n depth most i : ℕ} (g : Going tree at n depth 
   }
 
   -- what is found when no more is left
-  found : deepest most (front-below depth (drop i (all-rows tree))) ≡ most → most - depth ≡ height-in (all-rows tree) at
+  found : deepest-in most (front-below depth (drop i (all-rows tree))) ≡ most → most - depth ≡ height-in (all-rows tree) at
   found e = ap (λ (m : ℕ). m - depth) (sym e ∙ g .goes) ∙ sym (height-from tree at (g .from) depth (g .level))
 
   -- one that is not
