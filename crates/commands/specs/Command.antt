@@ -13,11 +13,11 @@ use Rattle.syntax.specs.Number.{is-mode}
 use Rattle.syntax.specs.Form.{_>>=_, Form, by-form}
 use Rattle.syntax.specs.Path.{Path, Entry-path, is-name, is-path, is-entry-path}
 use Rattle.syntax.specs.Field.{uid, is-content}
+use Rattle.arguments.specs.declared.ArgumentKind.{ArgumentKind}
+use Rattle.arguments.specs.Kinds.{Makes, arguments-of}
 use Rattle.commands.specs.declared.Word.{Word}
 use Rattle.commands.specs.declared.Word.the-variants.{Create, Mkdir, Read, Write, Rm, Rmdir, Mv, Chmod, Chgrp, Chown, Login, Logout, Add, Co, Commit, Up, Del}
-use Rattle.commands.specs.declared.ArgumentKind.{ArgumentKind}
-use Rattle.commands.specs.declared.ArgumentKind.the-variants as a
-use Rattle.commands.specs.Kinds.{Makes, arguments-of}
+use Rattle.arguments.specs.declared.ArgumentKind.the-variants as a
 
 pub data Shell-command : Type 0 where
   create mkdir : Path → ℕ → Shell-command

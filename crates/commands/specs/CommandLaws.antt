@@ -11,11 +11,11 @@ use Rattle.syntax.specs.FormLaws.{no-answer, both-read, answered, both, Answers
 use Rattle.syntax.specs.Field.{uid, role, is-content}
 use Rattle.syntax.specs.Number.{is-mode}
 use Rattle.syntax.specs.Path.{is-name, is-path, is-entry-path}
+use Rattle.arguments.specs.declared.ArgumentKind.{ArgumentKind}
+use Rattle.arguments.specs.Kinds.{Value, reader, Makes, arguments-of}
 use Rattle.commands.specs.declared.Word.{Word}
 use Rattle.commands.specs.declared.Word.the-variants.{Create, Mkdir, Read, Write, Rm, Rmdir, Mv, Chmod, Chgrp, Chown, Login, Logout, Add, Co, Commit, Up, Del}
-use Rattle.commands.specs.declared.ArgumentKind.{ArgumentKind}
-use Rattle.commands.specs.declared.ArgumentKind.the-variants as a
-use Rattle.commands.specs.Kinds.{Value, reader, Makes, arguments-of}
+use Rattle.arguments.specs.declared.ArgumentKind.the-variants as a
 use Rattle.commands.specs.Command.{Command, Line, takes, listed, words, form, forms, line-of, line, is-shell-command, is-repository-command, is-command, is-line}
 use Rattle.syntax.specs.PathLaws.{path-is-path, entry-is-entry}
 use Rattle.syntax.specs.FieldLaws.{uid-gives, gid-gives, mode-gives, plain-mode-gives, password-gives, content-gives}

@@ -1,5 +1,3 @@
-pub mod Kinds
-pub mod KindsLaws
 pub mod Command
 pub mod CommandLaws
 pub mod Words

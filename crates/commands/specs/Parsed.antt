@@ -12,6 +12,7 @@ use lib.ListN.{length, take}
 use Rattle.buffers.specs.Text.{Text}
 use Rattle.accounts.specs.declared.Uid.{Uid}
 use Rattle.syntax.specs.declared.Span.{Span}
+use Rattle.arguments.specs.Kinds.{number-in, path-in, entry-in, Argument, values-of, arguments-of}
 use Rattle.commands.specs.declared.Command.{Command as Parts}
 use Rattle.commands.specs.declared.Command.the-variants.{Create, Mkdir, Read, Write, Rm, Rmdir, Mv, Chmod, Chgrp, Chown, Login, Logout, Add, Co, Commit, Up, Del}
 use Rattle.commands.specs.declared.Word.{Word}
@@ -26,7 +27,6 @@ use Rattle.syntax.specs.Path.{Path, Entry-path}
 use Rattle.syntax.specs.Field.{bounded}
 use Rattle.commands.specs.Command.{create, mkdir, read, write, rm, rmdir, mv, chmod, chgrp, chown, login, logout, add, co, commit, up, del, Command, shell, repository, Line, listed, forms}
 use Rattle.syntax.specs.Parts.{Inside, span-text, text-in}
-use Rattle.commands.specs.Kinds.{number-in, path-in, entry-in, Argument, values-of, arguments-of}
 
 -- a command with the one or the other
 unfoldable pub with-path : Text → Span → (Path → Command) → Option Command

@@ -14,8 +14,10 @@ use Rattle.buffers.specs.Text.{Text}
 use Rattle.accounts.specs.declared.Uid.{Uid}
 use Rattle.syntax.specs.declared.Span.{Span}
 use Rattle.syntax.specs.Pieces.{comma, pieces}
+use Rattle.arguments.specs.Kinds.{arguments-of, number-in, path-in, entry-in, Argument}
+use Rattle.arguments.specs.KindsLaws.{is-none, count-refused, one-refused, three-read}
 use Rattle.commands.specs.declared.Word.{Word}
-use Rattle.commands.specs.declared.ArgumentKind.the-variants as a
+use Rattle.arguments.specs.declared.ArgumentKind.the-variants as a
 use Rattle.commands.specs.declared.Shape.{Shape}
 use Rattle.commands.specs.declared.Fields.{Fields}
 use Rattle.commands.specs.declared.Numbers.the-variants.{Read as Numbers-read, Wrong}
@@ -32,8 +34,6 @@ use Rattle.syntax.specs.FieldLaws.{read-byte}
 use Rattle.commands.specs.Command.{Command, Line, listed, forms, line-of, line}
 use Rattle.syntax.specs.Parts.{span-text, Inside, text-in}
 use Rattle.syntax.specs.PartsLaws.{text-inside}
-use Rattle.commands.specs.Kinds.{arguments-of, number-in, path-in, entry-in, Argument}
-use Rattle.commands.specs.KindsLaws.{is-none, count-refused, one-refused, three-read}
 use Rattle.commands.specs.Words.{shape-of}
 use Rattle.commands.specs.WordsLaws.{many-refused}
 use Rattle.commands.specs.Parsed.{with-path, with-entry, meaning, arguments, Makes-of, Placed, Fields-inside, line-with, parsed, command-of, at-most, argument-texts, field-texts, numbers-of, numbers-in}

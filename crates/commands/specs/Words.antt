@@ -3,9 +3,9 @@ use mathlib.Core.List.{List, [], _∷_}
 use mathlib.Core.Bool.{Bool, true, false}
 use lib.ListN.{length, getD}
 use Rattle.buffers.specs.Text.{Text, same-text}
+use Rattle.arguments.specs.declared.ArgumentKind.{ArgumentKind}
 use Rattle.commands.specs.declared.Word.{Word}
-use Rattle.commands.specs.declared.ArgumentKind.{ArgumentKind}
-use Rattle.commands.specs.declared.ArgumentKind.the-variants as a
+use Rattle.arguments.specs.declared.ArgumentKind.the-variants as a
 use Rattle.commands.specs.declared.Shape.{Shape}
 use Rattle.commands.specs.declared.Form.{Form}
 use Rattle.commands.specs.declared.Form.the-variants.{Listed, Unlisted}

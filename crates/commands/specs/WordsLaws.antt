@@ -11,14 +11,14 @@ use lib.ListN.{length}
 use Rattle.buffers.specs.Cases.{case, and-both}
 use Rattle.buffers.specs.Text.{Text, same-text, every}
 use Rattle.syntax.specs.Form.{by-form}
+use Rattle.arguments.specs.Kinds.{arguments-of}
+use Rattle.arguments.specs.KindsLaws.{count-refused}
 use Rattle.commands.specs.declared.Word.{Word}
 use Rattle.commands.specs.declared.Shape.{Shape}
 use Rattle.commands.specs.declared.Form.{Form}
 use Rattle.commands.specs.declared.Form.the-variants.{Listed, Unlisted}
-use Rattle.commands.specs.Kinds.{arguments-of}
 use Rattle.commands.specs.Command.{Command, takes, listed, words, form, forms}
 use Rattle.commands.specs.Words.{shape-of, or-listed, form-among, form-of}
-use Rattle.commands.specs.KindsLaws.{count-refused}
 
 -- what was found before stays
 stays : (ws : List Word) (w : Word) (s : Shape) (t : Text) → form-among ws (Listed w s) t ≡ Listed w s

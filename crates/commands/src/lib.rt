@@ -1,11 +1,12 @@
 // Command lines: what they are, and their parser.
-mod arguments;
 mod parser;
+mod shapes;
 mod words;
 
 use accounts::Gid;
 use accounts::Role;
 use accounts::Uid;
+use arguments::ArgumentKind;
 pub use parser::parse;
 use syntax::Span;
 
@@ -92,20 +93,6 @@ pub enum Word {
     Commit,
     Up,
     Del,
-}
-
-// What an argument has to be: an entry path is short `Entry`, a mode that begins with 0 `Plain`; an absent one may be anything.
-pub enum ArgumentKind {
-    Path,
-    Entry,
-    Mode,
-    Plain,
-    Uid,
-    Gid,
-    Role,
-    Password,
-    Content,
-    Absent,
 }
 
 // How many arguments a word takes, and of which kind each is.

@@ -14,7 +14,7 @@ use crate::Numbers;
 use crate::Parsed;
 use crate::Shape;
 use crate::Word;
-use crate::arguments::numbers_at;
+use crate::shapes::numbers_at;
 use crate::words::form_at;
 use accounts::Gid;
 use accounts::Role;

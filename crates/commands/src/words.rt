@@ -4,10 +4,10 @@ ghost use mathlib.Core.List.{[], _∷_};
 ghost use Rattle.buffers.specs.Text.{same-text};
 ghost use Rattle.syntax.specs.Parts.{Inside, span-text};
 ghost use Rattle.commands.specs.Words.{shape-of, or-listed, form-of};
-use crate::ArgumentKind;
 use crate::Form;
 use crate::Shape;
 use crate::Word;
+use arguments::ArgumentKind;
 use buffers::same;
 use syntax::Span;
 

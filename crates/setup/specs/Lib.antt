@@ -2,8 +2,6 @@ pub mod Setup
 pub mod SetupLaws
 pub mod SoundSetup
 pub mod SoundSetupLaws
-pub mod Line
-pub mod LineLaws
 pub mod Reader
 pub mod ReaderLaws
 pub mod LinesLaws

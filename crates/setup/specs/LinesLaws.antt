@@ -13,11 +13,12 @@ use Rattle.buffers.specs.Cases.{case}
 use Rattle.buffers.specs.Text.{Text, same-text}
 use Rattle.syntax.specs.Pieces.{bytes, newline, prefix-first, pieces, piece-length}
 use Rattle.syntax.specs.Parts.{part}
+use Rattle.lines.specs.SetupLines.{Setup-line, setup-line}
 use Rattle.setup.specs.declared.Setup.{Setup as Held-setup}
 use Rattle.setup.specs.declared.SetupRead.{SetupRead}
 use Rattle.syntax.specs.Form.{_>>=_, _>>_, check}
 use Rattle.syntax.specs.PartsLaws.{pieces-some, pieces-first-from, pieces-only-from}
-use Rattle.setup.specs.Setup.{Setup-line, setup-line, Reading, accept, no-setup, accepted, wrong-line, stops, continue, read-lines, setup}
+use Rattle.setup.specs.Setup.{Reading, accept, no-setup, accepted, wrong-line, stops, continue, read-lines, setup}
 use Rattle.setup.specs.ReaderLaws.{Accepts-if}
 use Rattle.setup.specs.Reader.{setup-value, reading-of, Held, Read-as, setup-told}
 

@@ -16,8 +16,8 @@ use Rattle.setup.specs.declared.Person.{Person as Slot}
 use Rattle.setup.specs.declared.Grant.{Grant as Held-grant}
 use Rattle.setup.specs.declared.Setup.{Setup as Held-setup}
 use Rattle.setup.specs.declared.SetupRead.{SetupRead}
-use Rattle.setup.specs.declared.SetupLine.{SetupLine}
-use Rattle.setup.specs.declared.SetupLine.the-variants.{Person, Group, Pair, Grant, Wrong}
+use Rattle.lines.specs.declared.SetupLine.{SetupLine}
+use Rattle.lines.specs.declared.SetupLine.the-variants.{Person, Group, Pair, Grant, Wrong}
 use Rattle.setup.specs.Setup.{Person as Named, Grant as Granted, Setup, most-pairs, most-grants, Reading, no-setup, Setup-answer, accepted, wrong-line, setup}
 use Rattle.syntax.specs.Parts.{span-text, span-inside}
 

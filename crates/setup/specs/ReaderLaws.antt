@@ -22,6 +22,7 @@ use Rattle.accounts.specs.Groups.{no-groups, with-group}
 use Rattle.accounts.specs.Access.{is-root}
 use Rattle.accounts.specs.Dominance.{falls}
 use Rattle.syntax.specs.declared.Span.{Span}
+use Rattle.lines.specs.SetupLines.{Setup-line, p-line, g-line, r-line, l-line}
 use Rattle.setup.specs.declared.Person.{Person as Slot}
 use Rattle.setup.specs.declared.Grant.{Grant as Held-grant}
 use Rattle.setup.specs.declared.Setup.{Setup as Held-setup}
@@ -29,7 +30,7 @@ use Rattle.syntax.specs.Form.{_>>=_, _>>_, check, is-some}
 use Rattle.syntax.specs.FormLaws.{both}
 use Rattle.syntax.specs.Parts.{span-text, Inside, span-inside}
 use Rattle.syntax.specs.PartsLaws.{inside-true, true-inside}
-use Rattle.setup.specs.Setup.{Person, most-pairs, most-grants, person, Setup-line, p-line, g-line, r-line, l-line, Reading, with-person, with-pair, with-grant, joining, accept}
+use Rattle.setup.specs.Setup.{Person, most-pairs, most-grants, person, Reading, with-person, with-pair, with-grant, joining, accept}
 use Rattle.setup.specs.Reader.{slot-value, grant-value, setup-value, no-grant, grant-at, Held, reading-of, may-name, may-join, may-pair, may-grant}
 
 -- an element of a list's image

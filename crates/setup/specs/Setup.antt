@@ -16,11 +16,11 @@ use Rattle.accounts.specs.declared.Pair.{Pair}
 use Rattle.accounts.specs.Groups.{no-groups, with-group}
 use Rattle.accounts.specs.Access.{is-root}
 use Rattle.accounts.specs.Dominance.{falls}
-use Rattle.syntax.specs.Pieces.{bytes, comma, newline, pieces}
-use Rattle.syntax.specs.Number.{between}
-use Rattle.syntax.specs.Form.{_>>=_, _>>_, check, is-some, Form, two-of, three-of, by-form}
+use Rattle.syntax.specs.Pieces.{bytes, newline, pieces}
+use Rattle.syntax.specs.Form.{_>>=_, _>>_, check, is-some}
 use Rattle.syntax.specs.Path.{is-name}
 use Rattle.syntax.specs.Field.{password}
+use Rattle.lines.specs.SetupLines.{Setup-line, p-line, g-line, r-line, l-line, setup-line}
 
 -- a person's primary group and further groups
 pub record Person : Type 0 where
@@ -47,57 +47,8 @@ most-pairs = 28
 unfoldable pub most-grants : ℕ
 most-grants = 32
 
-unfoldable pub longest-line : ℕ
-longest-line = 200
-
 unfoldable pub person : Setup → Uid → Option Person
 person s u = getD (s .persons) (u .0) none
-
--- the lines before `end`, by their form
-pub data Setup-line : Type 0 where
-  p-line : Uid → Gid → Setup-line
-  g-line : Uid → Gid → Setup-line
-  r-line : Role → Role → Setup-line
-  l-line : Uid → Role → Text → Setup-line
-
-unfoldable pub person-uid : Text → Option Uid
-person-uid t = do
-  n ← between 1 15 t
-  some (record { 0 = n })
-
-unfoldable pub person-or-root : Text → Option Uid
-person-or-root t = do
-  n ← between 0 15 t
-  some (record { 0 = n })
-
-unfoldable pub person-gid : Text → Option Gid
-person-gid t = do
-  n ← between 1 15 t
-  some (record { 0 = n })
-
-unfoldable pub plain-role : Text → Option Role
-plain-role t = do
-  n ← between 0 7 t
-  some (record { 0 = n })
-
-unfoldable pub setup-form : Text → (List Text → Option Setup-line) → Form Setup-line
-setup-form w read-arguments = record { word = w; arguments = read-arguments }
-
-unfoldable pub setup-forms : List (Form Setup-line)
-setup-forms =
-    setup-form (bytes "p") (two-of person-uid person-gid p-line) ∷
-    setup-form (bytes "g") (two-of person-uid person-gid g-line) ∷
-    setup-form (bytes "r") (two-of plain-role plain-role r-line) ∷
-    setup-form (bytes "l") (three-of person-or-root plain-role password l-line) ∷ []
-
-unfoldable pub setup-line-of : List Text → Option Setup-line
-setup-line-of [] = none
-setup-line-of (w ∷ arguments) = by-form setup-forms w arguments
-
-unfoldable pub setup-line : Text → Option Setup-line
-setup-line t = do
-  check (leb (length t) longest-line)
-  setup-line-of (pieces comma t)
 
 -- what has been read, and the kind of the last line: kinds come in the order p, g, r, l, here 0 to 3
 pub record Reading : Type 0 where

@@ -26,8 +26,9 @@ use Rattle.syntax.specs.Pieces.{bytes, comma, newline, pieces}
 use Rattle.syntax.specs.Form.{_>>=_, _>>_, check, is-some}
 use Rattle.syntax.specs.FormLaws.{no-answer, both-read, checked, answered, both, Answers-pass, two-gives, three-gives, Forms-give, no-form, _also_, by-form-gives}
 use Rattle.syntax.specs.Path.{is-name}
-use Rattle.setup.specs.Setup.{Person, Grant, Setup, accounts, most-pairs, most-grants, longest-line, person, Setup-line, p-line, g-line, r-line, l-line, person-uid, person-or-root, person-gid, plain-role, setup-form, setup-forms, setup-line-of, setup-line, Reading, with-person, with-pair, with-grant, joining, accept, no-setup, Setup-answer, accepted, wrong-line, stops, continue, read-lines, setup, is-person, is-slot, is-pair, is-grant, is-setup}
 use Rattle.syntax.specs.FieldLaws.{number-gives, within-bound, password-gives}
+use Rattle.lines.specs.SetupLines.{longest-line, Setup-line, p-line, g-line, r-line, l-line, person-uid, person-or-root, person-gid, plain-role, setup-form, setup-forms, setup-line-of, setup-line}
+use Rattle.setup.specs.Setup.{Person, Grant, Setup, accounts, most-pairs, most-grants, person, Reading, with-person, with-pair, with-grant, joining, accept, no-setup, Setup-answer, accepted, wrong-line, stops, continue, read-lines, setup, is-person, is-slot, is-pair, is-grant, is-setup}
 
 -- a number of a person or a person's group
 one-to-15 : ℕ → Bool

@@ -1,5 +1,4 @@
 // The setup: what it holds, and the reader of its text.
-mod lines;
 mod reader;
 
 use accounts::Gid;
@@ -36,41 +35,4 @@ pub struct Setup {
 pub struct SetupRead {
     pub setup: Setup,
     pub wrong: usize,
-}
-
-// The word that a line starts with.
-enum LineKind {
-    P,
-    G,
-    R,
-    L,
-    Other,
-}
-
-// Two numbers read from a line, if both have their form.
-enum NumberPair {
-    Both(u8, u8),
-    Nothing,
-}
-
-// A line before `end`, whose password is a part of the setup text, or a line of no form.
-enum SetupLine {
-    Person {
-        uid: Uid,
-        gid: Gid,
-    },
-    Group {
-        uid: Uid,
-        gid: Gid,
-    },
-    Pair {
-        senior: Role,
-        junior: Role,
-    },
-    Grant {
-        uid: Uid,
-        role: Role,
-        password: Span,
-    },
-    Wrong,
 }

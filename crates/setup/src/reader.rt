@@ -10,14 +10,14 @@ ghost use Rattle.setup.specs.Reader.{Held, Read-as, setup-value, fits-af
 use crate::Grant;
 use crate::Person;
 use crate::Setup;
-use crate::SetupLine;
 use crate::SetupRead;
-use crate::lines::line_at;
 use accounts::Gid;
 use accounts::Groups;
 use accounts::Pair;
 use accounts::Role;
 use accounts::Uid;
+use lines::SetupLine;
+use lines::line_at;
 use syntax::Span;
 use syntax::piece_end;
 use syntax::word_is;

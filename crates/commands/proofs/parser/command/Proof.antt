@@ -2,7 +2,7 @@
 use mathlib.Core.Path.{refl}
 use borrow.Author.Needs.{needs}
 use Rattle.syntax.specs.Form.{_>>=_}
-use Rattle.commands.specs.Kinds.{value, values-of}
+use Rattle.arguments.specs.Kinds.{value, values-of}
 use Rattle.commands.specs.Command.{takes, listed}
 use Rattle.commands.specs.Parsed.{with-path, with-entry, meaning}
 use Rattle.commands.specs.ParsedLaws.{as-word}

@@ -3,7 +3,7 @@ use mathlib.Core.Path.{sym, _∙_}
 use lib.ListN.{take}
 use denote.Ref.{now}
 use borrow.Author.Needs.{needs}
-use Rattle.commands.specs.Kinds.{arguments-of}
+use Rattle.arguments.specs.Kinds.{arguments-of}
 use Rattle.commands.specs.Command.{listed}
 use Rattle.commands.specs.Parsed.{argument-texts}
 use Rattle.commands.specs.ParsedLaws.{finds-none, wrong-arguments, right-arguments}

@@ -16,14 +16,15 @@ use Rattle.syntax.specs.declared.Span.{Span}
 use Rattle.accounts.specs.Groups.{no-groups, with-group}
 use Rattle.syntax.specs.Pieces.{bytes, newline, pieces, piece-length}
 use Rattle.syntax.specs.Parts.{part, span-text, Inside}
+use Rattle.lines.specs.SetupLines.{Setup-line, p-line, g-line, r-line, l-line, setup-line}
 use Rattle.setup.specs.declared.Person.{Person as Slot}
 use Rattle.setup.specs.declared.Setup.{Setup}
-use Rattle.setup.specs.declared.SetupLine.{SetupLine}
-use Rattle.setup.specs.declared.SetupLine.the-variants.{Person, Group, Pair, Grant, Wrong}
-use Rattle.setup.specs.Setup.{Setup-line, p-line, g-line, r-line, l-line, setup-line, Reading, wrong-line, read-lines, setup}
+use Rattle.lines.specs.declared.SetupLine.{SetupLine}
+use Rattle.lines.specs.declared.SetupLine.the-variants.{Person, Group, Pair, Grant, Wrong}
+use Rattle.setup.specs.Setup.{Reading, wrong-line, read-lines, setup}
 use Rattle.setup.specs.SetupLaws.{p-range, g-range, l-range}
-use Rattle.setup.specs.Line.{line-told}
-use Rattle.setup.specs.LineLaws.{told-none, told-line, grant-told}
+use Rattle.lines.specs.Line.{line-told}
+use Rattle.lines.specs.LineLaws.{told-none, told-line, grant-told}
 use Rattle.setup.specs.Reader.{Held, reading-of, fits-after, account-of}
 use Rattle.setup.specs.ReaderLaws.{Accepts-if, no-slot, line-stored, stored-held, paired-with, paired-held, granted-with, granted-held, pair-room, grant-room, person-accepted, group-accepted, pair-accepted, grant-accepted}
 use Rattle.setup.specs.LinesLaws.{begins, ends-early, end-accepted, end-wrong, line-formless, line-refused, line-accepted, wrong-read, accepted-read}

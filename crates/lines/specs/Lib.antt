@@ -1,0 +1,4 @@
+pub mod SetupLines
+pub mod Line
+pub mod LineLaws
+pub mod Compute
