@@ -1,4 +1,4 @@
--- Case analysis on a test, keeping what it came to.
+-- Case analysis on a test, keeping what it came to, and what a call answered by the test of its answer.
 use mathlib.Core.Path.{_≡_, refl, sym, _∙_}
 use mathlib.Core.Bool.{Bool, true, false, true≢false, _&&_, _||_, not}
 use borrow.Author.Tests.{not-true, not-false}

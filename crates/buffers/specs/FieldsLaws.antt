@@ -1,4 +1,4 @@
--- What is written into a field is read back from it, wherever it stands among other bytes.
+-- What is written into a field is read back from it, wherever it stands among other bytes; and the text of a field byte by byte.
 use mathlib.Core.Path.{_≡_, refl, sym, ap, _∙_}
 use mathlib.Core.List.{List, [], _∷_, _++_, append-assoc}
 use mathlib.Core.Bool.{true, not}

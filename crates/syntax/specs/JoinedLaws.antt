@@ -1,5 +1,4 @@
--- Laws of texts: byte order is a strict total order, the pieces of joined texts are those texts, how long joined texts are, and
--- how `every` goes through lists.
+-- Laws of joined texts: cut again they are the same texts, and how long they are.
 use mathlib.Core.Path.{_≡_, refl}
 use mathlib.Core.List.{List, [], _∷_, _++_}
 use mathlib.Core.Bool.{true, false, not}

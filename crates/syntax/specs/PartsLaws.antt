@@ -1,5 +1,4 @@
--- Laws of parts of texts: parts that lie inside, the pieces of a text and of a text from a place on, and tests and comparisons
--- from a place on.
+-- Laws of parts of texts: parts that lie inside, the pieces of a text and of a text from a place on, and where the first one ends.
 use mathlib.Core.Path.{_≡_, refl, sym, ap, ap₂, _∙_}
 use mathlib.Core.List.{List, [], _∷_}
 use mathlib.Core.Option.{Option, none, some}

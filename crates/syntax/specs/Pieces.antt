@@ -1,4 +1,4 @@
--- Texts: lists of bytes, compared, and cut into pieces at a byte.
+-- A text cut into pieces at a byte, and pieces joined by one.
 use mathlib.Core.List.{List, [], _∷_, _++_}
 use mathlib.Core.Bool.{cond}
 use Prim.Native.Nat.{ℕ, suc}

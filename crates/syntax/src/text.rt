@@ -1,4 +1,4 @@
-// Texts: cut at a byte, compared, and tested byte by byte.
+// Texts: cut at a byte, and tested byte by byte.
 ghost use mathlib.Core.Path.{_≡_};
 ghost use mathlib.Core.Bool.{_&&_};
 ghost use Prim.Native.Nat.{_+_, _≤_};
