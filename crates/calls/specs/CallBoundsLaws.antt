@@ -7,7 +7,7 @@ use Prim.Native.Nat.{ℕ, zero, suc, _≤_}
 use native.Mathlib.Omega.{arith}
 use borrow.Author.Tests.{leb-true}
 use lib.Dec.{leb}
-use lib.ListN.{length, getElem?, drop, length-append, length-drop}
+use lib.ListN.{length, getElem?}
 use Rattle.buffers.specs.Cases.{and-both, contra}
 use Rattle.buffers.specs.Text.{Text, every}
 use Rattle.syntax.specs.FormLaws.{answered, no-answer}
@@ -17,34 +17,21 @@ use Rattle.tree.specs.ResultLaws.{present-some}
 use Rattle.tree.specs.Outcomes.{gives, Ensures}
 use Rattle.tree.specs.GivesLaws.{done-with, then-do}
 use Rattle.shell.specs.Steps.{longest-text}
+use Rattle.shell.specs.Replies.{ok, refusal, reply, after}
+use Rattle.shell.specs.ReplyLaws.{written-length}
 use Rattle.store.specs.State.{state-of}
 use Rattle.store.specs.StateLaws.{parts}
 use Rattle.store.specs.StoreBytesLaws.{length-encode, encode-decode, decode-length}
 use Rattle.machine.specs.StoreMachine.{store}
-use Rattle.machine.specs.Runs.{Reply, ok, refusal, reply, after, perform}
+use Rattle.machine.specs.Runs.{perform}
 use Rattle.machine.specs.MachineAnswerLaws.{perform-fits}
 use Rattle.machine.specs.MachineKeepingLaws.{perform-keeps}
-use Rattle.calls.specs.Listing.{longest-listing-line, listing}
-use Rattle.calls.specs.ListingLaws.{lines-fit}
-use Rattle.calls.specs.Calls.{written, called, encoded, line-on, run-result, run-call, listing-on, listing-result, listing-call}
+use Rattle.listing.specs.Listing.{longest-listing-line, listing}
+use Rattle.listing.specs.ListingLaws.{lines-fit}
+use Rattle.calls.specs.Calls.{called, encoded, line-on, run-result, run-call, listing-on, listing-result, listing-call}
 use Rattle.calls.specs.CallsLaws.{on-state-ensures}
 
 -- ---- buffers
-
--- a text that fits leaves the answer buffer's length
-fits-length : (t answer : Text) → length t ≤ length answer → length (t ++ drop (length t) answer) ≡ length answer
-fits-length t answer h = length-append t (drop (length t) answer) ∙ omega (arith, length-drop (length t) answer)
-
--- the text of a reply fits the answer buffer
-abbrev Room : Reply → List ℕ → Type 0
-Room r answer = (t : Text) → r ≡ ok (some t) → length t ≤ length answer
-
--- which then keeps its length
-written-length : (r : Reply) (answer : List ℕ) → Room r answer → length (written r answer) ≡ length answer
-unfolding written
-written-length (ok none) answer h = refl
-written-length (ok (some t)) answer h = fits-length t answer (h t refl)
-written-length (refusal why) answer h = refl
 
 -- what is known of a done call: the store's length, and a bound of the text, which the answer buffer has room for
 record Bounded (b : List ℕ) (room most : ℕ) (o : Outcome (List ℕ)) : Type 0 where

@@ -15,7 +15,7 @@ use Rattle.store.specs.Initial.{no-sessions, initial-store}
 use Rattle.store.specs.StoreBytes.{header-bytes}
 use Rattle.machine.specs.StoreMachine.{store}
 use Rattle.machine.specs.Runs.{runs}
-use Rattle.calls.specs.Listing.{listing}
+use Rattle.listing.specs.Listing.{listing}
 use Rattle.calls.specs.Transcript.{reply-line, call-of}
 use Rattle.calls.specs.Calls.{setup-call, only-tells, run-call, listing-call}
 use Rattle.calls.specs.Compute.{compute, compute-calls}

@@ -9,13 +9,14 @@ use lib.Dec.{eqb}
 use lib.ListN.{length}
 use Rattle.buffers.specs.Text.{Text, every}
 use Rattle.setup.specs.Setup.{Setup, accepted, setup as setup-of}
+use Rattle.shell.specs.Replies.{Reply, Told, told, answer-of, written}
 use Rattle.store.specs.State.{Store, state-of}
 use Rattle.store.specs.StoreBytes.{decode}
 use Rattle.machine.specs.AbstractMachine.{Abstract, abstract, initial-abstract}
 use Rattle.machine.specs.Embedding.{stored}
-use Rattle.machine.specs.Runs.{Call, Reply, runs, root's}
+use Rattle.machine.specs.Runs.{Call, runs, root's}
 use Rattle.machine.specs.Observed.{workspace-of, filed-in}
-use Rattle.calls.specs.Calls.{Told, told, answer-of, written, run-call}
+use Rattle.calls.specs.Calls.{run-call}
 
 -- a command line, and the bytes of the answer buffer lent for it
 pub record Request : Type 0 where

@@ -17,6 +17,7 @@ use Rattle.tree.specs.Causes.{number, wrong-setup}
 use Rattle.tree.specs.CausesLaws.{wrong-setup-is, unsound-number, number-not-0, only-unsound-is-18}
 use Rattle.tree.specs.Result.{Result, refused, done, _>>=_, _>>_, require, Outcome}
 use Rattle.tree.specs.ResultLaws.{done-bind, refused-bind, then-bind}
+use Rattle.shell.specs.Replies.{ok, reply, after, Told, told, answer-of, written}
 use Rattle.store.specs.State.{Store, state-of, well-formed}
 use Rattle.store.specs.Initial.{initial-store}
 use Rattle.store.specs.InitialLaws.{initial-well-formed}
@@ -24,13 +25,13 @@ use Rattle.store.specs.StoreBytes.{store-width, encode, decode}
 use Rattle.store.specs.StoreBytesLaws.{decode-encode}
 use Rattle.machine.specs.Machine.{Machine}
 use Rattle.machine.specs.StoreMachine.{store}
-use Rattle.machine.specs.Runs.{least-room, ok, reply, after, perform, step, runs, root's}
+use Rattle.machine.specs.Runs.{least-room, perform, step, runs, root's}
 use Rattle.machine.specs.MachineAnswerLaws.{never-18}
 use Rattle.machine.specs.Observed.{without-root}
 use Rattle.machine.specs.MachineKeepingLaws.{step-keeps, runs-keep}
 use Rattle.machine.specs.ComparedLaws.{compared-lists}
-use Rattle.calls.specs.declared.Answer.the-variants.{Done, Refused, WrongLine}
-use Rattle.calls.specs.Calls.{Told, told, answer-of, written, set-up, setup-call, Called, called, encoded, line-on, run-result, run-call}
+use Rattle.shell.specs.declared.Answer.the-variants.{Done, Refused, WrongLine}
+use Rattle.calls.specs.Calls.{set-up, setup-call, Called, called, encoded, line-on, run-result, run-call}
 use Rattle.calls.specs.CallsLaws.{on-encoding}
 use Rattle.calls.specs.CallLists.{Request, run-calls, call-for, rootless, response, responses-to, all-sound, Calls-compared}
 

@@ -12,15 +12,16 @@ use Rattle.setup.specs.Setup.{Setup, accepted, wrong-line, setup}
 use Rattle.tree.specs.declared.Cause.{Cause}
 use Rattle.tree.specs.CausesLaws.{wrong-setup-is}
 use Rattle.tree.specs.Result.{refused, done, Outcome}
+use Rattle.shell.specs.Replies.{told}
 use Rattle.store.specs.State.{State, state-of, well-formed}
 use Rattle.store.specs.Initial.{initial-store}
 use Rattle.store.specs.StoreBytes.{encode}
 use Rattle.store.specs.SoundStore.{Sound}
 use Rattle.store.specs.SoundStoreLaws
-use Rattle.calls.specs.declared.Answer.the-variants.{Done, Refused}
-use Rattle.calls.specs.Listing.{listing}
+use Rattle.shell.specs.declared.Answer.the-variants.{Done, Refused}
+use Rattle.listing.specs.Listing.{listing}
 use Rattle.calls.specs.Transcript.{transcript}
-use Rattle.calls.specs.Calls.{told, setup-call, only-tells, line-on, run-result, run-call, listing-on, listing-result, listing-call}
+use Rattle.calls.specs.Calls.{setup-call, only-tells, line-on, run-result, run-call, listing-on, listing-result, listing-call}
 use Rattle.calls.specs.CallsLaws
 use Rattle.calls.specs.CallBoundsLaws
 use Rattle.calls.specs.CallLists.{Request, run-calls, rootless, Calls-compared}

@@ -1,50 +1,22 @@
 -- The three library calls on bytes: from the bytes at entry to what is answered and all bytes at exit.
-use mathlib.Core.List.{List, [], _∷_, _++_}
-use mathlib.Core.Option.{none, some}
+use mathlib.Core.List.{List, []}
+use mathlib.Core.Option.{some}
 use mathlib.Core.Bool.{cond}
 use Prim.Native.Nat.{ℕ}
 use lib.Dec.{eqb, leb}
-use lib.ListN.{length, getElem?, drop}
+use lib.ListN.{length, getElem?}
 use Rattle.buffers.specs.Text.{Text}
 use Rattle.setup.specs.Setup.{Setup, Setup-answer, accepted, wrong-line, setup}
 use Rattle.tree.specs.declared.Cause.the-variants.{Missing, Unsound, ShortAnswer}
-use Rattle.tree.specs.Causes.{number, wrong-setup}
 use Rattle.tree.specs.Result.{Result, done, _>>=_, _>>_, require, present, Outcome}
+use Rattle.shell.specs.Replies.{Told, told, answer-of, written, reply, after}
 use Rattle.store.specs.State.{Store, State, state-of}
 use Rattle.store.specs.Initial.{initial-store}
 use Rattle.store.specs.StoreBytes.{store-width, encode, decode}
 use Rattle.machine.specs.StoreMachine.{store}
-use Rattle.machine.specs.Runs.{least-room, Reply, ok, refusal, reply, after, perform}
-use Rattle.calls.specs.declared.Answer.{Answer}
-use Rattle.calls.specs.declared.Answer.the-variants.{Done, Refused, WrongLine}
-use Rattle.calls.specs.declared.Answer.the-variants
-use Rattle.calls.specs.Listing.{listing}
-
--- ---- answers
-
--- what an answer tells: document 01's number, 0 where the call is done, and the values beside it
-pub record Told : Type 0 where
-  pub number : ℕ
-  pub values : List ℕ
-
--- beside 0 a text's length, beside 17 the wrong line's number
-unfoldable pub told : Answer → Told
-told Done = record { number = 0; values = [] }
-told (the-variants.Text n) = record { number = 0; values = n ∷ [] }
-told (Refused why) = record { number = number why; values = [] }
-told (WrongLine n) = record { number = wrong-setup; values = n ∷ [] }
-
--- the answer that a reply is
-unfoldable pub answer-of : Reply → Answer
-answer-of (ok none) = Done
-answer-of (ok (some t)) = the-variants.Text (length t)
-answer-of (refusal why) = Refused why
-
--- the answer buffer after a reply: a text stands from its first byte, and the bytes after it stay
-unfoldable pub written : Reply → List ℕ → List ℕ
-written (ok none) answer = answer
-written (ok (some t)) answer = t ++ drop (length t) answer
-written (refusal why) answer = answer
+use Rattle.machine.specs.Runs.{least-room, perform}
+use Rattle.shell.specs.declared.Answer.the-variants.{Done, Refused, WrongLine}
+use Rattle.listing.specs.Listing.{listing}
 
 -- ---- setup
 

@@ -15,15 +15,16 @@ use Rattle.tree.specs.Result.{Result, refused, _>>=_, _>>_, require, present, O
 use Rattle.tree.specs.ResultLaws.{present-some, present-of, present-none, done-bind, refused-bind, done-then, refused-then, require-true, require-false, holds-bind, holds-then}
 use Rattle.tree.specs.Outcomes.{Ensures}
 use Rattle.tree.specs.GivesLaws.{then-check, then-do}
+use Rattle.shell.specs.Replies.{reply, after, told, answer-of, written}
 use Rattle.store.specs.State.{State, well-formed}
 use Rattle.store.specs.StoreBytes.{encode, decode}
 use Rattle.store.specs.StoreBytesLaws.{decode-encode}
 use Rattle.machine.specs.StoreMachine.{store}
-use Rattle.machine.specs.Runs.{least-room, reply, after}
+use Rattle.machine.specs.Runs.{least-room}
 use Rattle.machine.specs.RunsLaws.{least-room-is}
-use Rattle.calls.specs.declared.Answer.the-variants.{Refused}
-use Rattle.calls.specs.Listing.{listing}
-use Rattle.calls.specs.Calls.{told, answer-of, written, only-tells, called, on-state, listing-on, listing-result, listing-call}
+use Rattle.shell.specs.declared.Answer.the-variants.{Refused}
+use Rattle.listing.specs.Listing.{listing}
+use Rattle.calls.specs.Calls.{only-tells, called, on-state, listing-on, listing-result, listing-call}
 
 -- ---- before a command or a listing
 

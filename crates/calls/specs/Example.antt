@@ -7,11 +7,12 @@ use mathlib.Core.List.{List, [], map}
 use Rattle.buffers.specs.Text.{Text}
 use Rattle.syntax.specs.Pieces.{bytes, pieces, newline, joined}
 use Rattle.setup.specs.Setup.{Setup, Setup-answer, accepted, wrong-line, setup}
+use Rattle.shell.specs.Replies.{ok}
 use Rattle.store.specs.Initial.{initial-store}
 use Rattle.machine.specs.Machine.{Machine}
 use Rattle.machine.specs.StoreMachine.{store}
 use Rattle.machine.specs.AbstractMachine.{abstract, initial-abstract}
-use Rattle.machine.specs.Runs.{ok, runs}
+use Rattle.machine.specs.Runs.{runs}
 use Rattle.calls.specs.Transcript.{parts, command-lines, reply-line, call-of, transcript}
 use Rattle.calls.specs.Compute.{compute}
 

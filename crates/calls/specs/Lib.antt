@@ -1,5 +1,3 @@
-pub mod Listing
-pub mod ListingLaws
 pub mod Transcript
 pub mod Calls
 pub mod CallsLaws

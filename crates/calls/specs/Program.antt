@@ -13,8 +13,9 @@ use Rattle.syntax.specs.Number.{decimal-text}
 use Rattle.tree.specs.declared.Cause.the-variants.{Missing}
 use Rattle.tree.specs.Causes.{number}
 use Rattle.tree.specs.WellFormed.{most-nodes}
+use Rattle.shell.specs.Replies.{Told}
 use Rattle.calls.specs.Transcript.{parts, command-lines, lines-text}
-use Rattle.calls.specs.Calls.{Told, Set-up, setup-call, run-call, listing-call}
+use Rattle.calls.specs.Calls.{Set-up, setup-call, run-call, listing-call}
 
 -- the text whose length a done call tells
 unfoldable pub text-told : List ℕ → List ℕ → Text

@@ -18,18 +18,19 @@ use Rattle.tree.specs.CausesLaws.{wrong-setup-is, missing-number, number-not-0}
 use Rattle.tree.specs.ResultLaws.{require-true, done-then, present-of, done-bind}
 use Rattle.tree.specs.UpdateLaws.{by-option}
 use Rattle.tree.specs.WellFormedLaws.{most-nodes-is}
+use Rattle.shell.specs.Replies.{Reply, ok, refusal, reply, after, told, answer-of, written}
 use Rattle.store.specs.State.{Store, State, state-of, well-formed}
 use Rattle.store.specs.StateLaws.{parts as state-parts}
 use Rattle.store.specs.Initial.{initial-store}
 use Rattle.store.specs.InitialLaws.{initial-well-formed}
 use Rattle.store.specs.StoreBytes.{encode}
 use Rattle.machine.specs.StoreMachine.{store}
-use Rattle.machine.specs.Runs.{least-room, Reply, ok, refusal, reply, after, step, runs}
+use Rattle.machine.specs.Runs.{least-room, step, runs}
 use Rattle.machine.specs.MachineKeepingLaws.{step-keeps, runs-keep}
-use Rattle.calls.specs.Listing.{listing}
-use Rattle.calls.specs.ListingLaws.{listing-few}
+use Rattle.listing.specs.Listing.{listing}
+use Rattle.listing.specs.ListingLaws.{listing-few}
 use Rattle.calls.specs.Transcript.{parts, command-lines, reply-line, call-of, session-text, output, transcript}
-use Rattle.calls.specs.Calls.{told, answer-of, written, setup-call, called, run-call, listing-on, listing-result, listing-call}
+use Rattle.calls.specs.Calls.{setup-call, called, run-call, listing-on, listing-result, listing-call}
 use Rattle.calls.specs.CallsLaws.{on-encoding, past-the-end-is-3}
 use Rattle.calls.specs.CallBoundsLaws.{run-keeps-lengths, listing-keeps-lengths}
 use Rattle.calls.specs.CallLists.{Request, call-for}

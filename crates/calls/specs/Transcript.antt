@@ -7,10 +7,11 @@ use Rattle.syntax.specs.Pieces.{bytes, newline, pieces, joined}
 use Rattle.syntax.specs.Number.{decimal-text}
 use Rattle.setup.specs.Setup.{Setup, Setup-answer, accepted, wrong-line, setup}
 use Rattle.tree.specs.Causes.{number}
+use Rattle.shell.specs.Replies.{Reply, ok, refusal}
 use Rattle.store.specs.Initial.{initial-store}
 use Rattle.machine.specs.StoreMachine.{store}
-use Rattle.machine.specs.Runs.{Call, least-room, Reply, ok, refusal, runs}
-use Rattle.calls.specs.Listing.{listing}
+use Rattle.machine.specs.Runs.{Call, least-room, runs}
+use Rattle.listing.specs.Listing.{listing}
 
 -- the pieces of the input between its bytes 10: those of the setup, and those of the commands
 pub record Input : Type 0 where

@@ -26,7 +26,7 @@ use Rattle.tree.specs.ResultLaws.{present-some, bind-done}
 use Rattle.tree.specs.JudgeLaws.{allows-is}
 use Rattle.store.specs.PersonLaws.{Person-in-range, person-in-range}
 use Rattle.store.specs.Initial.{directory-of, top-node, rep-node}
-use Rattle.machine.specs.Machine.{person-caller, known-caller, caller}
+use Rattle.store.specs.Callers.{person-caller, known-caller, caller}
 use Rattle.machine.specs.EntryJudgeLaws.{top-allows}
 
 -- root's number is 0

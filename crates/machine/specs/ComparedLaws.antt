@@ -27,13 +27,14 @@ use Rattle.tree.specs.MapLaws.{map-nil}
 use Rattle.tree.specs.RootedLaws.{rooted-here, rooted-below}
 use Rattle.tree.specs.PlaceLaws.{leaf-here, leaf-below, update-root}
 use Rattle.tree.specs.GraftLaws.{graft-own, get-graft, update-inside}
+use Rattle.shell.specs.Replies.{reply, after}
 use Rattle.store.specs.State.{Store}
 use Rattle.store.specs.Initial.{rep-node, home-node, home-name, with-home, homes, initial-tree, initial-store}
-use Rattle.machine.specs.Machine.{caller}
+use Rattle.store.specs.Callers.{caller}
 use Rattle.machine.specs.StoreMachine.{store}
 use Rattle.machine.specs.AbstractMachine.{Abstract, abstract, initial-abstract}
 use Rattle.machine.specs.Embedding.{in-store, stored, embed}
-use Rattle.machine.specs.Runs.{Call, reply, after, Ran, perform, step, runs, of-root, root's}
+use Rattle.machine.specs.Runs.{Call, Ran, perform, step, runs, of-root, root's}
 use Rattle.machine.specs.Observed.{workspace-of, filed-in, Compared, without-root, Reached-without-root}
 use Rattle.machine.specs.Simulation.{Kept, Tie, Tied}
 use Rattle.machine.specs.SimulationLaws.{rep-alike, run-agrees}

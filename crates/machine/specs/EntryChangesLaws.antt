@@ -29,17 +29,18 @@ use Rattle.tree.specs.Outcomes.{gives, Ensures}
 use Rattle.tree.specs.GivesLaws.{any-outcome, done-with, then-step, then-check, then-guard, then-do}
 use Rattle.tree.specs.Forest.{Place, Holds}
 use Rattle.tree.specs.Node.{is-directory, Node, set-content}
-use Rattle.tree.specs.Walk.{by-modes, walk, parent-walk, unused}
+use Rattle.tree.specs.Walk.{by-modes, walk, parent-walk, unused, room}
 use Rattle.tree.specs.UpdateLaws.{walked-at}
 use Rattle.tree.specs.WellFormed.{is-tree}
 use Rattle.tree.specs.JudgeLaws.{directory-is-one, set-revision-is, set-content-is}
 use Rattle.tree.specs.OtherPathLaws.{drop-gone}
 use Rattle.tree.specs.HoldsLaws.{holds-altered, holds-alter, holds-put, holds-drop}
 use Rattle.copying.specs.Copying.{below-rep}
-use Rattle.shell.specs.Steps.{room, run-shell}
+use Rattle.shell.specs.Steps.{run-shell}
 use Rattle.store.specs.State.{Store}
 use Rattle.store.specs.Initial.{directory-of, rep-node}
-use Rattle.machine.specs.Machine.{caller, Working, tagged, run-login, run-logout, session, run-add, run-co, working-file, original, run-commit, run-up, run-del, run-repository, run}
+use Rattle.store.specs.Callers.{caller}
+use Rattle.machine.specs.Machine.{Working, tagged, run-login, run-logout, session, run-add, run-co, working-file, original, run-commit, run-up, run-del, run-repository, run}
 use Rattle.machine.specs.StoreMachine.{entry-mode, entry-node, next-node, store}
 use Rattle.machine.specs.AbstractMachine.{Entry, Abstract, Filed, top, entry, filed-kind, filed-readable, by-dominance, filed-revision, next-entry, abstract}
 use Rattle.machine.specs.Embedding.{in-store, met, embed}
@@ -135,7 +136,7 @@ module _ (u : Setup) (h : Abstract) (c : Caller) (e : Entry-path) (x : Entry) (s
   unfolding run-co entry-of Guarded
   co-guarded e′ d =
       then-do (session abstract u h c) λ z _.
-      then-do (room c _ (h .workspace) d) λ f _.
+      then-do (room (by-modes (c .account)) (h .workspace) d) λ f _.
       then-do (walk (by-dominance u z) (abstract .entries h) (below-rep e′)) λ a _.
       then-check Access tt _ λ _.
       then-check TooDeep tt _ λ _.

@@ -19,7 +19,7 @@ use Rattle.tree.specs.Outcomes.{gives, Ensures}
 use Rattle.tree.specs.GivesLaws.{any-outcome, done-with, then-check, then-guard, then-do}
 use Rattle.tree.specs.Forest.{Place, update, place-at, put, leaf}
 use Rattle.tree.specs.Node.{Node, owns}
-use Rattle.tree.specs.Walk.{by-modes, walk, parent-walk, unused}
+use Rattle.tree.specs.Walk.{by-modes, walk, parent-walk, unused, room}
 use Rattle.tree.specs.WellFormed.{is-tree}
 use Rattle.tree.specs.StepLaws.{parent-walked}
 use Rattle.tree.specs.UpdateLaws.{walked-at}
@@ -27,9 +27,10 @@ use Rattle.tree.specs.PlaceLaws.{leaf-here}
 use Rattle.tree.specs.OtherPathLaws.{put-stands, alter-none}
 use Rattle.tree.specs.HoldsLaws.{put-leaf-none, drop-still-none}
 use Rattle.copying.specs.Copying.{below-rep}
-use Rattle.shell.specs.Steps.{room, run-shell}
+use Rattle.shell.specs.Steps.{run-shell}
 use Rattle.store.specs.State.{Store}
-use Rattle.machine.specs.Machine.{caller, tagged, run-login, run-logout, session, run-add, run-co, working-file, original, run-commit, run-up, run-del, run-repository, run}
+use Rattle.store.specs.Callers.{caller}
+use Rattle.machine.specs.Machine.{tagged, run-login, run-logout, session, run-add, run-co, working-file, original, run-commit, run-up, run-del, run-repository, run}
 use Rattle.machine.specs.StoreMachine.{store}
 use Rattle.machine.specs.AbstractMachine.{Abstract, Filed, entry, dominated, by-dominance, new-entry, abstract}
 use Rattle.machine.specs.Embedding.{in-store, met}
@@ -101,7 +102,7 @@ module _ (u : Setup) (h : Abstract) (c : Caller) (e : Entry-path) (missing : ent
   unfolding run-co entry-of Unmade
   co-unmade e′ d =
       then-do (session abstract u h c) λ z _.
-      then-do (room c _ (h .workspace) d) λ f _.
+      then-do (room (by-modes (c .account)) (h .workspace) d) λ f _.
       then-do (walk (by-dominance u z) (abstract .entries h) (below-rep e′)) λ a _.
       then-check Access tt _ λ _.
       then-check TooDeep tt _ λ _.

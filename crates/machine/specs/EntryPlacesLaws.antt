@@ -34,7 +34,8 @@ use Rattle.tree.specs.HoldsLaws.{place-map, place-inside, place-outside}
 use Rattle.copying.specs.Copying.{below-rep}
 use Rattle.store.specs.State.{Store, state-of}
 use Rattle.store.specs.StateLaws.{parts}
-use Rattle.machine.specs.Machine.{caller, tagged, session, run}
+use Rattle.store.specs.Callers.{caller}
+use Rattle.machine.specs.Machine.{tagged, session, run}
 use Rattle.machine.specs.StoreMachine.{store}
 use Rattle.machine.specs.AbstractMachine.{Abstract, Filed, top, entry, dominated, new-entry, next-entry, abstract}
 use Rattle.machine.specs.Embedding.{stored, met, embed}

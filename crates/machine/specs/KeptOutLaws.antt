@@ -22,7 +22,8 @@ use Rattle.tree.specs.GraftLaws.{get-graft}
 use Rattle.shell.specs.ShutLaws.{never-run}
 use Rattle.store.specs.State.{Store}
 use Rattle.store.specs.Initial.{rep-node}
-use Rattle.machine.specs.Machine.{caller, run}
+use Rattle.store.specs.Callers.{caller}
+use Rattle.machine.specs.Machine.{run}
 use Rattle.machine.specs.StoreMachine.{store}
 use Rattle.machine.specs.AbstractMachine.{Abstract}
 use Rattle.machine.specs.Embedding.{stored, embed}

@@ -3,34 +3,30 @@
 -- A person's part is done in the workspace by the access test; the account's part in the repository, by the machine's own
 -- judge. The store and the abstract machine are two instances of this one text. Throughout, w is the path of a working file
 -- or directory, e an entry path, d the path of a copy to be made, z the session's role and r an entry's.
-use mathlib.Core.List.{List, [], _∷_}
 use mathlib.Core.Option.{Option, none, some}
-use mathlib.Core.Bool.{Bool, false, _&&_, _||_, not, cond}
+use mathlib.Core.Bool.{Bool, not}
 use Prim.Native.Nat.{ℕ, suc, _+_}
 use lib.Dec.{eqb, leb}
 use lib.ListN.{getD, set}
-use Rattle.buffers.specs.Text.{Text, same-text}
+use Rattle.buffers.specs.Text.{Text}
 use Rattle.accounts.specs.declared.Caller.{Caller}
-use Rattle.accounts.specs.declared.Uid.{Uid}
 use Rattle.accounts.specs.declared.Right.{Right}
 use Rattle.accounts.specs.declared.Right.the-variants.{R, W}
-use Rattle.accounts.specs.Groups.{with-group}
-use Rattle.accounts.specs.Access.{is-root, same-uid}
-use Rattle.accounts.specs.Caller.{root-caller}
-use Rattle.accounts.specs.Dominance.{same-role, Bounded-role, dominates}
+use Rattle.accounts.specs.Dominance.{Bounded-role, dominates}
 use Rattle.syntax.specs.Path.{Path, Entry-path, parent, last, depth, most-names}
 use Rattle.commands.specs.Command.{Repository-command, login, logout, add, co, commit, up, del, Command, shell, repository}
-use Rattle.setup.specs.Setup.{Person, Grant, Setup, person}
+use Rattle.setup.specs.Setup.{Setup}
 use Rattle.tree.specs.declared.Kind.{Kind}
-use Rattle.tree.specs.declared.Cause.the-variants.{UnknownCaller, Access, WrongKind, NotEmpty, Reserved, Full, NoSession, NoGrant, Stale, Untagged, RevisionsSpent, TooDeep}
+use Rattle.tree.specs.declared.Cause.the-variants.{Access, WrongKind, NotEmpty, Reserved, Full, NoSession, NoGrant, Stale, Untagged, RevisionsSpent, TooDeep}
 use Rattle.tree.specs.Result.{Result, done, _>>=_, _>>_, require, present, Outcome}
 use Rattle.tree.specs.Forest.{Place, is-empty, update, alter, put, size, height}
 use Rattle.tree.specs.Node.{is-directory, Tag, Node, allows, set-tag, set-content, owns}
-use Rattle.tree.specs.Walk.{Judge, by-modes, unused, walk, parent-walk}
+use Rattle.tree.specs.Walk.{Judge, by-modes, unused, walk, parent-walk, room}
 use Rattle.tree.specs.WellFormed.{last-revision}
 use Rattle.copying.specs.Copying.{below-rep, Source, copy}
-use Rattle.shell.specs.Steps.{room, fit, run-shell}
+use Rattle.shell.specs.Steps.{fit, run-shell}
 use Rattle.store.specs.State.{Sessions}
+use Rattle.store.specs.Callers.{granted}
 
 -- A machine with states S and A for what an account meets in its repository.
 pub record Machine (S A : Type 0) : Type 0 where
@@ -52,27 +48,6 @@ pub record Machine (S A : Type 0) : Type 0 where
   pub remove : Entry-path → S → S
   pub on-workspace : (Place Node → Place Node) → S → S
   pub with-sessions : Sessions → S → S
-
--- the caller's account and primary group: root, or a person of the setup (2)
-unfoldable pub person-caller : Uid → Person → Caller
-person-caller uid who = record {
-  account = record { uid = uid; groups = with-group (who .primary) (who .further) };
-  primary = who .primary;
-}
-
-unfoldable pub known-caller : Uid → Option Person → Result Caller
-known-caller uid known = do
-  who ← present known UnknownCaller
-  done (person-caller uid who)
-
-unfoldable pub caller : Setup → Uid → Result Caller
-caller setup uid = cond (is-root uid) (done root-caller) (known-caller uid (person setup uid))
-
--- whether a grant has just these three
-unfoldable pub granted : List Grant → Uid → Bounded-role → Text → Bool
-granted [] uid z password = false
-granted (g ∷ gs) uid z password =
-    (same-uid (g .uid) uid && (same-role (g .role) (z .role) && same-text (g .password) password)) || granted gs uid z password
 
 -- what copies are made of, as a judge sees it
 abbrev pub source : {S A : Type 0} → Machine S A → Judge A → Source A
@@ -136,7 +111,7 @@ module _ {S A : Type 0} (M : Machine S A) (setup : Setup) (s : S) (c : Caller) w
   unfoldable pub run-co : Entry-path → Path → Result (Outcome S)
   run-co e d = do
     z ← session
-    directory ← room c (M .elsewhere s) (M .workspace s) d
+    directory ← room (by-modes (c .account)) (M .workspace s) d
     filed ← account-walks z (below-rep e)
     require (M .judge setup z .readable (filed .here)) Access
     let copies = copy c (source M (M .judge setup z)) (directory .here) e filed

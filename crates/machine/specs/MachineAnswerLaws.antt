@@ -34,7 +34,8 @@ use Rattle.shell.specs.Steps.{text-of}
 use Rattle.shell.specs.Answers.{Own, Text-fits}
 use Rattle.shell.specs.ShellAnswerLaws.{none-fits, room-refuses, run-shell-answers, place-text-fits}
 use Rattle.store.specs.State.{Store}
-use Rattle.machine.specs.Machine.{Machine, known-caller, caller, run-login, run-logout, session, run-add, run-co, working-file, original, run-commit, run-up, run-del, run-repository, run}
+use Rattle.store.specs.Callers.{known-caller, caller}
+use Rattle.machine.specs.Machine.{Machine, run-login, run-logout, session, run-add, run-co, working-file, original, run-commit, run-up, run-del, run-repository, run}
 use Rattle.machine.specs.StoreMachine.{store}
 use Rattle.machine.specs.Runs.{Call, least-room, perform, step}
 use Rattle.machine.specs.RunsLaws.{least-room-is}

@@ -43,15 +43,17 @@ use Rattle.tree.specs.ChangeLaws.{keep-alter, keep-alter-all, keep-put, keep-dr
 use Rattle.copying.specs.Copying.{below-rep, copy}
 use Rattle.copying.specs.CopyLaws.{copy-is-place}
 use Rattle.shell.specs.ShellKeepingLaws.{room-found, fit-most, room-keeps, run-shell-keeps}
+use Rattle.shell.specs.Replies.{after}
 use Rattle.store.specs.State.{Store, state-of, well-formed}
 use Rattle.store.specs.StateLaws.{parts, formed}
 use Rattle.store.specs.Initial.{initial-store}
 use Rattle.store.specs.InitialLaws.{initial-well-formed}
 use Rattle.store.specs.StoreBytes.{encode, decode}
 use Rattle.store.specs.StoreBytesLaws.{decode-encode}
-use Rattle.machine.specs.Machine.{caller, source, Working, run-login, run-logout, run-add, run-co, working-file, original, run-commit, run-up, run-del, run-repository, run}
+use Rattle.store.specs.Callers.{caller}
+use Rattle.machine.specs.Machine.{source, Working, run-login, run-logout, run-add, run-co, working-file, original, run-commit, run-up, run-del, run-repository, run}
 use Rattle.machine.specs.StoreMachine.{entry-node, next-node, store}
-use Rattle.machine.specs.Runs.{Call, after, perform, step, runs}
+use Rattle.machine.specs.Runs.{Call, perform, step, runs}
 use Rattle.machine.specs.Observed.{Reached}
 use Rattle.machine.specs.CallerLaws.{caller-in-range}
 use Rattle.machine.specs.EntryRangeLaws.{entry-fits}

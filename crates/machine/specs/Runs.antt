@@ -8,10 +8,11 @@ use Rattle.buffers.specs.Text.{Text}
 use Rattle.accounts.specs.Access.{is-root}
 use Rattle.commands.specs.Command.{Line, line}
 use Rattle.setup.specs.Setup.{Setup}
-use Rattle.tree.specs.declared.Cause.{Cause}
 use Rattle.tree.specs.declared.Cause.the-variants.{NoForm, ShortAnswer}
-use Rattle.tree.specs.Result.{Result, refused, done, _>>=_, _>>_, require, present, Outcome}
-use Rattle.machine.specs.Machine.{Machine, caller, run}
+use Rattle.tree.specs.Result.{Result, _>>=_, _>>_, require, present, Outcome}
+use Rattle.shell.specs.Replies.{Reply, reply, after}
+use Rattle.store.specs.Callers.{caller}
+use Rattle.machine.specs.Machine.{Machine, run}
 
 -- a command line and the length of the answer buffer lent for it
 pub record Call : Type 0 where
@@ -21,20 +22,6 @@ pub record Call : Type 0 where
 -- an answer buffer holds every text a command gives
 unfoldable pub least-room : ℕ
 least-room = 4096
-
--- what a call replies: done, with the text if the command gives one, or refused for a cause
-pub data Reply : Type 0 where
-  ok : Option Text → Reply
-  refusal : Cause → Reply
-
-unfoldable pub reply : {S : Type 0} → Result (Outcome S) → Reply
-reply (refused why) = refusal why
-reply (done o) = ok (o .text)
-
--- a refused line changes nothing
-unfoldable pub after : {S : Type 0} → S → Result (Outcome S) → S
-after s (refused why) = s
-after s (done o) = o .state
 
 -- the replies to a list of calls, and the state after it
 pub record Ran (S : Type 0) : Type 0 where

@@ -23,7 +23,7 @@ use Rattle.tree.specs.Outcomes.{Agree, both}
 use Rattle.tree.specs.AgreeLaws.{done-second, bind, each, check, guard}
 use Rattle.tree.specs.Forest.{Forest, nil, node, Place, insert, remove, at, update, update-forest, alter, put, drop, leaf, size, map-forest, map-place, rooted}
 use Rattle.tree.specs.Node.{is-directory, Node, allows, owns}
-use Rattle.tree.specs.Walk.{by-modes, enter, walk, parent-walk}
+use Rattle.tree.specs.Walk.{by-modes, enter, walk, parent-walk, room}
 use Rattle.tree.specs.WellFormed.{nodes}
 use Rattle.tree.specs.JudgeLaws.{directory-is-one, kind-by-modes, passes-by-modes}
 use Rattle.tree.specs.StepLaws.{enters}
@@ -34,11 +34,12 @@ use Rattle.tree.specs.MapLaws.{map-nil, map-node, map-here, map-below, unused-m
 use Rattle.tree.specs.Graft.{graft, Outside, Seen}
 use Rattle.tree.specs.GraftLaws.{nodes-graft, update-inside, walk-inside, parent-walk-inside, seen-here}
 use Rattle.copying.specs.Copying.{below-rep, Source, copied, copy-children, copy}
-use Rattle.shell.specs.Steps.{room, fit, run-shell}
+use Rattle.shell.specs.Steps.{fit, run-shell}
 use Rattle.shell.specs.HidingLaws.{Kept-out, Beside, Alike, update-beside, walk-alike, owned-outside, file-outside, room-alike, fit-alike, run-shell-alike}
 use Rattle.store.specs.State.{Sessions, Store}
 use Rattle.store.specs.Initial.{directory-of, top-node, rep-node}
-use Rattle.machine.specs.Machine.{caller, source, run-login, run-logout, session, run-add, run-co, working-file, original, run-commit, run-up, run-del, run-repository, run}
+use Rattle.store.specs.Callers.{caller}
+use Rattle.machine.specs.Machine.{source, run-login, run-logout, session, run-add, run-co, working-file, original, run-commit, run-up, run-del, run-repository, run}
 use Rattle.machine.specs.StoreMachine.{entry-node, next-node, on-tree, store}
 use Rattle.machine.specs.AbstractMachine.{Entry, Abstract, Filed, top, entry, new-entry, next-entry, on-entries, abstract}
 use Rattle.machine.specs.Embedding.{in-store, stored, met, embed}
@@ -226,7 +227,7 @@ module _ (u : Setup) (c : Caller) (out : Kept-out c top-node (leaf rep-node .her
 
   -- there is room for a new node in both
   room-agrees : (p : Path)
-      → Agree (λ d d′. (d .here ≡ d′ .here) × Outside (parent p)) (room c 0 (embed h .tree) p) (room c (size (h .entries)) (h .workspace) p)
+      → Agree (λ d d′. (d .here ≡ d′ .here) × Outside (parent p)) (room (by-modes (c .account)) (embed h .tree) p) (room (by-modes (c .account)) (h .workspace) p)
   unfolding embed
   room-agrees = room-alike c (stored (h .entries)) (leaf rep-node) top-node out (rep-alike h k) (h .workspace) (k .top) (k .there) 0 (size (h .entries)) (count h k)
 

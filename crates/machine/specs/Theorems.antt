@@ -28,17 +28,19 @@ use Rattle.tree.specs.Forest.{Place, place-at}
 use Rattle.tree.specs.Node.{Node}
 use Rattle.tree.specs.WellFormed.{is-tree}
 use Rattle.shell.specs.Privacy.{Private, Unaltered, walks-first}
+use Rattle.shell.specs.Replies.{after}
 use Rattle.store.specs.State.{Store, State, state-of, well-formed}
 use Rattle.store.specs.Initial.{initial-store}
 use Rattle.store.specs.InitialLaws
 use Rattle.store.specs.StoreBytes.{encode, decode}
 use Rattle.store.specs.SoundStore.{Sound}
 use Rattle.store.specs.SoundStoreLaws
-use Rattle.machine.specs.Machine.{Machine, caller, run}
+use Rattle.store.specs.Callers.{caller}
+use Rattle.machine.specs.Machine.{Machine, run}
 use Rattle.machine.specs.StoreMachine.{store}
 use Rattle.machine.specs.AbstractMachine.{Abstract, Filed, dominated, abstract, initial-abstract}
 use Rattle.machine.specs.Embedding.{met, embed}
-use Rattle.machine.specs.Runs.{Call, after, step, runs, root's}
+use Rattle.machine.specs.Runs.{Call, step, runs, root's}
 use Rattle.machine.specs.RunsLaws
 use Rattle.machine.specs.MachineAnswerLaws
 use Rattle.machine.specs.Observed.{Compared, without-root, Reached, Reached-without-root}

@@ -25,12 +25,12 @@ use Rattle.tree.specs.Outcomes.{Agree, both}
 use Rattle.tree.specs.AgreeLaws.{bind, check, guard}
 use Rattle.tree.specs.Forest.{Place, get, is-empty, update}
 use Rattle.tree.specs.Node.{is-directory, same-kind, Node, allows, owns}
-use Rattle.tree.specs.Walk.{Judge, by-modes, walk, parent-walk}
+use Rattle.tree.specs.Walk.{Judge, by-modes, walk, parent-walk, room}
 use Rattle.tree.specs.WellFormed.{nodes}
-use Rattle.tree.specs.JudgeLaws.{passes-by-modes}
+use Rattle.tree.specs.JudgeLaws.{passes-by-modes, room-by-modes}
 use Rattle.tree.specs.Graft.{graft, Outside, Seen, Passed}
 use Rattle.tree.specs.GraftLaws.{update-outside, outside-here, outside-rep, seen-here, seen-alike, seen-names, seen-outside, unused-graft, walk-graft, parent-walk-graft}
-use Rattle.shell.specs.Steps.{text-of, room, fit, run-create, run-read, run-write, run-rm, run-mv, run-chmod, run-chgrp, run-chown, run-shell}
+use Rattle.shell.specs.Steps.{text-of, fit, run-create, run-read, run-write, run-rm, run-mv, run-chmod, run-chgrp, run-chown, run-shell}
 
 -- a caller without rights at `/rep`, who neither writes in `/` nor owns one of the two
 pub record Kept-out (c : Caller) (top rep-node : Node) : Type 0 where
@@ -126,14 +126,13 @@ module _ (c : Caller) (e f : Place Node) (top : Node) (out : Kept-out c top (f .
 
   module _ (m m′ : ℕ) (count : nodes (graft e t) + m ≡ nodes t + m′) where
     -- there is room for a new node in both or in neither, and it is outside `/rep`
-    pub room-alike : (p : Path) → Agree (λ d d′. (d .here ≡ d′ .here) × Outside (parent p)) (room c m (graft e t) p) (room c m′ t p)
-    unfolding room
-    room-alike p =
+    pub room-alike : (p : Path) → Agree (λ d d′. (d .here ≡ d′ .here) × Outside (parent p)) (room (by-modes (c .account)) (graft e t) p) (room (by-modes (c .account)) t p)
+    room-alike p = rw (room-by-modes (c .account) (graft e t) p, room-by-modes (c .account) t p) (
         check Exists refl λ _.
         bind (parent-walk-alike p) λ d d′ s.
         guard (unused-graft there not-passed s (last p)) λ _.
         check Access (test (allows (c .account) W) (s .seen)) λ i.
-        both (seen-here alike (s .seen), writes-outside (s .seen) i)
+        both (seen-here alike (s .seen), writes-outside (s .seen) i))
 
     -- as many more nodes fit in both
     pub fit-alike : (k : ℕ) → fit c m (graft e t) k ≡ fit c m′ t k

@@ -1,4 +1,8 @@
 pub mod Steps
+pub mod Replies
+pub mod ReplyLaws
+pub mod CommandBytes
+pub mod CommandBytesLaws
 pub mod ReadTextLaws
 pub mod Answers
 pub mod ShellAnswerLaws

@@ -18,11 +18,12 @@ use Rattle.tree.specs.Outcomes.{Gives, gives, Refuses}
 use Rattle.tree.specs.GivesLaws.{only-refuses, then-step, then-check, then-guard}
 use Rattle.tree.specs.Forest.{Place, place-at}
 use Rattle.tree.specs.Node.{Node}
-use Rattle.tree.specs.Walk.{by-modes, walk, parent-walk}
+use Rattle.tree.specs.Walk.{by-modes, walk, parent-walk, room}
+use Rattle.tree.specs.JudgeLaws.{room-by-modes}
 use Rattle.tree.specs.WalkRefusalLaws.{unused-refuses, walk-refuses, parent-walk-refuses}
 use Rattle.tree.specs.WellFormed.{is-tree}
 use Rattle.tree.specs.UpdateLaws.{walked-at}
-use Rattle.shell.specs.Steps.{text-of, room, run-create, run-read, run-write, run-rm, run-mv, run-chmod, run-chgrp, run-chown, run-shell}
+use Rattle.shell.specs.Steps.{text-of, run-create, run-read, run-write, run-rm, run-mv, run-chmod, run-chgrp, run-chown, run-shell}
 use Rattle.shell.specs.ReadTextLaws.{read-fits}
 use Rattle.shell.specs.Answers.{Own, Text-fits}
 
@@ -38,14 +39,13 @@ module _ (c : Caller) (m : ℕ) (t : Place Node) where
   parent-walks p = parent-walk-refuses refl refl refl (by-modes (c .account)) t p
 
   -- where there is no room for a new node, the cause is the command's own
-  pub room-refuses : (p : Path) → Refuses Own (room c m t p)
-  unfolding room
-  room-refuses p = only-refuses {P = λ d. Unit {0}} (
+  pub room-refuses : (p : Path) → Refuses Own (room (by-modes (c .account)) t p)
+  room-refuses p = rw (room-by-modes (c .account) t p) (only-refuses {P = λ d. Unit {0}} (
       then-check Exists refl _ λ _.
       then-step (parent-walks p) λ d _.
       then-guard (unused-refuses refl (last p) (d .below)) λ _.
       then-check Access refl _ λ _.
-      gives tt)
+      gives tt))
 
   module _ (T : Option Text → Type 0) (empty : T none) (full : (p : Path) (d : Place Node) → place-at t p ≡ some d → T (some (text-of d))) where
     abbrev Answers : Result (Outcome (Place Node)) → Type 0

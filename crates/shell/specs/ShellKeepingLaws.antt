@@ -25,16 +25,16 @@ use Rattle.tree.specs.Outcomes.{gives, Ensures}
 use Rattle.tree.specs.GivesLaws.{any-outcome, done-with, then-check, then-guard, then-do}
 use Rattle.tree.specs.Forest.{Place, get, update, put, leaf, size, height}
 use Rattle.tree.specs.Node.{is-directory, Node, set-owner, set-group, set-mode, set-content, new-node}
-use Rattle.tree.specs.Walk.{by-modes, walk}
+use Rattle.tree.specs.Walk.{by-modes, walk, room}
 use Rattle.tree.specs.WellFormed.{nodes, is-node, is-place, is-tree}
-use Rattle.tree.specs.JudgeLaws.{file-is-none, directory-is-one}
+use Rattle.tree.specs.JudgeLaws.{file-is-none, directory-is-one, room-by-modes}
 use Rattle.tree.specs.StepLaws.{was-unused, parent-walked}
 use Rattle.tree.specs.PlaceLaws.{leaf-size}
 use Rattle.tree.specs.UpdateLaws.{leaf-height}
 use Rattle.tree.specs.NodeLaws.{new-node-fits, node-of-owner, node-of-group, node-of-mode, node-of-content, kind-of-set-owner, kind-of-set-group, kind-of-set-mode, kind-of-set-content}
 use Rattle.tree.specs.WellFormedLaws.{most-nodes-is, place-node, leaf-place, entered-directory, walked-place}
 use Rattle.tree.specs.ChangeLaws.{keep-alter, keep-put, keep-drop, keep-move}
-use Rattle.shell.specs.Steps.{room, fit, run-create, run-read, run-write, run-rm, run-mv, run-chmod, run-chgrp, run-chown, run-shell}
+use Rattle.shell.specs.Steps.{fit, run-create, run-read, run-write, run-rm, run-mv, run-chmod, run-chgrp, run-chown, run-shell}
 
 -- a mode below 01000 is one, without set-gid
 plain-mode-fits : (m : ℕ) → ltb m 512 ≡ true → (is-mode m ≡ true) × (set-gid m ≡ false)
@@ -46,18 +46,17 @@ abbrev Room : Caller → Place Node → Path → Place Node → Type 0
 Room c t p d = (walk (by-modes (c .account)) t (parent p) ≡ done d) × (is-directory (d .here .kind) ≡ true) × (get (last p) (d .below) ≡ none) × (is-top p ≡ false)
 
 module _ (c : Caller) (m : ℕ) (t : Place Node) where
-  room-ensures : (p : Path) → Ensures (Room c t p) (room c m t p)
-  unfolding room
-  room-ensures p =
+  room-ensures : (p : Path) → Ensures (Room c t p) (room (by-modes (c .account)) t p)
+  room-ensures p = rw (room-by-modes (c .account) t p) (
       then-check Exists tt _ λ a.
       then-do _ λ d e.
       then-guard (any-outcome _) λ b.
       then-check Access tt _ λ _.
       let i = parent-walked (by-modes (c .account)) t p e in
-      gives (i .0, entered-directory (c .account) (d .here) (i .1), was-unused (last p) (d .below) b, not-true (is-top p) a)
+      gives (i .0, entered-directory (c .account) (d .here) (i .1), was-unused (last p) (d .below) b, not-true (is-top p) a))
 
   -- the room for a new node is a directory that the walk to the parent leads to, without that name
-  pub room-found : (p : Path) (d : Place Node) → room c m t p ≡ done d → Room c t p d
+  pub room-found : (p : Path) (d : Place Node) → room (by-modes (c .account)) t p ≡ done d → Room c t p d
   room-found p d e = done-with (room-ensures p) e
 
   -- what fits is at most 256 nodes
@@ -66,7 +65,7 @@ module _ (c : Caller) (m : ℕ) (t : Place Node) where
   fit-most k h = omega (arith, leb-true (nodes t + m + k) 256 (rw most-nodes-is at h))
 
   -- a place put into the room for it keeps the tree well-formed
-  pub room-keeps : (p : Path) (d e : Place Node) → is-tree t ≡ true → is-path p ≡ true → room c m t p ≡ done d → is-place e ≡ true
+  pub room-keeps : (p : Path) (d e : Place Node) → is-tree t ≡ true → is-path p ≡ true → room (by-modes (c .account)) t p ≡ done d → is-place e ≡ true
       → depth p + height (e .below) ≤ 6 → nodes t + suc (size (e .below)) ≤ 256 → is-tree (update (parent p) (put (last p) e) t) ≡ true
   room-keeps p d e h a i w l n =
       let f = room-found p d i in

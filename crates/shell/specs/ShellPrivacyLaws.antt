@@ -29,14 +29,14 @@ use Rattle.tree.specs.Outcomes.{gives, Ensures}
 use Rattle.tree.specs.GivesLaws.{any-outcome, weaker, then-step, then-check, then-guard, then-do}
 use Rattle.tree.specs.Forest.{Place, is-empty, update, place-at, put, drop}
 use Rattle.tree.specs.Node.{same-kind, Node, allows, set-mode, set-group, set-content, owns}
-use Rattle.tree.specs.Walk.{by-modes, unused, walk, parent-walk}
+use Rattle.tree.specs.Walk.{by-modes, unused, walk, parent-walk, room}
 use Rattle.tree.specs.WellFormed.{is-tree}
 use Rattle.tree.specs.ResultLaws.{done-then, refused-bind, require-true}
-use Rattle.tree.specs.JudgeLaws.{directory-not-file, allows-is, kind-by-modes, passes-by-modes}
+use Rattle.tree.specs.JudgeLaws.{directory-not-file, allows-is, kind-by-modes, passes-by-modes, room-by-modes}
 use Rattle.tree.specs.StepLaws.{was-unused, parent-walked}
 use Rattle.tree.specs.UpdateLaws.{place-at-child, walked-at}
 use Rattle.tree.specs.OtherPathLaws.{alter-keeps, put-keeps, drop-empty-keeps, drop-gone, move-keeps, move-carries, walk-outside, walk-shut, parent-walk-shut}
-use Rattle.shell.specs.Steps.{room, run-create, run-read, run-write, run-rm, run-mv, run-chmod, run-chgrp, run-chown, run-shell}
+use Rattle.shell.specs.Steps.{run-create, run-read, run-write, run-rm, run-mv, run-chmod, run-chgrp, run-chown, run-shell}
 use Rattle.shell.specs.Privacy.{Private, Writes, Unaltered, in-place, moved-along, taken-out, walks-first}
 
 -- the account has no right there
@@ -90,14 +90,13 @@ record Removed (a : Account) (s d : Place Node) (p : Path) (kind : Kind) (q : Pa
 
 module _ (c : Caller) (m : ℕ) (t : Place Node) (p : Path) (d : Place Node) (there : place-at t p ≡ some d) (v : Private (c .account) d) where
   -- a new node in the room found for it leaves the directory
-  pub room-private : (q : Path) → Ensures (λ e. (x : Place Node) → place-at (update (parent q) (put (last q) x) t) p ≡ some d) (room c m t q)
-  unfolding room
-  room-private q =
+  pub room-private : (q : Path) → Ensures (λ e. (x : Place Node) → place-at (update (parent q) (put (last q) x) t) p ≡ some d) (room (by-modes (c .account)) t q)
+  room-private q = rw (room-by-modes (c .account) t q) (
       then-check Exists tt _ λ _.
       then-do (parent-walk (by-modes (c .account)) t q) λ e w.
       then-guard (any-outcome (unused (last q) (e .below))) λ n.
       then-check Access tt _ λ b.
-      gives (put-private t p d there v q e w n b)
+      gives (put-private t p d there v q e w n b))
 
   module _ (whole : is-tree t ≡ true) where
     -- ---- paths below it
@@ -108,9 +107,10 @@ module _ (c : Caller) (m : ℕ) (t : Place Node) (p : Path) (d : Place Node) (th
     walk-through k q b = rw (walk-shut (by-modes (c .account)) (kind-by-modes (c .account)) t whole p d there (v .directory) (not-passed v) q b, refused-bind)
 
     create-through : (kind : Kind) (q : Path) (mode : ℕ) → lies-below p q ≡ true → run-create c m t kind q mode ≡ refused Access
-    unfolding run-create room is-top
+    unfolding run-create is-top
     create-through kind root mode b = top-not-below p b
     create-through kind (q ▹ n) mode b = rw (
+      room-by-modes (c .account) t (q ▹ n),
       require-true Exists,
       done-then,
       parent-walk-shut (by-modes (c .account)) (kind-by-modes (c .account)) t whole p d there (v .directory) (not-passed v) (q ▹ n) b,

@@ -17,11 +17,11 @@ use Rattle.tree.specs.Outcomes.{Ensures}
 use Rattle.tree.specs.GivesLaws.{then-step, then-check, then-do}
 use Rattle.tree.specs.Forest.{Place, place-at}
 use Rattle.tree.specs.Node.{Node, allows}
-use Rattle.tree.specs.Walk.{by-modes, enter, walk, parent-walk}
-use Rattle.tree.specs.JudgeLaws.{passes-by-modes}
+use Rattle.tree.specs.Walk.{by-modes, enter, walk, parent-walk, room}
+use Rattle.tree.specs.JudgeLaws.{passes-by-modes, room-by-modes}
 use Rattle.tree.specs.StepLaws.{entered, walked, parent-walked}
 use Rattle.tree.specs.OtherPathLaws.{walk-outside}
-use Rattle.shell.specs.Steps.{room, run-create, run-read, run-write, run-rm, run-mv, run-chmod, run-chgrp, run-chown, run-shell}
+use Rattle.shell.specs.Steps.{run-create, run-read, run-write, run-rm, run-mv, run-chmod, run-chgrp, run-chown, run-shell}
 
 module _ (c : Caller) (t : Place Node) (p : Path) (d : Place Node) (there : place-at t p ≡ some d) (shut : allows (c .account) X (d .here) ≡ false) where
   -- a directory that the caller enters is neither that at p nor below it
@@ -59,9 +59,8 @@ module _ (c : Caller) (t : Place Node) (p : Path) (d : Place Node) (there : plac
 
   module _ (m : ℕ) where
     -- no room for a new node is found there
-    pub never-room : (q : Path) → lies-below p q ≡ true → Ensures (λ _. ⊥) (room c m t q)
-    unfolding room
-    never-room q b = then-check Exists tt _ λ _. never-parent-walked _ q b
+    pub never-room : (q : Path) → lies-below p q ≡ true → Ensures (λ _. ⊥) (room (by-modes (c .account)) t q)
+    never-room q b = rw (room-by-modes (c .account) t q) (then-check Exists tt _ λ _. never-parent-walked _ q b)
 
     never-made : (kind : Kind) (q : Path) (mode : ℕ) → lies-below p q ≡ true → Ensures (λ _. ⊥) (run-create c m t kind q mode)
     unfolding run-create

@@ -16,7 +16,7 @@ use Rattle.accounts.specs.Groups.{member}
 use Rattle.accounts.specs.Access.{is-root, same-uid}
 use Rattle.syntax.specs.Pieces.{comma, joined}
 use Rattle.syntax.specs.Number.{set-gid}
-use Rattle.syntax.specs.Path.{Path, parent, last, depth, is-top, within, reserved, most-names}
+use Rattle.syntax.specs.Path.{Path, parent, last, depth, within, reserved, most-names}
 use Rattle.commands.specs.Command.{Shell-command, create, mkdir, read, write, rm, rmdir, mv, chmod, chgrp, chown}
 use Rattle.tree.specs.declared.Kind.{Kind}
 use Rattle.tree.specs.declared.Kind.the-variants.{File, Directory}
@@ -24,7 +24,7 @@ use Rattle.tree.specs.declared.Cause.the-variants.{Access, Exists, WrongKind, N
 use Rattle.tree.specs.Result.{Result, done, _>>=_, _>>_, require, Outcome}
 use Rattle.tree.specs.Forest.{Place, is-empty, update, alter, put, drop, leaf, height, names}
 use Rattle.tree.specs.Node.{is-directory, same-kind, Node, allows, set-owner, set-group, set-mode, set-content, owns, new-node}
-use Rattle.tree.specs.Walk.{by-modes, unused, walk, parent-walk}
+use Rattle.tree.specs.Walk.{by-modes, unused, walk, parent-walk, room}
 use Rattle.tree.specs.WellFormed.{most-nodes, nodes}
 
 -- a file's content, or a directory's names in byte order parted by commas
@@ -50,15 +50,6 @@ module _ (c : Caller) (elsewhere : ℕ) (t : Place Node) where
   abbrev changed : Path → (Place Node → Place Node) → Result (Outcome (Place Node))
   changed p f = done (record { text = none; state = update p f t })
 
-  -- a directory for a new node: for `/` 6; parent walk; 6 if present; w on parent 5
-  unfoldable pub room : Path → Result (Place Node)
-  room p = do
-    require (not (is-top p)) Exists
-    d ← parent-walks p
-    unused (last p) (d .below)
-    require (can W d) Access
-    done d
-
   -- whether so many more nodes are at most 256
   unfoldable pub fit : ℕ → Bool
   fit more = leb (nodes t + elsewhere + more) most-nodes
@@ -66,7 +57,7 @@ module _ (c : Caller) (elsewhere : ℕ) (t : Place Node) where
   -- `create` makes a file, `mkdir` a directory
   unfoldable pub run-create : Kind → Path → ℕ → Result (Outcome (Place Node))
   run-create kind p mode = do
-    d ← room p
+    d ← room (by-modes (c .account)) t p
     require (fit 1) Full
     changed (parent p) (put (last p) (leaf (new-node c (d .here) kind mode)))
 

@@ -1,1 +1,14 @@
 // The shell commands on a file tree.
+use tree::Cause;
+
+// What a call answers.
+pub enum Answer {
+    // Done, and there is no text.
+    Done,
+    // Done; the text of this length stands in the answer buffer.
+    Text(usize),
+    // Refused, and nothing has changed.
+    Refused(Cause),
+    // The setup's first wrong line, from 1.
+    WrongLine(usize),
+}

@@ -1,4 +1,6 @@
+pub mod HeaderLayout
 pub mod State
+pub mod Callers
 pub mod StateLaws
 pub mod PersonLaws
 pub mod Initial

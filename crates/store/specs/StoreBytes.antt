@@ -24,6 +24,7 @@ use Rattle.syntax.specs.Form.{_>>=_, _>>_, check}
 use Rattle.syntax.specs.Field.{bounded}
 use Rattle.setup.specs.Setup.{Person, Grant, Setup, accounts, most-pairs, most-grants}
 use Rattle.tree.specs.Encoding.{encode-tree, decode-tree}
+use Rattle.store.specs.HeaderLayout.{slot-width, sessions-offset, pairs-offset, pair-width, grants-offset, grant-width, password-offset, password-width, spare-width}
 use Rattle.store.specs.State.{Sessions, State, well-formed}
 
 unfoldable pub header-width : ℕ
@@ -54,28 +55,28 @@ unfoldable pub pair-of : List ℕ → Pair
 pair-of b = record { senior = record { 0 = getD b 0 0 }; junior = record { 0 = getD b 1 0 } }
 
 unfoldable pub grant-bytes : Grant → List ℕ
-grant-bytes g = g .uid .0 ∷ g .role .0 ∷ padded 8 (g .password)
+grant-bytes g = g .uid .0 ∷ g .role .0 ∷ padded password-width (g .password)
 
 unfoldable pub grant-of : List ℕ → Grant
-grant-of b = record { uid = record { 0 = getD b 0 0 }; role = record { 0 = getD b 1 0 }; password = text-at 2 8 b }
+grant-of b = record { uid = record { 0 = getD b 0 0 }; role = record { 0 = getD b 1 0 }; password = text-at password-offset password-width b }
 
 unfoldable pub header-bytes : Setup → Sessions → List ℕ
 header-bytes u sessions =
     all-bytes slot-bytes (u .persons)
     ++ (all-bytes (λ z. session-byte z ∷ []) sessions
-    ++ (table-bytes 2 most-pairs pair-bytes (u .pairs)
-    ++ (table-bytes 10 most-grants grant-bytes (u .grants)
-    ++ replicate 5700 0)))
+    ++ (table-bytes pair-width most-pairs pair-bytes (u .pairs)
+    ++ (table-bytes grant-width most-grants grant-bytes (u .grants)
+    ++ replicate spare-width 0)))
 
 unfoldable pub setup-of : List ℕ → Setup
 setup-of b = record {
-  persons = all-from 3 slot-of accounts b;
-  pairs = table-from 2 pair-of (drop 64 b);
-  grants = table-from 10 grant-of (drop 121 b);
+  persons = all-from slot-width slot-of accounts b;
+  pairs = table-from pair-width pair-of (drop pairs-offset b);
+  grants = table-from grant-width grant-of (drop grants-offset b);
 }
 
 unfoldable pub sessions-of : List ℕ → Sessions
-sessions-of b = all-from 1 (λ s. session-of (getD s 0 0)) accounts (drop 48 b)
+sessions-of b = all-from 1 (λ s. session-of (getD s 0 0)) accounts (drop sessions-offset b)
 
 unfoldable pub encode : State → List ℕ
 encode s = header-bytes (s .setup) (s .store .sessions) ++ encode-tree (s .store .tree)

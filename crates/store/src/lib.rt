@@ -1,4 +1,16 @@
 // The store: setup, sessions and tree as bytes, and the initial tree.
 mod initial;
+mod layout;
 
 pub use initial::write_initial;
+pub use layout::GRANT;
+pub use layout::GRANTS;
+pub use layout::HEADER;
+pub use layout::PAIR;
+pub use layout::PAIRS;
+pub use layout::PASSWORD;
+pub use layout::PASSWORD_WIDTH;
+pub use layout::SESSIONS;
+pub use layout::SLOT;
+pub use layout::SPARE;
+pub use layout::STORE;

@@ -3,6 +3,7 @@ use mathlib.Core.Path.{_≡_, refl, sym}
 use mathlib.Core.Bool.{true, false, _&&_, _||_, not}
 use Prim.Native.Nat.{ℕ}
 use Rattle.buffers.specs.Text.{Text}
+use Rattle.syntax.specs.Path.{Path, last, is-top}
 use Rattle.accounts.specs.declared.Right.{Right}
 use Rattle.accounts.specs.declared.Right.the-variants.{R, W, X}
 use Rattle.accounts.specs.declared.Account.{Account}
@@ -10,7 +11,10 @@ use Rattle.accounts.specs.Access.{may}
 use Rattle.tree.specs.declared.Kind.{Kind}
 use Rattle.tree.specs.declared.Kind.the-variants.{File, Directory}
 use Rattle.tree.specs.Node.{is-directory, same-kind, Node, allows, set-revision, set-content}
-use Rattle.tree.specs.Walk.{by-modes}
+use Rattle.tree.specs.declared.Cause.the-variants.{Access, Exists}
+use Rattle.tree.specs.Result.{done, _>>=_, _>>_, require}
+use Rattle.tree.specs.Forest.{Place}
+use Rattle.tree.specs.Walk.{by-modes, unused, parent-walk, room}
 
 pub file-is-none : is-directory File ≡ false
 unfolding is-directory
@@ -47,6 +51,12 @@ module _ (a : Account) (n : Node) where
   pub writable-by-modes : by-modes a .writable n ≡ allows a W n
   unfolding by-modes
   writable-by-modes = refl
+
+-- the steps to the room for a new node
+pub room-by-modes : (a : Account) (t : Place Node) (p : Path) → room (by-modes a) t p
+    ≡ (require (not (is-top p)) Exists >> (parent-walk (by-modes a) t p >>= λ d. unused (last p) (d .below) >> (require (allows a W (d .here)) Access >> done d)))
+unfolding room by-modes
+room-by-modes a t p = refl
 
 module _ (n : Node) where
   -- a node with another revision, tag or content

@@ -6,7 +6,8 @@ use mathlib.Core.Option.{some}
 use mathlib.Core.Bool.{true}
 use Prim.Native.Nat.{ℕ, _+_, _≤_, _<_}
 use lib.ListN.{length}
-use Rattle.syntax.specs.Path.{Path}
+use Rattle.buffers.specs.Text.{Text}
+use Rattle.syntax.specs.Path.{Path, path}
 use Rattle.tree.specs.Layout.{most-rows, tree-width}
 use Rattle.tree.specs.Forest.{Place, place-at}
 use Rattle.tree.specs.Node.{Node}
@@ -52,6 +53,18 @@ pub record Encodes (b : List ℕ) (t : Place Node) : Type 0 where
   pub sized : Sized b
   pub whole : is-tree t ≡ true
   pub bytes : b ≡ encode-tree t
+
+-- the bytes of some well-formed tree
+abbrev pub Whole : List ℕ → Type 0
+Whole b = (t : Place Node) × Encodes b t
+
+-- a text that reads as a path
+abbrev pub Path-text : Text → Type 0
+Path-text s = (p : Path) × (path s ≡ some p)
+
+-- for whatever tree the bytes are, and whatever path the text reads as
+abbrev pub Whichever : List ℕ → Text → (Place Node → Path → Type 0) → Type 0
+Whichever b s P = (t : Place Node) (p : Path) → Encodes b t → path s ≡ some p → P t p
 
 -- in which row i is that of the place d at the path p
 pub record At (b : List ℕ) (t : Place Node) (p : Path) (i : ℕ) (d : Place Node) : Type 0 where

@@ -6,7 +6,7 @@ use mathlib.Core.List.{List, [], _∷_}
 use mathlib.Core.Bool.{Bool, _&&_, _||_, not}
 use Rattle.accounts.specs.declared.Right.the-variants.{R, W, X}
 use Rattle.accounts.specs.declared.Account.{Account}
-use Rattle.syntax.specs.Path.{Name, Path, root, _▹_, parent}
+use Rattle.syntax.specs.Path.{Name, Path, root, _▹_, parent, last, is-top}
 use Rattle.tree.specs.declared.Kind.{Kind}
 use Rattle.tree.specs.declared.Cause.the-variants.{Missing, NotDirectory, Access, Exists}
 use Rattle.tree.specs.Result.{Result, done, _>>=_, _>>_, require, present, absent}
@@ -54,6 +54,15 @@ unfoldable pub parent-walk : {A : Type 0} → Judge A → Place A → Path → R
 parent-walk j t p = do
   d ← walk j t (parent p)
   enter j (d .here)
+  done d
+
+-- a directory for a new node: for `/` 6; parent walk; 6 if present; w on parent 5
+unfoldable pub room : {A : Type 0} → Judge A → Place A → Path → Result (Place A)
+room j t p = do
+  require (not (is-top p)) Exists
+  d ← parent-walk j t p
+  unused (last p) (d .below)
+  require (j .writable (d .here)) Access
   done d
 
 -- ---- the same in document 01's words, name by name from the top

@@ -29,7 +29,7 @@ use Rattle.tree.specs.Node.{Tag, Node}
 use Rattle.tree.specs.NodeLaws.{last-revision-is, Tag-range, node-ranges}
 use Rattle.tree.specs.WellFormed.{last-revision, nodes, is-node, is-forest, is-tree}
 use Rattle.tree.specs.WellFormedLaws.{place-parts, forest-parts, tree-parts}
-use Rattle.calls.specs.Listing.{kind-text, tag-fields, node-line, longest-listing-line, forest-lines, listing}
+use Rattle.listing.specs.Listing.{kind-text, tag-fields, node-line, longest-listing-line, forest-lines, listing}
 
 -- ---- how many lines
 

@@ -1,0 +1,1 @@
+// The listing of a tree, a line for each node.

@@ -1,0 +1,37 @@
+-- Where the parts of a store stand, and how wide they are; src/layout.rt has the same numbers for the code.
+use Prim.Native.Nat.{ℕ}
+
+-- an account's slot: its primary group, its further groups in two bytes
+abbrev pub slot-width : ℕ
+slot-width = 3
+
+-- the accounts' sessions, a byte each
+abbrev pub sessions-offset : ℕ
+sessions-offset = 48
+
+-- how many role pairs, then each: senior, junior
+abbrev pub pairs-offset : ℕ
+pairs-offset = 64
+
+abbrev pub pair-width : ℕ
+pair-width = 2
+
+-- how many grants, then each: uid, role, password
+abbrev pub grants-offset : ℕ
+grants-offset = 121
+
+abbrev pub grant-width : ℕ
+grant-width = 10
+
+abbrev pub password-offset : ℕ
+password-offset = 2
+
+abbrev pub password-width : ℕ
+password-width = 8
+
+-- zeros up to the header's end
+abbrev pub spare-offset : ℕ
+spare-offset = 442
+
+abbrev pub spare-width : ℕ
+spare-width = 5700
