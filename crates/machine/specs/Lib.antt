@@ -23,3 +23,4 @@ pub mod ReadingLaws
 pub mod MachinePrivacyLaws
 pub mod Theorems
 pub mod Compute
+pub mod Acting
