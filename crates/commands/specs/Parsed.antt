@@ -11,6 +11,7 @@ use lib.Dec.{eqb, leb}
 use lib.ListN.{length, take}
 use Rattle.buffers.specs.Text.{Text}
 use Rattle.accounts.specs.declared.Uid.{Uid}
+use Rattle.accounts.specs.Dominance.{Bounded-role}
 use Rattle.syntax.specs.declared.Span.{Span}
 use Rattle.arguments.specs.Kinds.{number-in, path-in, entry-in, Argument, values-of, arguments-of}
 use Rattle.commands.specs.declared.Command.{Command as Parts}
@@ -23,7 +24,7 @@ use Rattle.commands.specs.declared.Numbers.the-variants.{Read as Numbers
 use Rattle.commands.specs.declared.Parsed.{Parsed}
 use Rattle.commands.specs.declared.Parsed.the-variants.{Line as Is-line, NoForm}
 use Rattle.syntax.specs.Form.{_>>=_, by-form}
-use Rattle.syntax.specs.Path.{Path, Entry-path}
+use Rattle.syntax.specs.Path.{Path, Entry-path, path, entry-path}
 use Rattle.syntax.specs.Field.{bounded}
 use Rattle.commands.specs.Command.{create, mkdir, read, write, rm, rmdir, mv, chmod, chgrp, chown, login, logout, add, co, commit, up, del, Command, shell, repository, Line, listed, forms}
 use Rattle.syntax.specs.Parts.{Inside, span-text, text-in}
@@ -62,25 +63,30 @@ arguments f n m l = record { part = f .first; number = n } ∷ (record { part = 
 pub record Makes-of (w : Word) (vs : List Argument) (c : Parts) : Type 0 where
   pub means : (t : Text) → meaning t c ≡ values-of (listed w .kinds) (listed w .makes) t vs
 
--- every part of a command lies inside the line
-unfoldable pub Placed : Text → Parts → Type 0
-Placed t (Create p m) = Inside p t
-Placed t (Mkdir p m) = Inside p t
-Placed t (Read p) = Inside p t
-Placed t (Write p c) = Inside p t × Inside c t
-Placed t (Rm p) = Inside p t
-Placed t (Rmdir p) = Inside p t
-Placed t (Mv a b) = Inside a t × Inside b t
-Placed t (Chmod p m) = Inside p t
-Placed t (Chgrp p g) = Inside p t
-Placed t (Chown p u) = Inside p t
-Placed t (Login r w) = Inside w t
-Placed t Logout = Unit
-Placed t (Add w e r) = Inside w t × Inside e t
-Placed t (Co e d) = Inside e t × Inside d t
-Placed t (Commit w) = Inside w t
-Placed t (Up w) = Inside w t
-Placed t (Del e) = Inside e t
+-- a part of a line lies inside it and reads as something
+pub record Part-reads {A : Type 0} (read : Text → Option A) (t : Text) (s : Span) (x : A) : Type 0 where
+  pub inside : Inside s t
+  pub reads : read (span-text t s) ≡ some x
+
+-- the command k is that of the parts: what each part reads as, and what they make; what a caller of `parse` goes by
+unfoldable pub Means : Text → Parts → Command → Type 0
+Means t (Create p m) k = (q : Path) × Part-reads path t p q × (k ≡ shell (create q m))
+Means t (Mkdir p m) k = (q : Path) × Part-reads path t p q × (k ≡ shell (mkdir q m))
+Means t (Read p) k = (q : Path) × Part-reads path t p q × (k ≡ shell (read q))
+Means t (Write p c) k = (q : Path) × Part-reads path t p q × Inside c t × (k ≡ shell (write q (span-text t c)))
+Means t (Rm p) k = (q : Path) × Part-reads path t p q × (k ≡ shell (rm q))
+Means t (Rmdir p) k = (q : Path) × Part-reads path t p q × (k ≡ shell (rmdir q))
+Means t (Mv a b) k = (p : Path) × (q : Path) × Part-reads path t a p × Part-reads path t b q × (k ≡ shell (mv p q))
+Means t (Chmod p m) k = (q : Path) × Part-reads path t p q × (k ≡ shell (chmod q m))
+Means t (Chgrp p g) k = (q : Path) × Part-reads path t p q × (k ≡ shell (chgrp q g))
+Means t (Chown p u) k = (q : Path) × Part-reads path t p q × (k ≡ shell (chown q u))
+Means t (Login r w) k = (z : Bounded-role) × (z .role ≡ r) × Inside w t × (k ≡ repository (login z (span-text t w)))
+Means t Logout k = k ≡ repository logout
+Means t (Add w e r) k = (p : Path) × (q : Entry-path) × (z : Bounded-role) × Part-reads path t w p × Part-reads entry-path t e q × (z .role ≡ r) × (k ≡ repository (add p q z))
+Means t (Co e d) k = (q : Entry-path) × (p : Path) × Part-reads entry-path t e q × Part-reads path t d p × (k ≡ repository (co q p))
+Means t (Commit w) k = (q : Path) × Part-reads path t w q × (k ≡ repository (commit q))
+Means t (Up w) k = (q : Path) × Part-reads path t w q × (k ≡ repository (up q))
+Means t (Del e) k = (q : Entry-path) × Part-reads entry-path t e q × (k ≡ repository (del q))
 
 -- no form, or the line of a caller and a command with its meaning
 unfoldable pub line-with : Uid → Option Command → Option Line

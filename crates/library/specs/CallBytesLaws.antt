@@ -1,0 +1,103 @@
+-- What the calls are where the code answers: at each refusal before a command, and where a command or a listing was carried out.
+--
+-- In order: setup (unset-elsewhere, unset-wrong, set-done); before a command or a listing (short-call, unsound-call, sound-call); a command
+-- carried out on the tree (tree-called) and a line of the listing written (line-called).
+use mathlib.Core.Path.{_≡_, refl, sym, _∙_, ap}
+use mathlib.Core.List.{List, _++_}
+use mathlib.Core.Option.{none, some}
+use mathlib.Core.Bool.{true, false}
+use Prim.Native.Nat.{ℕ, _≤_, _<_}
+use native.Mathlib.Omega.{arith}
+use borrow.Author.Tests.{le-leb, lt-leb, eq-eqb, ne-eqb}
+use lib.ListN.{length, drop, getElem?}
+use Rattle.buffers.specs.Text.{Text}
+use Rattle.syntax.specs.Form.{is-some}
+use Rattle.setup.specs.Setup.{Setup, accepted, wrong-line, setup}
+use Rattle.tree.specs.declared.Cause.{Cause}
+use Rattle.tree.specs.declared.Cause.the-variants.{Missing, Unsound, ShortAnswer}
+use Rattle.tree.specs.Result.{Result, refused, done, _>>=_, _>>_, require, present, Outcome}
+use Rattle.tree.specs.ResultLaws.{present-of, present-none, done-bind, refused-bind, done-then, refused-then, require-true, require-false}
+use Rattle.tree.specs.Forest.{Place}
+use Rattle.tree.specs.Node.{Node}
+use Rattle.tree.specs.Encoding.{encode-tree}
+use Rattle.shell.specs.declared.Answer.{Answer}
+use Rattle.shell.specs.declared.Answer.the-variants.{Done, Refused, WrongLine}
+use Rattle.shell.specs.declared.Answer.the-variants
+use Rattle.shell.specs.Replies.{reply, after, answer-of, written}
+use Rattle.shell.specs.CommandBytes.{tree-after, Follows}
+use Rattle.store.specs.State.{Sessions, Store, State, state-of}
+use Rattle.store.specs.Initial.{initial-store}
+use Rattle.store.specs.StoreBytes.{store-width, header-bytes, encode, decode}
+use Rattle.machine.specs.Acting.{on-tree-steps}
+use Rattle.machine.specs.Runs.{least-room}
+use Rattle.machine.specs.RunsLaws.{least-room-is}
+use Rattle.listing.specs.Listing.{listing}
+use Rattle.calls.specs.Calls.{set-up, setup-call, called, encoded, on-state, listing-on, listing-result, listing-call}
+use Rattle.library.specs.CallBytes.{set-up-as, called-as}
+
+-- ---- setup
+
+module _ (b : List ℕ) (text : Text) where
+  -- a buffer of another length is refused by 18
+  pub unset-elsewhere : (length b ≡ 65536 → ⊥) → set-up-as (Refused Unsound) b ≡ setup-call b text
+  unfolding setup-call store-width
+  unset-elsewhere h = rw (ne-eqb (length b) 65536 h)
+
+  -- a wrong line by 17
+  pub unset-wrong : (n : ℕ) → length b ≡ 65536 → setup text ≡ wrong-line n → set-up-as (WrongLine n) b ≡ setup-call b text
+  unfolding setup-call store-width set-up
+  unset-wrong n h e = rw (eq-eqb (length b) 65536 h, e)
+
+  -- an accepted setup leaves the bytes of its initial state
+  pub set-done : (u : Setup) (b′ : List ℕ) → length b ≡ 65536 → setup text ≡ accepted u → b′ ≡ encode (state-of u (initial-store u))
+      → set-up-as Done b′ ≡ setup-call b text
+  unfolding setup-call store-width set-up
+  set-done u b′ h e q = rw (eq-eqb (length b) 65536 h, e, q)
+
+-- ---- before a command or a listing
+
+module _ (b a : List ℕ) where
+  -- what is refused leaves both buffers
+  pub refused-call : {r : Result (Outcome (List ℕ))} {k : Cause} → r ≡ refused k → called-as (Refused k) b a ≡ called b a r
+  unfolding called answer-of written reply after
+  refused-call e = rw e
+
+  module _ (act : State → Result (Outcome (List ℕ))) where
+    -- an answer buffer that is too short
+    pub short-call : length a < 4096 → on-state b (length a) act ≡ refused ShortAnswer
+    unfolding on-state
+    short-call l = rw (least-room-is, lt-leb 4096 (length a) l, require-false, refused-then)
+
+    -- bytes that are no state's
+    pub unsound-call : 4096 ≤ length a → decode b ≡ none → on-state b (length a) act ≡ refused Unsound
+    unfolding on-state
+    unsound-call l e = rw (least-room-is, le-leb 4096 (length a) l, require-true, done-then, e, present-none, refused-bind)
+
+    -- those of a state
+    pub sound-call : (s : State) → 4096 ≤ length a → decode b ≡ some s → on-state b (length a) act ≡ act s
+    unfolding on-state
+    sound-call s l e = rw (least-room-is, le-leb 4096 (length a) l, require-true, done-then, e, present-of, done-bind)
+
+-- ---- carried out
+
+module _ (u : Setup) (z : Sessions) (H b a : List ℕ) (heads : H ≡ header-bytes u z) where
+  -- a command that leaves the sessions and follows its steps on the tree
+  pub tree-called : (steps : Result (Outcome Store)) → ((o : Outcome Store) → steps ≡ done o → o .state .sessions ≡ z) → (r : Answer) (b′ a′ : List ℕ)
+      → Follows (on-tree-steps steps) b a r b′ a′ → called-as r (H ++ b′) a′ ≡ called (H ++ b) a (steps >>= λ o. done (encoded u o))
+  unfolding called reply after answer-of written on-tree-steps tree-after encoded encode _>>=_
+  tree-called (refused k) keeps r b′ a′ f = λ i. called-as (f .tells i) (H ++ f .tree i) (f .text i)
+  tree-called (done o) keeps r b′ a′ f =
+      let q : H ≡ header-bytes u (o .state .sessions) = heads ∙ ap (header-bytes u) (sym (keeps o refl)) in
+      λ i. called-as (f .tells i) (q i ++ f .tree i) (f .text i)
+
+module _ (b a : List ℕ) (n : ℕ) (s : State) where
+  -- a line of the listing in front of the answer buffer
+  pub line-called : (x : Text) (m : ℕ) (a′ : List ℕ) → getElem? (listing (s .store .tree)) n ≡ some x → m ≡ length x → a′ ≡ x ++ drop (length x) a
+      → called-as (the-variants.Text m) b a′ ≡ called b a (listing-on b n s)
+  unfolding called reply after answer-of written listing-on
+  line-called x m a′ e l q = rw (e, present-of, done-bind) (λ i. called-as (the-variants.Text (l i)) b (q i))
+
+  -- past the last there is none
+  pub no-line : getElem? (listing (s .store .tree)) n ≡ none → listing-on b n s ≡ refused Missing
+  unfolding listing-on
+  no-line e = rw (e, present-none, refused-bind)

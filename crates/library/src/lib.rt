@@ -1,0 +1,1 @@
+// The library calls on a lent store: setup, command lines and the listing.
