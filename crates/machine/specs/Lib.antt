@@ -1,6 +1,7 @@
 pub mod Machine
 pub mod StoreMachine
 pub mod AbstractMachine
+pub mod LoginLaws
 pub mod Embedding
 pub mod Runs
 pub mod RunsLaws

@@ -3,11 +3,12 @@ use mathlib.Core.Path.{_≡_, refl, sym, _∙_, ap}
 use mathlib.Core.List.{List, [], _∷_, _++_, append-assoc, append-nil}
 use mathlib.Core.Option.{Option, none, some}
 use mathlib.Core.Bool.{Bool, true, false, _&&_, _||_, Bool-set}
-use Prim.Native.Nat.{ℕ, _+_, _≤_, _%_}
+use Prim.Native.Nat.{ℕ, zero, suc, _+_, _≤_, _<_, _%_}
 use native.Mathlib.Omega.{arith}
+use native.Mathlib.Nat.{zero-add, suc-add}
 use lib.Dec.{eqb, leb, ltb}
-use lib.ListN.{length, getD, drop, replicate, length-append, length-replicate}
-use lib.Seq.{drop-at}
+use lib.ListN.{length, getD, set, drop, replicate, length-append, length-replicate, List·getD-append}
+use lib.Seq.{drop-at, getD-append-add, set-append-left}
 use borrow.Author.Tests.{ne-eqb, leb-true}
 use Rattle.buffers.specs.Cases.{and-both, contra}
 use Rattle.buffers.specs.Text.{every, lacks}
@@ -23,6 +24,7 @@ use Rattle.syntax.specs.Field.{bounded, bounded-by}
 use Rattle.syntax.specs.Form.{is-some}
 use Rattle.setup.specs.Setup.{Person, Grant, Setup, accounts, most-pairs, most-grants, person, is-person, is-slot, is-pair, is-grant, is-setup}
 use Rattle.setup.specs.SetupLaws.{apart}
+use Rattle.store.specs.HeaderLayout.{sessions-offset}
 use Rattle.store.specs.State.{Sessions}
 use Rattle.store.specs.StoreBytes.{header-width, slot-bytes, slot-of, session-byte, session-of, pair-bytes, pair-of, grant-bytes, grant-of, header-bytes, setup-of, sessions-of}
 
@@ -211,3 +213,49 @@ sessions-of-header u z B h e =
     let Q = pairs-part u ++ (grants-part u ++ (unused ++ B)) in
     rw (before u z B, drop-at (slots-part u) (sessions-part z ++ Q) 48 (length-slots u h), ← e)
     (all-from-bytes 1 any-session one-session length-session (λ s. session-of (getD s 0 0)) (λ a t. session-back a) z Q (every-session z))
+
+-- ---- one session of a header
+
+-- a byte stored behind the first part
+set-append-add : (S Q : List ℕ) (i v : ℕ) → set (S ++ Q) (length S + i) v ≡ S ++ set Q i v
+set-append-add [] Q i v = rw (zero-add i)
+set-append-add (s ∷ S) Q i v = rw (suc-add (length S) i) (ap (λ (l : List ℕ). s ∷ l) (set-append-add S Q i v))
+
+-- the sessions' bytes one by one
+session-in-part : (z : Sessions) (i : ℕ) → getD (sessions-part z) i 0 ≡ session-byte (getD z i none)
+unfolding sessions-part one-session all-bytes session-byte
+session-in-part [] i = refl
+session-in-part (a ∷ z) zero = refl
+session-in-part (a ∷ z) (suc i) = session-in-part z i
+
+set-in-part : (z : Sessions) (i : ℕ) (o : Option Bounded-role) → set (sessions-part z) i (session-byte o) ≡ sessions-part (set z i o)
+unfolding sessions-part one-session all-bytes
+set-in-part [] i o = refl
+set-in-part (a ∷ z) zero o = refl
+set-in-part (a ∷ z) (suc i) o = ap (λ (l : List ℕ). session-byte a ∷ l) (set-in-part z i o)
+
+module _ (u : Setup) (z : Sessions) (h : is-setup u ≡ true) (e : length z ≡ 16) (i : ℕ) (l : i < 16) where
+  -- the byte of an account's session
+  pub session-in-header : getD (header-bytes u z) (sessions-offset + i) 0 ≡ session-byte (getD z i none)
+  session-in-header =
+      let S = slots-part u in
+      let Z = sessions-part z in
+      let R = pairs-part u ++ (grants-part u ++ unused) in
+      let k : 48 + i ≡ length S + i = omega (arith, length-slots u h) in
+      rw (header-parts u z, k, getD-append-add S (Z ++ R) i 0, List·getD-append Z R 0 i (omega (arith, length-sessions z e))) (session-in-part z i)
+
+  -- stored there, a session's byte makes the header of the sessions with it
+  pub header-with-session : (o : Option Bounded-role) → set (header-bytes u z) (sessions-offset + i) (session-byte o) ≡ header-bytes u (set z i o)
+  header-with-session o =
+      let S = slots-part u in
+      let Z = sessions-part z in
+      let R = pairs-part u ++ (grants-part u ++ unused) in
+      let k : 48 + i ≡ length S + i = omega (arith, length-slots u h) in
+      rw (
+        header-parts u z,
+        k,
+        set-append-add S (Z ++ R) i (session-byte o),
+        set-append-left Z R i (session-byte o) (omega (arith, length-sessions z e)),
+        set-in-part z i o,
+        header-parts u (set z i o),
+      )

@@ -1,6 +1,7 @@
 pub mod HeaderLayout
 pub mod State
 pub mod Callers
+pub mod Logins
 pub mod StateLaws
 pub mod PersonLaws
 pub mod Initial

@@ -1,0 +1,109 @@
+-- What it is that bytes are a store's header, what the code reads and writes there, and what the two commands on it promise.
+use mathlib.Core.Path.{_≡_}
+use mathlib.Core.List.{List}
+use mathlib.Core.Option.{Option, none, some}
+use mathlib.Core.Bool.{Bool, true, _&&_}
+use Prim.Native.Nat.{ℕ, _+_, _*_}
+use lib.ListN.{length, getD, set}
+use Rattle.buffers.specs.Text.{Text, same-text}
+use Rattle.buffers.specs.Fields.{text-at}
+use Rattle.accounts.specs.declared.Caller.{Caller}
+use Rattle.accounts.specs.declared.Uid.{Uid}
+use Rattle.accounts.specs.declared.Role.{Role}
+use Rattle.accounts.specs.declared.Pair.{Pair}
+use Rattle.accounts.specs.declared.Session.{Session}
+use Rattle.accounts.specs.declared.Session.the-variants.{Nobody as No-session, As as Session-as}
+use Rattle.accounts.specs.Access.{same-uid}
+use Rattle.accounts.specs.Dominance.{Bounded-role, same-role}
+use Rattle.setup.specs.Setup.{Grant, Setup, is-setup}
+use Rattle.tree.specs.declared.Cause.the-variants.{UnknownCaller}
+use Rattle.tree.specs.Result.{Result, refused, done, _>>=_, Outcome}
+use Rattle.shell.specs.declared.Answer.{Answer}
+use Rattle.shell.specs.Replies.{reply, answer-of, written}
+use Rattle.store.specs.HeaderLayout.{pairs-offset, pair-width, grants-offset, grant-width, password-offset, password-width, spare-offset, spare-width}
+use Rattle.store.specs.State.{Sessions}
+use Rattle.store.specs.StoreBytes.{header-bytes}
+use Rattle.store.specs.Logins.{logged-in, logged-out}
+use Rattle.header.specs.declared.Known.{Known}
+use Rattle.header.specs.declared.Known.the-variants.{As, Nobody}
+
+-- as many bytes as a header has
+abbrev pub Wide-header : List ℕ → Type 0
+Wide-header b = length b ≡ spare-offset + spare-width
+
+-- the bytes of the header of a setup in range and sixteen sessions
+pub record Heads (b : List ℕ) (u : Setup) (z : Sessions) : Type 0 where
+  pub in-range : is-setup u ≡ true
+  pub sixteen : length z ≡ 16
+  pub bytes : b ≡ header-bytes u z
+
+-- the bytes of some header
+abbrev pub Headed : List ℕ → Type 0
+Headed b = (u : Setup) × (z : Sessions) × Heads b u z
+
+-- for whatever setup and sessions the bytes are of
+abbrev pub Whose : List ℕ → (Setup → Sessions → Type 0) → Type 0
+Whose b P = (u : Setup) (z : Sessions) → Heads b u z → P u z
+
+-- who an answer of the code says that calls
+unfoldable pub known : Known → Result Caller
+known (As c) = done c
+known Nobody = refused UnknownCaller
+
+-- the code's session that holds one role or none
+unfoldable pub session-held : Option Bounded-role → Session
+session-held none = No-session
+session-held (some z) = Session-as (z .role)
+
+-- a session without a role, or with one of 0 to 7
+abbrev pub Bounded-session : Session → Type 0
+Bounded-session s = (o : Option Bounded-role) × (s ≡ session-held o)
+
+-- the bytes before and after an account's session is replaced
+abbrev pub Session-put : List ℕ → Uid → Session → List ℕ → Type 0
+Session-put b uid session b′ = Whose b (λ u z. (o : Option Bounded-role) → session ≡ session-held o → b′ ≡ header-bytes u (set z (uid .0) o))
+
+-- where the pair and the grant of an index begin
+abbrev pub pair-start : ℕ → ℕ
+pair-start i = pairs-offset + 1 + pair-width * i
+
+abbrev pub grant-start : ℕ → ℕ
+grant-start i = grants-offset + 1 + grant-width * i
+
+-- the pair of an index
+abbrev pub pair-at : List ℕ → ℕ → Pair
+pair-at b i = record { senior = record { 0 = getD b (pair-start i) 0 }; junior = record { 0 = getD b (pair-start i + 1) 0 } }
+
+-- the grant of an index
+abbrev pub grant-in : List ℕ → ℕ → Grant
+grant-in b i = record {
+  uid = record { 0 = getD b (grant-start i) 0 };
+  role = record { 0 = getD b (grant-start i + 1) 0 };
+  password = text-at (grant-start i + password-offset) password-width b;
+}
+
+-- whether a grant has just these three
+unfoldable pub grant-has : Grant → Uid → Role → Text → Bool
+grant-has g uid role password = same-uid (g .uid) uid && (same-role (g .role) role && same-text (g .password) password)
+
+-- steps that have no text
+abbrev pub silently : {S : Type 0} → Result S → Result (Outcome S)
+silently steps = steps >>= λ s. done (record { text = none; state = s })
+
+-- the header's bytes after what the steps come to: a refusal leaves them
+unfoldable pub header-after : Setup → List ℕ → Result Sessions → List ℕ
+header-after u b (refused why) = b
+header-after u b (done z) = header-bytes u z
+
+-- the answer r and the header's bytes b′ are those of the steps, from b; an answer buffer stays as it is, whatever it holds
+pub record Header-follows (u : Setup) (steps : Result Sessions) (b : List ℕ) (r : Answer) (b′ : List ℕ) : Type 0 where
+  pub tells : r ≡ answer-of (reply (silently steps))
+  pub header : b′ ≡ header-after u b steps
+  pub text : (a : List ℕ) → a ≡ written (reply (silently steps)) a
+
+-- `login` and `logout`, for whatever setup and sessions the bytes are of: the answer and the bytes afterwards
+abbrev pub Logs-in : List ℕ → Uid → Role → Text → Answer → List ℕ → Type 0
+Logs-in b uid role password r b′ = Whose b (λ u z. (s : Bounded-role) → s .role ≡ role → Header-follows u (logged-in u z uid s password) b r b′)
+
+abbrev pub Logs-out : List ℕ → Uid → Answer → List ℕ → Type 0
+Logs-out b uid r b′ = Whose b (λ u z. Header-follows u (logged-out z uid) b r b′)

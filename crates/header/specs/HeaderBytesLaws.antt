@@ -1,0 +1,163 @@
+-- What stands in a header's bytes, and where.
+--
+-- In order: the fields of a value that stands among other bytes; a table by index; the header whole; an account's slot; an
+-- account's session; the role pairs; the grants.
+use mathlib.Core.Path.{_≡_, refl, sym, _∙_, ap}
+use mathlib.Core.List.{List, [], append-nil}
+use mathlib.Core.Option.{Option, none, some}
+use Prim.Native.Nat.{ℕ, suc, _+_, _*_, _≤_, _<_}
+use native.Mathlib.Omega.{arith}
+use lib.ListN.{length, getD, set, take, drop, List·getD-eq-default}
+use lib.Seq.{getD-take, getD-drop, drop-drop}
+use borrow.Author.Tests.{eq-eqb, ne-eqb}
+use Rattle.buffers.specs.Fields.{number-at, unpadded, text-at, table-from}
+use Rattle.buffers.specs.FieldsLaws.{part-of-take}
+use Rattle.buffers.specs.TableLaws.{length-all-from, all-from-at}
+use Rattle.accounts.specs.declared.Uid.{Uid}
+use Rattle.accounts.specs.declared.Pair.{Pair}
+use Rattle.accounts.specs.Dominance.{Bounded-role}
+use Rattle.setup.specs.Setup.{Person, Grant, Setup, accounts, person}
+use Rattle.setup.specs.SetupLaws.{apart}
+use Rattle.store.specs.HeaderLayout.{slot-width, sessions-offset, pairs-offset, pair-width, grants-offset, grant-width, password-offset, password-width}
+use Rattle.store.specs.State.{Sessions}
+use Rattle.store.specs.StoreBytes.{header-width, slot-of, session-byte, pair-of, grant-of, header-bytes, setup-of}
+use Rattle.store.specs.HeaderLaws.{length-header, setup-of-header, session-in-header, header-with-session}
+use Rattle.header.specs.HeaderBytes.{Wide-header, Heads, Headed, pair-start, grant-start, pair-at, grant-in}
+
+-- ---- the value of n bytes from o on
+
+module _ (b : List ℕ) (o n : ℕ) where
+  abbrev value : List ℕ
+  value = take n (drop o b)
+
+  -- its byte, number and text at k stand at o + k
+  byte-there : (k p : ℕ) → k < n → o + k ≡ p → getD value k 0 ≡ getD b p 0
+  byte-there k p h e = getD-take n (drop o b) k 0 h ∙ getD-drop o b k 0 ∙ ap (λ (j : ℕ). getD b j 0) e
+
+  number-there : (k p : ℕ) → k + 1 < n → o + k ≡ p → number-at k value ≡ number-at p b
+  unfolding number-at
+  number-there k p h e =
+      let low = byte-there k p (omega arith) e in
+      let high = byte-there (suc k) (suc p) (omega arith) (omega arith) in
+      omega arith
+
+  text-there : (k w : ℕ) → k + w ≤ n → text-at k w value ≡ text-at (o + k) w b
+  unfolding text-at
+  text-there k w h = ap unpadded (part-of-take k w n (drop o b) h ∙ ap (take w) (drop-drop k o b))
+
+-- ---- a table from o on
+
+module _ {A : Type 0} (width : ℕ) (from : List ℕ → A) (b : List ℕ) (o : ℕ) where
+  abbrev table : List A
+  table = table-from width from (drop o b)
+
+  -- its first byte says how many values it has
+  table-count : getD b o 0 ≡ length table
+  unfolding table-from
+  table-count =
+      let q : o + 0 ≡ o = omega arith in
+      sym (length-all-from width from (getD (drop o b) 0 0) (drop 1 (drop o b)) ∙ getD-drop o b 0 0 ∙ ap (λ (j : ℕ). getD b j 0) q)
+
+  -- which stand behind it one after another
+  table-value : (i : ℕ) (d : A) → i < length table → getD table i d ≡ from (take width (drop (o + 1 + width * i) b))
+  unfolding table-from
+  table-value i d h =
+      let n = getD (drop o b) 0 0 in
+      all-from-at width from n i (drop 1 (drop o b)) d (omega (arith, length-all-from width from n (drop 1 (drop o b))))
+      ∙ ap (λ (l : List ℕ). from (take width l)) (ap (drop (width * i)) (drop-drop 1 o b) ∙ drop-drop (width * i) (o + 1) b)
+
+-- ---- a header
+
+module _ {b : List ℕ} {u : Setup} {z : Sessions} (h : Heads b u z) where
+  -- it has its width
+  heads-wide : Wide-header b
+  unfolding header-width
+  heads-wide = ap length (h .bytes) ∙ length-header u z (h .in-range) (h .sixteen)
+
+  -- its setup is read from it
+  setup-read : u ≡ setup-of b
+  setup-read =
+      sym (setup-of-header u z [] (h .in-range) (h .sixteen)) ∙ ap setup-of (append-nil (header-bytes u z) ∙ sym (h .bytes))
+
+  -- ---- the slot of an account
+
+  slot-read : (v : Uid) → v .0 < 16 → person u v ≡ slot-of (take slot-width (drop (slot-width * v .0) b))
+  unfolding person setup-of accounts
+  slot-read v l = ap (λ (s : Setup). getD (s .persons) (v .0) none) setup-read ∙ all-from-at 3 slot-of 16 (v .0) b none l
+
+  first-of-slot : (v : Uid) → getD (take 3 (drop (3 * v .0) b)) 0 0 ≡ getD b (3 * v .0) 0
+  first-of-slot v = byte-there b (3 * v .0) 3 0 (3 * v .0) (omega arith) (omega arith)
+
+  -- 0 is no person's
+  pub empty-slot : (v : Uid) → v .0 < 16 → getD b (slot-width * v .0) 0 ≡ 0 → person u v ≡ none
+  unfolding slot-of
+  empty-slot v l e = slot-read v l ∙ rw (eq-eqb (getD (take 3 (drop (3 * v .0) b)) 0 0) 0 (first-of-slot v ∙ e))
+
+  -- any other is a person's primary group, before the further ones
+  pub filled-slot : (v : Uid) → v .0 < 16 → (getD b (slot-width * v .0) 0 ≡ 0 → ⊥)
+      → person u v ≡ some (record { primary = record { 0 = getD b (slot-width * v .0) 0 }; further = record { 0 = number-at (slot-width * v .0 + 1) b } })
+  unfolding slot-of
+  filled-slot v l e =
+      let f = first-of-slot v in
+      let g = number-there b (3 * v .0) 3 1 (3 * v .0 + 1) (omega arith) (omega arith) in
+      slot-read v l
+      ∙ rw (ne-eqb (getD (take 3 (drop (3 * v .0) b)) 0 0) 0 (λ q. e (sym f ∙ q)))
+      (λ j. some (record { primary = record { 0 = f j }; further = record { 0 = g j } }))
+
+  -- there are no slots from 16 on
+  pub no-slots-beyond : (v : Uid) → 16 ≤ v .0 → person u v ≡ none
+  unfolding person
+  no-slots-beyond v l = List·getD-eq-default (u .persons) none (omega (arith, apart u (h .in-range) .count))
+
+  -- ---- the session of an account
+
+  pub session-stands : (v : Uid) → v .0 < 16 → getD b (sessions-offset + v .0) 0 ≡ session-byte (getD z (v .0) none)
+  session-stands v l = rw (h .bytes) (session-in-header u z (h .in-range) (h .sixteen) (v .0) l)
+
+  pub session-stored : (v : Uid) → v .0 < 16 → (o : Option Bounded-role) → set b (sessions-offset + v .0) (session-byte o) ≡ header-bytes u (set z (v .0) o)
+  session-stored v l o = rw (h .bytes) (header-with-session u z (h .in-range) (h .sixteen) (v .0) l o)
+
+  -- ---- the role pairs
+
+  pairs-read : u .pairs ≡ table pair-width pair-of b pairs-offset
+  unfolding setup-of
+  pairs-read = ap (λ (s : Setup). s .pairs) setup-read
+
+  pub pairs-counted : getD b pairs-offset 0 ≡ length (u .pairs)
+  pairs-counted = table-count pair-width pair-of b pairs-offset ∙ ap length (sym pairs-read)
+
+  pub pair-stands : (i : ℕ) (d : Pair) → i < length (u .pairs) → getD (u .pairs) i d ≡ pair-at b i
+  unfolding pair-of
+  pair-stands i d l =
+      let o = pair-start i in
+      ap (λ (ps : List Pair). getD ps i d) pairs-read
+      ∙ table-value pair-width pair-of b pairs-offset i d (omega (arith, ap length pairs-read))
+      ∙ (λ j. record {
+        senior = record { 0 = byte-there b o 2 0 o (omega arith) (omega arith) j };
+        junior = record { 0 = byte-there b o 2 1 (o + 1) (omega arith) refl j };
+      })
+
+  -- ---- the grants
+
+  grants-read : u .grants ≡ table grant-width grant-of b grants-offset
+  unfolding setup-of
+  grants-read = ap (λ (s : Setup). s .grants) setup-read
+
+  pub grants-counted : getD b grants-offset 0 ≡ length (u .grants)
+  grants-counted = table-count grant-width grant-of b grants-offset ∙ ap length (sym grants-read)
+
+  pub grant-stands : (i : ℕ) (d : Grant) → i < length (u .grants) → getD (u .grants) i d ≡ grant-in b i
+  unfolding grant-of
+  grant-stands i d l =
+      let o = grant-start i in
+      ap (λ (gs : List Grant). getD gs i d) grants-read
+      ∙ table-value grant-width grant-of b grants-offset i d (omega (arith, ap length grants-read))
+      ∙ (λ j. record {
+        uid = record { 0 = byte-there b o 10 0 o (omega arith) (omega arith) j };
+        role = record { 0 = byte-there b o 10 1 (o + 1) (omega arith) refl j };
+        password = text-there b o 10 2 8 (omega arith) j;
+      })
+
+-- every header has its width
+pub headed-wide : {b : List ℕ} → Headed b → Wide-header b
+headed-wide h = heads-wide (h .2)

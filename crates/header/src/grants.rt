@@ -1,0 +1,47 @@
+// Whether a login is granted.
+ghost use mathlib.Core.Path.{_≡_};
+ghost use Prim.Native.Nat.{_<_};
+ghost use Rattle.accounts.specs.Dominance.{Bounded-role};
+ghost use Rattle.store.specs.Callers.{granted};
+ghost use Rattle.header.specs.HeaderBytes.{Wide-header, Headed, Whose, grant-in, grant-has};
+use accounts::Role;
+use accounts::Uid;
+use buffers::same;
+use buffers::text;
+use store::GRANT;
+use store::GRANTS;
+use store::PASSWORD;
+use store::PASSWORD_WIDTH;
+
+// Whether the grant at an index has just these three. The numbers are compared first, and the password without the zeros behind it.
+fn grant_has(header: &[u8], i: usize, uid: Uid, role: Role, password: &[u8]) -> bool
+    requires { ⌜ Wide-header (now header) ⌝ }
+    requires { ⌜ i < 32 ⌝ }
+    ensures { λ r. ⌜ r ≡ grant-has (grant-in (now (header .entry)) i) uid role (now (password .entry)) ⌝ }
+{
+    let at = GRANTS + 1 + GRANT * i;
+    if header[at] != uid.0 {
+        return false;
+    }
+    if header[at + 1] != role.0 {
+        return false;
+    }
+    same(text(header, at + PASSWORD, PASSWORD_WIDTH), password)
+}
+
+// Whether a grant of the setup has just these three.
+pub fn is_granted(header: &[u8], uid: Uid, role: Role, password: &[u8]) -> bool
+    requires { ⌜ Headed (now header) ⌝ }
+    requires { ⌜ role .0 < 8 ⌝ }
+    ensures { λ r. ⌜ Whose (now (header .entry)) (λ u z. (s : Bounded-role) → s .role ≡ role → r ≡ granted (u .grants) uid s (now (password .entry))) ⌝ }
+{
+    let n = header[GRANTS] as usize;
+    let mut i: usize = 0;
+    while i < n {
+        if grant_has(header, i, uid, role, password) {
+            return true;
+        }
+        i += 1;
+    }
+    false
+}
