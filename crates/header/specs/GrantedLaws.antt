@@ -1,5 +1,5 @@
 -- Whether a login is granted, by a header's bytes: one grant compared field by field, and the search through all of them.
-use mathlib.Core.Path.{_≡_, sym, _∙_}
+use mathlib.Core.Path.{_≡_, ap, _∙_}
 use mathlib.Core.List.{List}
 use mathlib.Core.Bool.{Bool, true, false, _||_}
 use Prim.Native.Nat.{ℕ, suc, _+_, _≤_, _<_}
@@ -42,21 +42,29 @@ module _ (g : Grant) (uid : Uid) (role : Role) (password : Text) where
 pub few-granted : {b : List ℕ} → Headed b → getD b grants-offset 0 ≤ 32
 few-granted h = omega (arith, grants-counted (h .2), apart (h .0) (h .2 .in-range) .few-grants)
 
-module _ {b : List ℕ} {u : Setup} {z : Sessions} (h : Heads b u z) (uid : Uid) (s : Bounded-role) (password : Text) where
+-- s is the bounded role of the number that the code has
+module _ {b : List ℕ} {u : Setup} {z : Sessions} (h : Heads b u z) (uid : Uid) (role : Role) (password : Text) (s : Bounded-role) (e : s .role ≡ role) where
   -- whether one of the grants from an index on has just these three
   abbrev left : ℕ → Bool
   left i = granted (drop i (u .grants)) uid s password
 
-  -- the grant at the index has them, or one behind it
-  one-of : (i : ℕ) → i < length (u .grants) → left i ≡ (grant-has (grant-in b i) uid (s .role) password || left (suc i))
+  -- whether the grant at an index has
+  abbrev here : ℕ → Bool
+  here i = grant-has (grant-in b i) uid role password
+
+  -- the grant at the index, or one behind it
+  one-of : (i : ℕ) → i < length (u .grants) → left i ≡ (here i || left (suc i))
   unfolding granted grant-has
-  one-of i l = rw (drop-cons (u .grants) i (grant-in b i) l, grant-stands h i (grant-in b i) l)
+  one-of i l =
+      let g = grant-in b i in
+      let q : left i ≡ (grant-has g uid (s .role) password || left (suc i)) = rw (drop-cons (u .grants) i g l, grant-stands h i g l) in
+      q ∙ ap (λ (r : Role). grant-has g uid r password || left (suc i)) e
 
-  pub granted-here : (i : ℕ) → i < length (u .grants) → grant-has (grant-in b i) uid (s .role) password ≡ true → true ≡ left i
-  granted-here i l e = rw (one-of i l, e)
+  pub granted-here : (i : ℕ) (r : Bool) → i < length (u .grants) → r ≡ here i → r ≡ true → true ≡ left i
+  granted-here i r l f q = rw (one-of i l, ← f, q)
 
-  pub not-granted-here : (i : ℕ) → i < length (u .grants) → grant-has (grant-in b i) uid (s .role) password ≡ false → left (i + 1) ≡ left i
-  not-granted-here i l e = rw (one-of i l, e, add-one i)
+  pub not-granted-here : (i : ℕ) (r : Bool) → i < length (u .grants) → r ≡ here i → r ≡ false → left (i + 1) ≡ left i
+  not-granted-here i r l f q = rw (one-of i l, ← f, q, add-one i)
 
   pub not-granted : (i : ℕ) → length (u .grants) ≤ i → false ≡ left i
   unfolding granted

@@ -13,7 +13,17 @@ use store::GRANTS;
 use store::PASSWORD;
 use store::PASSWORD_WIDTH;
 
-// Whether the grant at an index has just these three. The numbers are compared first, and the password without the zeros behind it.
+// The password of the grant at an index, without the zeros that fill it up.
+fn password_at(header: &[u8], i: usize) -> &[u8]
+    requires { ⌜ Wide-header (now header) ⌝ }
+    requires { ⌜ i < 32 ⌝ }
+    ensures { λ r. ⌜ now r ≡ grant-in (now (header .entry)) i .password ⌝ }
+{
+    let at = GRANTS + 1 + GRANT * i + PASSWORD;
+    text(header, at, PASSWORD_WIDTH)
+}
+
+// Whether the grant at an index has just these three; the numbers are compared first.
 fn grant_has(header: &[u8], i: usize, uid: Uid, role: Role, password: &[u8]) -> bool
     requires { ⌜ Wide-header (now header) ⌝ }
     requires { ⌜ i < 32 ⌝ }
@@ -26,7 +36,7 @@ fn grant_has(header: &[u8], i: usize, uid: Uid, role: Role, password: &[u8]) -> 
     if header[at + 1] != role.0 {
         return false;
     }
-    same(text(header, at + PASSWORD, PASSWORD_WIDTH), password)
+    same(password_at(header, i), password)
 }
 
 // Whether a grant of the setup has just these three.

@@ -1,15 +1,13 @@
 -- `login` and `logout` of a machine: they are what comes to its sessions, and leave all else.
-use mathlib.Core.Path.{_≡_, refl}
+use mathlib.Core.Path.{_≡_}
 use mathlib.Core.Option.{none, some}
-use mathlib.Core.Bool.{true, false}
 use lib.ListN.{set}
-use Rattle.buffers.specs.Cases.{case}
 use Rattle.buffers.specs.Text.{Text}
 use Rattle.accounts.specs.declared.Caller.{Caller}
 use Rattle.accounts.specs.Dominance.{Bounded-role}
 use Rattle.setup.specs.Setup.{Setup}
 use Rattle.tree.specs.declared.Cause.the-variants.{NoGrant}
-use Rattle.tree.specs.Result.{Result, done, _>>=_, _>>_, require, Outcome}
+use Rattle.tree.specs.Result.{Result, done, _>>=_, require, Outcome}
 use Rattle.tree.specs.ResultLaws.{then-bind, done-bind}
 use Rattle.store.specs.State.{Sessions}
 use Rattle.store.specs.Callers.{granted}
@@ -18,16 +16,16 @@ use Rattle.machine.specs.Machine.{Machine, run-login, run-logout}
 
 module _ {S A : Type 0} (M : Machine S A) (setup : Setup) (s : S) (c : Caller) where
   -- done without a text, with other sessions
-  abbrev with : Sessions → Result (Outcome S)
-  with sessions = done (record { text = none; state = M .with-sessions sessions s })
+  abbrev continued-with : Sessions → Result (Outcome S)
+  continued-with sessions = done (record { text = none; state = M .with-sessions sessions s })
 
   pub run-login-is : (z : Bounded-role) (password : Text)
-      → run-login M setup s c z password ≡ (logged-in setup (M .sessions s) (c .account .uid) z password >>= with)
+      → run-login M setup s c z password ≡ (logged-in setup (M .sessions s) (c .account .uid) z password >>= continued-with)
   unfolding run-login logged-in
   run-login-is z password =
       let after = set (M .sessions s) (c .account .uid .0) (some z) in
-      rw (then-bind (require (granted (setup .grants) (c .account .uid) z password) NoGrant) (done after) with, done-bind after with)
+      rw (then-bind (require (granted (setup .grants) (c .account .uid) z password) NoGrant) (done after) continued-with, done-bind after continued-with)
 
-  pub run-logout-is : run-logout M setup s c ≡ (logged-out (M .sessions s) (c .account .uid) >>= with)
+  pub run-logout-is : run-logout M setup s c ≡ (logged-out (M .sessions s) (c .account .uid) >>= continued-with)
   unfolding run-logout logged-out
-  run-logout-is = rw (done-bind (set (M .sessions s) (c .account .uid .0) none) with)
+  run-logout-is = rw (done-bind (set (M .sessions s) (c .account .uid .0) none) continued-with)

@@ -36,11 +36,8 @@ returns-2 c =
     let a = c .before .before .before .before .before .before .before .before .args in
     role-differs (grant-in (now (a .header)) (a .i)) (a .uid) (a .role) (now (a .password)) (c .before .before .before .if1 .left) (c .if2 .taken)
 
-add-text : tie.Need-add-text
-add-text c = search needs
-
-text-requires : tie.Need-text-requires
-text-requires c κs = search needs
+password-at-requires : tie.Need-password-at-requires
+password-at-requires c κs = search needs
 
 same-requires : tie.Need-same-requires
 same-requires c κs = search needs
@@ -49,7 +46,7 @@ returns-3 : tie.Need-returns-3
 returns-3 c =
     let a = c .before .before .before .before .before .before .before .before .before .before .args in
     let g = grant-in (now (a .header)) (a .i) in
-    c .same .ensures ∙ ap (λ (t : Text). same-text t (now (a .password))) (c .before .text .ensures)
+    c .same .ensures ∙ ap (λ (t : Text). same-text t (now (a .password))) (c .before .password-at .ensures)
     ∙ password-decides g (a .uid) (a .role) (now (a .password)) (c .before .before .before .before .before .if1 .left) (c .before .before .if2 .left)
 
 pub grant-has-spec : {M : Type 1} → statement M
@@ -64,7 +61,6 @@ grant-has-spec =
     add-if2
     shared-slice-read-if2
     returns-2
-    add-text
-    text-requires
+    password-at-requires
     same-requires
     returns-3)

@@ -1,17 +1,16 @@
 -- `header::grants::is_granted` meets its contract: whether one of the grants that are left has the three is whether one of all has.
-use mathlib.Core.Path.{_≡_, refl, sym, _∙_}
+use mathlib.Core.Path.{_≡_, refl, _∙_}
 use mathlib.Core.List.{List}
-use mathlib.Core.Bool.{true, false}
-use Prim.Native.Nat.{ℕ, _≤_, _<_, _-_}
+use Prim.Native.Nat.{ℕ, _≤_, _-_}
 use native.Mathlib.Omega.{arith}
-use lib.ListN.{length, getD, drop}
+use lib.ListN.{getD, drop}
 use denote.Ref.{now}
 use Rattle.accounts.specs.declared.Uid.{Uid}
 use Rattle.accounts.specs.declared.Role.{Role}
 use Rattle.accounts.specs.Dominance.{Bounded-role}
 use Rattle.store.specs.HeaderLayout.{grants-offset}
 use Rattle.store.specs.Callers.{granted}
-use Rattle.header.specs.HeaderBytes.{Whose, grant-in, grant-has}
+use Rattle.header.specs.HeaderBytes.{Whose}
 use Rattle.header.specs.HeaderBytesLaws.{headed-wide, grants-counted}
 use Rattle.header.specs.GrantedLaws.{few-granted, granted-here, not-granted-here, not-granted}
 use borrow.Author.Needs.{needs}
@@ -43,11 +42,11 @@ grant-has-requires c κs = let p = c .before .before .before .before .before .pr
 
 returns : tie.Need-returns Inv-loop μ-loop
 returns c u z h s e =
+    let g = c .before .grant-has in
     let l = c .before .before .before .loop in
     let a = c .before .before .before .before .before .before .before .args in
-    let i : l .i < length (u .grants) = omega (arith, grants-counted h) in
-    let here : grant-has (grant-in (now (a .header)) (l .i)) (a .uid) (s .role) (now (a .password)) ≡ true = rw e (sym (c .before .grant-has .ensures) ∙ c .if1 .taken) in
-    granted-here h (a .uid) s (now (a .password)) (l .i) i here ∙ l .inv .goes u z h s e
+    granted-here h (a .uid) (a .role) (now (a .password)) s e (l .i) (g .result) (omega (arith, grants-counted h)) (g .ensures) (c .if1 .taken)
+    ∙ l .inv .goes u z h s e
 
 add-i : tie.Need-add-i Inv-loop μ-loop
 add-i c = omega (arith, few-granted (c .before .before .before .before .before .before .before .pre .0))
@@ -57,21 +56,21 @@ loop-less c = omega arith
 
 loop-again : tie.Need-loop-again Inv-loop μ-loop
 loop-again c =
+    let g = c .before .grant-has in
     let l = c .before .before .before .loop in
     let a = c .before .before .before .before .before .before .before .args in
     record {
       le = omega arith;
       goes = λ u z h s e.
-          let i : l .i < length (u .grants) = omega (arith, grants-counted h) in
-          let here : grant-has (grant-in (now (a .header)) (l .i)) (a .uid) (s .role) (now (a .password)) ≡ false = rw e (sym (c .before .grant-has .ensures) ∙ c .if1 .left) in
-          not-granted-here h (a .uid) s (now (a .password)) (l .i) i here ∙ l .inv .goes u z h s e;
+          not-granted-here h (a .uid) (a .role) (now (a .password)) s e (l .i) (g .result) (omega (arith, grants-counted h)) (g .ensures) (c .if1 .left)
+          ∙ l .inv .goes u z h s e;
     }
 
 returns-2 : tie.Need-returns-2 Inv-loop μ-loop
 returns-2 c u z h s e =
     let l = c .before .loop in
     let a = c .before .before .before .before .before .args in
-    not-granted h (a .uid) s (now (a .password)) (l .i) (omega (arith, grants-counted h)) ∙ l .inv .goes u z h s e
+    not-granted h (a .uid) (a .role) (now (a .password)) s e (l .i) (omega (arith, grants-counted h)) ∙ l .inv .goes u z h s e
 
 pub is-granted-spec : {M : Type 1} → statement M
 is-granted-spec =
