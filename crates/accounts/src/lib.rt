@@ -3,7 +3,7 @@ ghost use mathlib.Core.Path.{_≡_};
 ghost use mathlib.Core.Bool.{true, false};
 ghost use Prim.Native.Nat.{_<_, _^_};
 ghost use Rattle.accounts.specs.Groups.{member, no-groups, with-group};
-ghost use Rattle.accounts.specs.Access.{grants, may};
+ghost use Rattle.accounts.specs.Access.{is-root, same-uid, grants, may};
 ghost use Rattle.accounts.specs.Closure.{has-role, own-rows, grown-row, grown-rows, row-dominates, row-account, session-dominates};
 
 // An account: root is 0, persons are 1 to 15, the service account of role r is 16 + r.
@@ -122,6 +122,22 @@ impl Groups {
             return false;
         }
         self.0 / bit(g) % 2 == 1
+    }
+}
+
+impl Uid {
+    // Whether it is root's.
+    pub fn is_root(self) -> bool
+        ensures { λ r. ⌜ r ≡ is-root self ⌝ }
+    {
+        self.0 == 0
+    }
+
+    // Whether it is the same account's as another.
+    pub fn is(self, other: Uid) -> bool
+        ensures { λ r. ⌜ r ≡ same-uid self other ⌝ }
+    {
+        self.0 == other.0
     }
 }
 

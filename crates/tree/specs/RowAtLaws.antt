@@ -25,7 +25,7 @@ use Rattle.syntax.specs.Path.{depth}
 use Rattle.tree.specs.declared.Kind.the-variants.{File, Directory}
 use Rattle.tree.specs.declared.Child.{Child}
 use Rattle.tree.specs.declared.Child.the-variants.{Missing}
-use Rattle.tree.specs.Layout.{row-width, row-start, kind-offset, name-width}
+use Rattle.tree.specs.Layout.{row-width, row-start, kind-offset, name-width, content-width}
 use Rattle.tree.specs.Forest.{Place}
 use Rattle.tree.specs.Node.{Node}
 use Rattle.tree.specs.Rows.{Row, rows}
@@ -87,6 +87,13 @@ unfolding row-at read-row text-at
 row-name-fits b i =
     let l = drop 8 (row-bytes-at b i) in
     omega (arith, unpadded-fits (take 8 l), length-take 8 l)
+
+-- nor has a content
+pub row-content-fits : (b : List ℕ) (i : ℕ) → length (row-at b i .here .content) ≤ content-width
+unfolding row-at read-row text-at
+row-content-fits b i =
+    let l = drop 72 (row-bytes-at b i) in
+    omega (arith, unpadded-fits (take 80 l), length-take 80 l)
 
 -- ---- all rows
 

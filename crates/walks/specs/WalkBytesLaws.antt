@@ -2,7 +2,7 @@
 --
 -- In order:
 --   over the rows of a tree: step-of-tree to parent-walk-of-tree;
---   from the code's answer: walk-to and walk-not, parent-walk-to and parent-walk-not.
+--   from the code's answer: came-to and came-not of any walk, walk-to and walk-not, parent-walk-to and parent-walk-not.
 use mathlib.Core.Path.{_≡_, refl, sym, _∙_, ap}
 use mathlib.Core.List.{List, [], _∷_}
 use mathlib.Core.Option.{Option, none, some, Option·map}
@@ -139,7 +139,7 @@ refused-before (done d) s k e = not-done (sym e)
 
 module _ {b : List ℕ} {t : Place Node} (tree : Encodes b t) (w : Result (Place Node)) (p : Path) {r : Walked} (same : outcome r ≡ (w >>= λ d. done (spot-of t p))) where
   -- a walk in the tree that leads to the place at p
-  came-to : ((d : Place Node) → w ≡ done d → place-at t p ≡ some d) → {row above : ℕ} → r ≡ To row above → Came b t p w row above
+  pub came-to : ((d : Place Node) → w ≡ done d → place-at t p ≡ some d) → {row above : ℕ} → r ≡ To row above → Came b t p w row above
   unfolding spot-of
   came-to leads {row} {above} e =
       let i = bind-done w (λ d. done (spot-of t p)) (sym same ∙ ap outcome e ∙ outcome-at row above) in
@@ -155,7 +155,7 @@ module _ {b : List ℕ} {t : Place Node} (tree : Encodes b t) (w : Result (Place
       }
 
   -- one that is refused
-  came-not : {k : Cause} → r ≡ Refused k → w ≡ refused k
+  pub came-not : {k : Cause} → r ≡ Refused k → w ≡ refused k
   came-not {k} e = refused-before w (spot-of t p) k (sym same ∙ ap outcome e ∙ outcome-refused k)
 
 module _ {b : List ℕ} {t : Place Node} (tree : Encodes b t) (a : Account) (s : Text) {p : Path} (reads : path s ≡ some p) where

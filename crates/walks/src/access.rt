@@ -1,6 +1,6 @@
 // What an account may do at a row.
 ghost use mathlib.Core.Path.{_≡_};
-ghost use Rattle.tree.specs.Node.{allows};
+ghost use Rattle.tree.specs.Node.{allows, owns};
 ghost use Rattle.tree.specs.Walk.{by-modes};
 ghost use Rattle.tree.specs.RowAt.{row-at};
 ghost use Rattle.tree.specs.TreeBytes.{Has-row};
@@ -35,4 +35,16 @@ pub fn readable_at(tree: &[u8], i: usize, account: Account) -> bool
         Kind::File => true,
         Kind::Directory => may_at(tree, i, account, Right::X),
     }
+}
+
+// Whether the account is the owner or root.
+pub fn owns_at(tree: &[u8], i: usize, account: Account) -> bool
+    requires { ⌜ Has-row (now tree) i ⌝ }
+    ensures { λ r. ⌜ r ≡ owns account (row-at (now (tree .entry)) i .here) ⌝ }
+{
+    let uid = account.uid;
+    if uid.is_root() {
+        return true;
+    }
+    uid.is(owner_at(tree, i))
 }

@@ -4,6 +4,7 @@ mod along;
 mod below;
 
 pub use access::may_at;
+pub use access::owns_at;
 pub use access::readable_at;
 pub use along::parent_walk;
 pub use along::walk;
