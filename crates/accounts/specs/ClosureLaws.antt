@@ -187,7 +187,7 @@ fall-more (q ∷ ps) p h e =
     rw (b .0) (fall-more ps p (b .1) e)
 
 -- tests that pass together are one
-one-test : (a b : Bool) → (a ≡ true → b ≡ true) → (b ≡ true → a ≡ true) → a ≡ b
+pub one-test : (a b : Bool) → (a ≡ true → b ≡ true) → (b ≡ true → a ≡ true) → a ≡ b
 one-test true b f g = sym (f refl)
 one-test false b f g = case b (λ t. g t ∙ sym t) sym
 

@@ -11,6 +11,7 @@ pub mod InitialRowsLaws
 pub mod StoreBytes
 pub mod HeaderLaws
 pub mod StoreBytesLaws
+pub mod DecodeLaws
 pub mod SoundStore
 pub mod SoundStoreLaws
 pub mod Compute

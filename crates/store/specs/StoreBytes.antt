@@ -12,7 +12,7 @@
 -- `decode` answers the state whose encoding the bytes are, if it is well-formed; it is the only one (`encode-decode`).
 use mathlib.Core.List.{List, [], _∷_, _++_}
 use mathlib.Core.Option.{Option, none, some}
-use mathlib.Core.Bool.{_&&_, cond}
+use mathlib.Core.Bool.{Bool, _&&_, cond}
 use Prim.Native.Nat.{ℕ, zero, suc}
 use lib.Dec.{eqb}
 use lib.ListN.{getD, drop, replicate}
@@ -22,7 +22,7 @@ use Rattle.accounts.specs.declared.Pair.{Pair}
 use Rattle.accounts.specs.Dominance.{Bounded-role}
 use Rattle.syntax.specs.Form.{_>>=_, _>>_, check}
 use Rattle.syntax.specs.Field.{bounded}
-use Rattle.setup.specs.Setup.{Person, Grant, Setup, accounts, most-pairs, most-grants}
+use Rattle.setup.specs.Setup.{Person, Grant, Setup, accounts, most-pairs, most-grants, is-setup}
 use Rattle.tree.specs.Encoding.{encode-tree, decode-tree}
 use Rattle.store.specs.HeaderLayout.{slot-width, sessions-offset, pairs-offset, pair-width, grants-offset, grant-width, password-offset, password-width, spare-width}
 use Rattle.store.specs.State.{Sessions, State, well-formed}
@@ -77,6 +77,10 @@ setup-of b = record {
 
 unfoldable pub sessions-of : List ℕ → Sessions
 sessions-of b = all-from 1 (λ s. session-of (getD s 0 0)) accounts (drop sessions-offset b)
+
+-- whether bytes are those of a header: of the setup and the sessions that are read off them, the setup in range
+unfoldable pub is-header : List ℕ → Bool
+is-header b = is-setup (setup-of b) && same-text (header-bytes (setup-of b) (sessions-of b)) b
 
 unfoldable pub encode : State → List ℕ
 encode s = header-bytes (s .setup) (s .store .sessions) ++ encode-tree (s .store .tree)
