@@ -41,7 +41,7 @@ same-append (x ∷ a) b [] d h = let z : ⊥ = omega arith in absurd z
 same-append (x ∷ a) b (y ∷ c) d h = case (eqb x y) (λ t. rw t (same-append a b c d (omega arith))) (λ t. rw t)
 
 -- so with what stands from a place on
-same-part : (i w : ℕ) (a b x : List ℕ) → length a ≡ w → i + w ≤ length x
+pub same-part : (i w : ℕ) (a b x : List ℕ) → length a ≡ w → i + w ≤ length x
     → same-text (a ++ b) (drop i x) ≡ (same-text a (take w (drop i x)) && same-text b (drop (i + w) x))
 same-part i w a b x h l =
     let n : length (take w (drop i x)) ≡ w = length-take-le w (drop i x) (omega (arith, length-drop i x)) in
@@ -49,7 +49,7 @@ same-part i w a b x h l =
     ∙ same-append a b (take w (drop i x)) (drop w (drop i x)) (h ∙ sym n)
     ∙ ap (λ (y : List ℕ). same-text a (take w (drop i x)) && same-text b y) (drop-drop w i x)
 
-eqb-flip : (a b : ℕ) → eqb a b ≡ eqb b a
+pub eqb-flip : (a b : ℕ) → eqb a b ≡ eqb b a
 eqb-flip a b = case (eqb b a)
     (λ t. eq-eqb a b (sym (eqb-true b a t)) ∙ sym t)
     (λ t. ne-eqb a b (λ e. eqb-false b a t (sym e)) ∙ sym t)
@@ -60,7 +60,7 @@ same-zeros [] = refl
 same-zeros (x ∷ l) = ap₂ _&&_ (eqb-flip 0 x) (same-zeros l)
 
 -- zeros at a place
-same-zeros-at : (i n : ℕ) (x : List ℕ) → i + n ≤ length x → same-text (replicate n 0) (take n (drop i x)) ≡ zeros-at i n x
+pub same-zeros-at : (i n : ℕ) (x : List ℕ) → i + n ≤ length x → same-text (replicate n 0) (take n (drop i x)) ≡ zeros-at i n x
 unfolding zeros-at
 same-zeros-at i n x h =
     let l : length (take n (drop i x)) ≡ n = length-take-le n (drop i x) (omega (arith, length-drop i x)) in
@@ -93,7 +93,7 @@ module _ (i w : ℕ) (x : List ℕ) (h : i + w ≤ length x) where
   length-text-at = omega (arith, length-unpadded (take w (drop i x)), length-take-le w (drop i x) (omega (arith, length-drop i x)))
 
   -- the text filled up is the field if the rest of it is zeros
-  same-filled : same-text (padded w (text-at i w x)) (take w (drop i x)) ≡ is-filled i w x
+  pub same-filled : same-text (padded w (text-at i w x)) (take w (drop i x)) ≡ is-filled i w x
   unfolding text-at is-filled zeros-at
   same-filled =
       let l = take w (drop i x) in

@@ -43,11 +43,13 @@ read-in-parts b s e =
     let p = parts s (i .1) in
     let H = header-bytes (s .setup) (s .store .sessions) in
     let T = encode-tree (s .store .tree) in
-    let l = length-header (s .setup) (s .store .sessions) (p .setup) (p .sessions) in
-    (decode-length b s e, (
-      rw (← i .0, take-at H T header-width l) (header-is (s .setup) (s .store .sessions) (p .setup) (p .sessions)),
-      rw (← i .0, drop-at H T header-width l, decode-encode-tree (s .store .tree) (p .tree)),
-    ))
+    let l = length-header (s .setup) (s .store .sessions) (p .setup) (p .sessions) in (
+      decode-length b s e,
+      (
+        rw (← i .0, take-at H T header-width l) (header-is (s .setup) (s .store .sessions) (p .setup) (p .sessions)),
+        rw (← i .0, drop-at H T header-width l, decode-encode-tree (s .store .tree) (p .tree)),
+      ),
+    )
 
 -- there are always 16 sessions
 length-sessions-of : (b : List ℕ) → length (sessions-of b) ≡ 16

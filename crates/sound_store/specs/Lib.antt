@@ -1,0 +1,4 @@
+pub mod HeaderTests
+pub mod PassesLaws
+pub mod HeaderTestLaws
+pub mod StoreStepLaws
