@@ -53,5 +53,5 @@ abbrev pub may-do-at : Account → Deed → Place Node → Path → Result Spot
 may-do-at a deed t p = may-do a deed t p >>= λ d. done (spot-of t p)
 
 -- the text of a row: a file's content, or the names of a directory's children
-unfoldable pub text-in : List ℕ → ℕ → Text
-text-in b i = cond (is-directory (row-at b i .here .kind)) (child-text-in (all-rows b) i) (row-at b i .here .content)
+unfoldable pub row-text : List ℕ → ℕ → Text
+row-text b i = cond (is-directory (row-at b i .here .kind)) (child-text-in (all-rows b) i) (row-at b i .here .content)

@@ -53,7 +53,7 @@ use Rattle.shell.specs.CommandBytes.{Follows, Follows-silently}
 use Rattle.shell.specs.CommandBytesLaws.{refusal-follows, silence-follows, text-follows}
 use Rattle.attributes.specs.declared.Deed.{Deed}
 use Rattle.attributes.specs.declared.Deed.the-variants.{Read, Write, Chmod, Chgrp, Chown}
-use Rattle.attributes.specs.Checks.{gives, tests, may-do, passed, may-do-at, text-in}
+use Rattle.attributes.specs.Checks.{gives, tests, may-do, passed, may-do-at, row-text}
 
 -- ---- the steps by the checks
 
@@ -151,12 +151,12 @@ module _ {b : List ℕ} {t : Place Node} (tree : Encodes b t) (a : Account) (s :
 
 -- ---- the text of a row
 
-pub file-text : (b : List ℕ) (i : ℕ) → row-at b i .here .kind ≡ File → row-at b i .here .content ≡ text-in b i
-unfolding text-in
+pub file-text : (b : List ℕ) (i : ℕ) → row-at b i .here .kind ≡ File → row-at b i .here .content ≡ row-text b i
+unfolding row-text
 file-text b i e = rw (e, file-is-none)
 
-pub directory-text : (b : List ℕ) (i : ℕ) → row-at b i .here .kind ≡ Directory → child-text-in (all-rows b) i ≡ text-in b i
-unfolding text-in
+pub directory-text : (b : List ℕ) (i : ℕ) → row-at b i .here .kind ≡ Directory → child-text-in (all-rows b) i ≡ row-text b i
+unfolding row-text
 directory-text b i e = rw (e, directory-is-one)
 
 -- a text written in front
@@ -168,8 +168,8 @@ pub answers-with : {x y : Text} (a : List ℕ) {b : List ℕ} {n : ℕ} → x �
 answers-with a e h = rw (← e) h
 
 -- the text of a place's row is the place's
-text-there : {b : List ℕ} {t : Place Node} {p : Path} {i : ℕ} {d : Place Node} → At b t p i d → text-in b i ≡ text-of d
-unfolding text-in text-of
+text-there : {b : List ℕ} {t : Place Node} {p : Path} {i : ℕ} {d : Place Node} → At b t p i d → row-text b i ≡ text-of d
+unfolding row-text text-of
 text-there a = rw (at-here a, at-child-text a)
 
 -- ---- the commands
@@ -214,7 +214,7 @@ module _ {b : List ℕ} {t : Place Node} (tree : Encodes b t) (a : Account) (dee
 
     -- the text of the place told
     pub told-there : steps ≡ (may-do a deed t p >>= λ d. done (told t d))
-        → (s s′ : List ℕ) (n : ℕ) → Answers (text-in b row) s n s′ → Follows steps b s (the-variants.Text n) b s′
+        → (s s′ : List ℕ) (n : ℕ) → Answers (row-text b row) s n s′ → Follows steps b s (the-variants.Text n) b s′
     told-there checked s s′ n is =
         let c = came-there e in
         let text = answers-with s (text-there (c .at)) is in

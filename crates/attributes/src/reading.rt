@@ -6,7 +6,7 @@ ghost use Rattle.tree.specs.TreeBytes.{Has-row, Used, Whole, Path-text, Whichev
 ghost use Rattle.walks.specs.NamesWritten.{all-names-width, Answers};
 ghost use Rattle.shell.specs.Steps.{run-read};
 ghost use Rattle.shell.specs.CommandBytes.{Follows};
-ghost use Rattle.attributes.specs.Checks.{text-in};
+ghost use Rattle.attributes.specs.Checks.{row-text};
 use crate::Deed;
 use crate::checks::may_do;
 use accounts::Caller;
@@ -33,7 +33,7 @@ fn give_content(tree: &[u8], row: usize, answer: &mut [u8]) -> usize
 fn give_text(tree: &[u8], row: usize, answer: &mut [u8]) -> usize
     requires { ⌜ Used (now tree) row ⌝ }
     requires { ⌜ all-names-width ≤ length (now answer) ⌝ }
-    ensures { λ r. ⌜ Answers (text-in (now (tree .entry)) row) (now (answer .entry)) r (now (answer .exit)) ⌝ }
+    ensures { λ r. ⌜ Answers (row-text (now (tree .entry)) row) (now (answer .entry)) r (now (answer .exit)) ⌝ }
 {
     match kind_at(tree, row) {
         Kind::File => give_content(tree, row, answer),
