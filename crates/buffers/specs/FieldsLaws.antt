@@ -5,7 +5,7 @@ use mathlib.Core.Bool.{true, not}
 use Prim.Native.Nat.{ℕ, zero, suc, _+_, _-_, _/_, _%_, _≤_, _<_}
 use native.Mathlib.Omega.{arith}
 use lib.Dec.{eqb}
-use lib.ListN.{length, getD, take, drop, replicate, length-append, length-replicate}
+use lib.ListN.{length, getD, take, drop, replicate, length-append, length-replicate, length-take}
 use lib.Seq.{take-at, drop-at, getD-at, drop-cons, take-take}
 use borrow.Author.Tests.{not-true, eq-eqb, ne-eqb}
 use Rattle.buffers.specs.Cases.{case, and-both}
@@ -72,6 +72,17 @@ module _ (s : List ℕ) (at w : ℕ) where
 pub text-ends : (s : List ℕ) (at : ℕ) → length (text-at at 0 s) ≡ 0
 unfolding text-at unpadded
 text-ends s at = refl
+
+-- a text without the zeros is no longer than with them
+unpadded-fits : (l : List ℕ) → length (unpadded l) ≤ length l
+unfolding unpadded
+unpadded-fits [] = omega arith
+unpadded-fits (x ∷ l) = let i = unpadded-fits l in case (eqb x 0) (λ e. rw e (omega arith)) (λ e. rw e (omega arith))
+
+-- so a text has no more bytes than its field
+pub field-text-fits : (s : List ℕ) (at w : ℕ) → length (text-at at w s) ≤ w
+unfolding text-at
+field-text-fits s at w = omega (arith, unpadded-fits (take w (drop at s)), length-take w (drop at s))
 
 -- what stands before the zeros
 take-unpadded : (l : List ℕ) → take (length (unpadded l)) l ≡ unpadded l

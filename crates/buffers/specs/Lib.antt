@@ -5,4 +5,6 @@ pub mod Fields
 pub mod FieldsLaws
 pub mod TableLaws
 pub mod PasteLaws
+pub mod Over
+pub mod OverLaws
 pub mod Compute

@@ -44,6 +44,21 @@ module _ {A : Type 0} (width : ℕ) (test : A → Bool) (to : A → List ℕ) (l
       let z = suc-mul (length l) width in
       length-append (to a) (all-bytes to l) ∙ omega arith
 
+  -- the bytes of each stand at its index
+  pub all-bytes-at : (l : List A) (i : ℕ) (Q : List ℕ) (z : A) → every test l ≡ true → i < length l → take width (drop (width * i) (all-bytes to l ++ Q)) ≡ to (getD l i z)
+  unfolding all-bytes every
+  all-bytes-at [] i Q z h k = let x : ⊥ = omega arith in absurd x
+  all-bytes-at (a ∷ l) zero Q z h k =
+      let i = and-both (test a) (every test l) h in
+      rw (mul-zero width, append-assoc (to a) (all-bytes to l) Q) (take-at (to a) (all-bytes to l ++ Q) width (long a (i .0)))
+  all-bytes-at (a ∷ l) (suc j) Q z h k =
+      let i = and-both (test a) (every test l) h in
+      let B = all-bytes to l ++ Q in
+      let s : width * suc j ≡ width + width * j = mul-suc width j ∙ add-comm (width * j) width in
+      ap (λ (n : ℕ). take width (drop n ((to a ++ all-bytes to l) ++ Q))) s
+      ∙ ap (take width) (sym (drop-drop (width * j) width ((to a ++ all-bytes to l) ++ Q)))
+      ∙ rw (append-assoc (to a) (all-bytes to l) Q, drop-at (to a) B width (long a (i .0))) (all-bytes-at l j Q z (i .1) (omega arith))
+
   -- with zeros in place of those that are not there, as many widths as there may be values
   pub length-filled : (most : ℕ) (l : List A) → every test l ≡ true → length l ≤ most → length (all-bytes to l ++ replicate ((most - length l) * width) 0) ≡ most * width
   length-filled most l h few =

@@ -106,6 +106,13 @@ every-getD f [] i d h k = k
 every-getD f (a ∷ l) zero d h k = and-both (f a) (every f l) h .0
 every-getD f (a ∷ l) (suc i) d h k = every-getD f l i d (and-both (f a) (every f l) h .1) k
 
+-- and so does one that is there
+pub every-there : {A : Type 0} (f : A → Bool) (l : List A) (i : ℕ) (d : A) → every f l ≡ true → i < length l → f (getD l i d) ≡ true
+unfolding every
+every-there f [] i d h k = let z : ⊥ = omega arith in absurd z
+every-there f (a ∷ l) zero d h k = and-both (f a) (every f l) h .0
+every-there f (a ∷ l) (suc i) d h k = every-there f l i d (and-both (f a) (every f l) h .1) (omega arith)
+
 -- a list that passes a test still does after an element that passes is stored
 pub every-set : {A : Type 0} (f : A → Bool) (l : List A) (i : ℕ) (a : A) → every f l ≡ true → f a ≡ true → every f (set l i a) ≡ true
 unfolding every

@@ -2,7 +2,7 @@
 use mathlib.Core.Path.{_≡_}
 use mathlib.Core.List.{List, [], _∷_, _++_}
 use Prim.Native.Nat.{ℕ, suc, _+_, _*_, _≤_}
-use lib.ListN.{length, take, drop}
+use lib.ListN.{length, drop}
 use Rattle.buffers.specs.Text.{Text}
 use Rattle.syntax.specs.Pieces.{comma, joined}
 use Rattle.tree.specs.Layout.{most-rows, name-width}
@@ -10,10 +10,6 @@ use Rattle.tree.specs.Layout.{most-rows, name-width}
 -- as many bytes as the names of all rows take at most, each with a comma
 abbrev pub all-names-width : ℕ
 all-names-width = most-rows * suc name-width
-
--- a buffer with a text written over it from an index on
-unfoldable pub over : ℕ → Text → List ℕ → List ℕ
-over at t b = take at b ++ (t ++ drop (at + length t) b)
 
 -- where a name would stand behind those written, with a comma between
 unfoldable pub next-place : List Text → ℕ

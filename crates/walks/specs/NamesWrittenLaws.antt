@@ -4,32 +4,12 @@ use mathlib.Core.List.{List, [], _∷_, _++_, append-assoc}
 use Prim.Native.Nat.{ℕ, suc, _+_, _-_, _≤_, _<_}
 use native.Mathlib.Omega.{arith}
 use native.Mathlib.Numerals.{add-one}
-use lib.ListN.{length, set, take, drop, length-append}
-use lib.Seq.{take-length, take-append-seam, drop-append-add, set-split, drop-drop, paste}
+use lib.ListN.{length, set, drop, length-append}
 use Rattle.buffers.specs.Text.{Text}
+use Rattle.buffers.specs.Over.{over}
+use Rattle.buffers.specs.OverLaws.{over-byte, over-more}
 use Rattle.syntax.specs.Pieces.{comma, joined}
-use Rattle.walks.specs.NamesWritten.{over, next-place, Names-written}
-
--- a copy of all bytes of a text
-pub over-paste : (b t : List ℕ) (place : ℕ) → paste b place t (length t) ≡ over place t b
-unfolding over
-over-paste b t place = rw (take-length t) (append-assoc (take place b) t (drop (place + length t) b))
-
--- one byte is a store
-over-byte : (b : List ℕ) (i x : ℕ) → i < length b → set b i x ≡ over i (x ∷ []) b
-unfolding over
-over-byte b i x h = rw add-one (set-split b i x h)
-
--- a text behind another is both
-over-more : (s t a : List ℕ) → over (length s) t (s ++ drop (length s) a) ≡ (s ++ t) ++ drop (length (s ++ t)) a
-unfolding over
-over-more s t a =
-    rw (
-      take-append-seam s (drop (length s) a),
-      drop-append-add s (drop (length s) a) (length t),
-      drop-drop (length t) (length s) a,
-      length-append s t,
-    ) (sym (append-assoc s t (drop (length s + length t) a)))
+use Rattle.walks.specs.NamesWritten.{next-place, Names-written}
 
 -- what is joined, part by part
 regroup-joined : (n : Text) (c : ℕ) (t m : Text) → n ++ (c ∷ ((t ++ (c ∷ [])) ++ m)) ≡ ((n ++ (c ∷ t)) ++ (c ∷ [])) ++ m

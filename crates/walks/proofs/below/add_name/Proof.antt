@@ -5,7 +5,8 @@ use Prim.Native.Nat.{_-_}
 use lib.ListN.{set, length-set}
 use denote.Ref.{now}
 use borrow.Author.Needs.{needs}
-use Rattle.walks.specs.NamesWrittenLaws.{named-first, named-more, over-paste}
+use Rattle.buffers.specs.OverLaws.{over-paste}
+use Rattle.walks.specs.NamesWrittenLaws.{named-first, named-more}
 use Rattle.walks.proofs.below.add_name.Statement.{statement}
 use Rattle.walks.proofs.below.add_name.Tie as tie
 
