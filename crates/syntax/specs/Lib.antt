@@ -4,6 +4,7 @@ pub mod Number
 pub mod Form
 pub mod FormLaws
 pub mod NumberLaws
+pub mod RenderLaws
 pub mod Path
 pub mod PathLaws
 pub mod WithinLaws

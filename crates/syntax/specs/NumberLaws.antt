@@ -1,6 +1,6 @@
 -- Laws of numbers as texts: a number's text is read as that number, only that text is, and how long it is. So for modes.
 use mathlib.Core.Path.{_≡_, refl, sym, _∙_, ap}
-use mathlib.Core.List.{[], _∷_, _++_, append-nil}
+use mathlib.Core.List.{[], _∷_, _++_, append-nil, append-assoc}
 use mathlib.Core.Option.{some}
 use mathlib.Core.Bool.{true, _&&_, _||_}
 use Prim.Native.Nat.{ℕ, zero, suc, _+_, _-_, _*_, _/_, _%_, _^_, _≤_, _<_}
@@ -149,6 +149,33 @@ decimal-length k n h = omega (arith, digits-fit (suc n) k n [] h)
 pub decimal-one : (n : ℕ) → n < 10 → length (decimal-text n) ≡ 1
 unfolding decimal-text
 decimal-one n h = rw (last-digit n n [] h)
+
+-- ---- the text of a number digit by digit
+
+-- digits in front of a text are digits with the text behind them
+digits-apart : (fuel n : ℕ) (t : Text) → digits-before fuel n t ≡ digits-before fuel n [] ++ t
+digits-apart zero n t = unfold digits-before in refl
+digits-apart (suc fuel) n t = by-digits n
+    (λ h. rw (last-digit fuel n t h, last-digit fuel n [] h))
+    (λ h.
+    let d = 48 + n % 10 in
+    more-digits fuel n t h
+    ∙ digits-apart fuel (n / 10) (d ∷ t)
+    ∙ sym (append-assoc (digits-before fuel (n / 10) []) (d ∷ []) t)
+    ∙ ap (λ (l : Text). l ++ t) (sym (more-digits fuel n [] h ∙ digits-apart fuel (n / 10) (d ∷ []))))
+
+-- below 10 it is one digit
+pub decimal-digit : (n : ℕ) → n < 10 → decimal-text n ≡ (48 + n) ∷ []
+unfolding decimal-text
+decimal-digit n h = last-digit n n [] h
+
+-- else the last digit stands behind the text of the others
+pub decimal-last : (n : ℕ) → 10 ≤ n → decimal-text n ≡ decimal-text (n / 10) ++ ((48 + n % 10) ∷ [])
+unfolding decimal-text
+decimal-last n h =
+    more-digits n n [] h
+    ∙ same-digits n (suc (n / 10)) (n / 10) ((48 + n % 10) ∷ []) (omega arith) (omega arith)
+    ∙ digits-apart (suc (n / 10)) (n / 10) ((48 + n % 10) ∷ [])
 
 -- ---- modes
 

@@ -222,6 +222,11 @@ entry-text-length e h =
     let i : _ = and-both (has-names (in-rep p)) (leb (depth (in-rep p)) 6) h in
     omega (arith, in-rep-length p (i .0), leb-true (depth (in-rep p)) 6 (i .1))
 
+-- and at least one
+pub entry-text-some : (e : Entry-path) → length (entry-text e) ≡ 0 → ⊥
+unfolding entry-text entry-location path-text names-text
+entry-text-some e h = omega (arith, length-append (names-text (in-rep (e .folder))) (47 ∷ e .name))
+
 -- ---- the parts of paths in range
 
 -- a path has at most 6 names

@@ -1,8 +1,9 @@
 // The parts of command lines and of the setup text: fields, numbers, names and paths. Readers over a lent slice, answers by
-// value, no copying.
+// value, no copying; and numbers written as texts.
 mod numerals;
 mod parts;
 mod paths;
+mod render;
 mod text;
 
 pub use numerals::between;
@@ -13,6 +14,8 @@ pub use parts::word_is;
 pub use paths::is_entry_path;
 pub use paths::is_path;
 pub use paths::last_slash;
+pub use render::write_decimal;
+pub use render::write_mode;
 pub use text::field_at;
 pub use text::is_content;
 pub use text::is_name;
