@@ -3,37 +3,30 @@
 use mathlib.Core.Path.{_≡_, refl, sym, _∙_, ap}
 use mathlib.Core.List.{List, [], _∷_, _++_, append-assoc, append-nil}
 use mathlib.Core.Bool.{true, false}
-use Prim.Native.Nat.{ℕ, suc, _+_, _*_, _≤_, _<_}
+use Prim.Native.Nat.{ℕ, suc, _+_, _≤_, _<_}
 use native.Mathlib.Omega.{arith}
 use native.Mathlib.Nat.{add-zero}
-use lib.ListN.{length, getD, take, drop, length-append}
-use lib.Seq.{length-take-le, split-at, drop-at, drop-drop, getD-drop}
-use Rattle.buffers.specs.Cases.{case, and-both}
-use Rattle.buffers.specs.Text.{every}
-use Rattle.buffers.specs.TextLaws.{every-append}
-use Rattle.buffers.specs.Fields.{all-bytes}
-use Rattle.buffers.specs.TableLaws.{length-all-bytes}
+use lib.ListN.{length, getD, drop}
+use lib.Seq.{drop-at, drop-drop, getD-drop}
+use Rattle.buffers.specs.Cases.{case}
 use Rattle.accounts.specs.declared.Caller.{Caller}
 use Rattle.accounts.specs.declared.Gid.{Gid}
 use Rattle.syntax.specs.Number.{set-gid}
 use Rattle.syntax.specs.Path.{Name, Path, _▹_, Entry-path, depth}
-use Rattle.tree.specs.Layout.{row-width, row-start}
 use Rattle.tree.specs.Forest.{Forest, nil, node, Place, size}
 use Rattle.tree.specs.Node.{Node, set-tag, set-content, new-node}
 use Rattle.tree.specs.Walk.{by-modes}
-use Rattle.tree.specs.WellFormed.{is-node}
 use Rattle.tree.specs.Rows.{Row, flatten, rows}
 use Rattle.tree.specs.RowLaws.{length-flatten}
 use Rattle.tree.specs.RowScan.{first-depth, depth-of, end-of-subtree}
 use Rattle.tree.specs.RowPlaces.{place-rows, ends}
 use Rattle.tree.specs.RowPlacesLaws.{ends-flatten}
 use Rattle.tree.specs.RowScanLaws.{below-span}
-use Rattle.tree.specs.Encoding.{row-bytes, read-row, encode-rows}
-use Rattle.tree.specs.EncodingLaws.{fits, fits-parts, tree-fits, length-fitting, fitting-back}
-use Rattle.tree.specs.RowAt.{row-count, row-bytes-at, row-at, all-rows}
-use Rattle.tree.specs.RowAtLaws.{row-in-rows, row-count-of-tree}
+use Rattle.tree.specs.EncodingLaws.{fits-parts}
+use Rattle.tree.specs.RowAt.{row-count, row-at, all-rows}
+use Rattle.tree.specs.RowAtLaws.{row-in-rows}
 use Rattle.tree.specs.TreeBytes.{Encodes}
-use Rattle.edits.specs.EncodedRowsLaws.{encode-tree-rows, table-part}
+use Rattle.tree.specs.TreeBytesLaws.{encoded-fits, encoded-row-bytes}
 use Rattle.copying.specs.declared.Copier.{Copier}
 use Rattle.copying.specs.Copying.{below-rep, copy-mode, copy-node, copied, copy-children, copy}
 use Rattle.copying.specs.CopyLaws.{copy-mode-fits}
@@ -43,30 +36,11 @@ use Rattle.copying.specs.CopyRows.{Holds-row, Stands, child-entry, read-
 
 -- each row of a well-formed tree is held
 pub row-held : (b : List ℕ) (t : Place Node) (i : ℕ) → Encodes b t → i < row-count b → Holds-row b i
-unfolding row-at row-bytes-at all-bytes every
-row-held b t i e h =
-    let rs = rows t in
-    let c = row-count-of-tree t (e .whole) in
-    let q = ap row-count (e .bytes) in
-    let r = getD rs i (row-at b i) in
-    let xs = take i rs in
-    let ys = drop (suc i) rs in
-    let lx : length xs ≡ i = length-take-le i rs (omega arith) in
-    let split : rs ≡ xs ++ (r ∷ ys) = split-at rs i (row-at b i) (omega arith) in
-    let f = and-both (every fits xs) (every fits (r ∷ ys)) (sym (every-append fits xs (r ∷ ys)) ∙ ap (every fits) (sym split) ∙ tree-fits t (e .whole) .0) in
-    let g = and-both (fits r) (every fits ys) (f .1) in
-    let lr : length (row-bytes r ++ []) ≡ 1 * row-width = length-append (row-bytes r) [] ∙ omega (arith, length-fitting r (g .0)) in
-    let there : row-bytes-at b i ≡ row-bytes r =
-    ap (λ (s : List ℕ). take row-width (drop (row-start i) s)) (e .bytes ∙ encode-tree-rows t ∙ ap encode-rows split)
-    ∙ ap (λ (j : ℕ). take row-width (drop (row-start j) (encode-rows (xs ++ (r ∷ ys))))) (sym lx)
-    ∙ table-part xs (r ∷ []) ys (length-all-bytes row-width fits row-bytes length-fitting xs (f .0)) lr
-    ∙ append-nil (row-bytes r) in
-    let is : row-at b i ≡ r = ap read-row there ∙ fitting-back r (g .0) in
-    record {
-      has = record { wide = e .sized .wide; low = omega (arith, e .sized .few-rows) };
-      own = ap (λ (u : Row Node). is-node (u .here)) is ∙ fits-parts r (g .0) .0;
-      bytes = there ∙ ap row-bytes (sym is);
-    }
+row-held b t i e h = record {
+  has = record { wide = e .sized .wide; low = omega (arith, e .sized .few-rows) };
+  own = fits-parts (row-at b i) (encoded-fits e h) .0;
+  bytes = encoded-row-bytes e h;
+}
 
 -- ---- a place among rows
 

@@ -15,7 +15,7 @@ use Rattle.buffers.specs.Cases.{case}
 use Rattle.buffers.specs.Text.{Text, same-text, every}
 use Rattle.buffers.specs.TextLaws.{same-text-refl, every-append}
 use Rattle.buffers.specs.Fields.{two-bytes, number-at, padded, unpadded, text-at, all-zero, zeros-at, is-filled}
-use Rattle.buffers.specs.FieldsLaws.{length-padded, length-two-bytes}
+use Rattle.buffers.specs.FieldsLaws.{length-padded, length-two-bytes, field-text-fits}
 use Rattle.syntax.specs.Pieces.{bytes}
 use Rattle.syntax.specs.Form.{_>>=_}
 use Rattle.syntax.specs.Number.{is-mode}
@@ -75,11 +75,6 @@ same-unpadded (x ∷ l) = case (eqb x 0)
     let q : suc (length l) - suc (length (unpadded l)) ≡ length l - length (unpadded l) = omega arith in
     rw t (rw (q, eq-eqb x x refl) (same-unpadded l)))
 
-length-unpadded : (l : List ℕ) → length (unpadded l) ≤ length l
-unfolding unpadded
-length-unpadded [] = omega arith
-length-unpadded (x ∷ l) = case (eqb x 0) (λ t. rw t (omega arith)) (λ t. rw t (omega (arith, length-unpadded l)))
-
 drop-take : (k w : ℕ) (l : List ℕ) → drop k (take w l) ≡ take (w - k) (drop k l)
 drop-take zero w l = let q : w - 0 ≡ w = omega arith in rw q
 drop-take (suc k) zero l = let q : 0 - suc k ≡ 0 = omega arith in rw q
@@ -89,8 +84,7 @@ drop-take (suc k) (suc w) (x ∷ l) = let q : suc w - suc k ≡ w - k = omega ar
 module _ (i w : ℕ) (x : List ℕ) (h : i + w ≤ length x) where
   -- a field's text is no longer than the field
   pub length-text-at : length (text-at i w x) ≤ w
-  unfolding text-at
-  length-text-at = omega (arith, length-unpadded (take w (drop i x)), length-take-le w (drop i x) (omega (arith, length-drop i x)))
+  length-text-at = field-text-fits x i w
 
   -- the text filled up is the field if the rest of it is zeros
   pub same-filled : same-text (padded w (text-at i w x)) (take w (drop i x)) ≡ is-filled i w x

@@ -35,6 +35,11 @@ tag-of t v = do
   e ← entry-path t
   some (record { path = e; revision = v })
 
+-- a tag as the text of its path and its revision; where there is none the text is empty and the revision 0
+pub data Tag-told : Option Tag → Text → ℕ → Type 0 where
+  told-none : Tag-told none [] 0
+  told-tag : (t : Tag) → Tag-told (some t) (entry-text (t .path)) (t .revision)
+
 -- the bytes of a row before its name
 abbrev pub row-head : Row Node → List ℕ
 row-head r =

@@ -12,20 +12,18 @@ use mathlib.Core.Bool.{Bool, true, false}
 use Prim.Native.Nat.{ℕ, suc, _+_, _*_, _≤_, _<_}
 use native.Mathlib.Omega.{arith}
 use native.Mathlib.Numerals.{add-one}
-use lib.Dec.{eqb}
-use lib.ListN.{length, getD, take, drop, length-take}
+use lib.ListN.{length, getD, take, drop}
 use lib.Seq.{drop-cons, getD-take, getD-drop, drop-drop}
 use borrow.Author.Tests.{eq-eqb, ne-eqb}
-use Rattle.buffers.specs.Cases.{case}
 use Rattle.buffers.specs.Text.{Text}
 use Rattle.buffers.specs.Fields.{number-at, unpadded, text-at}
-use Rattle.buffers.specs.FieldsLaws.{part-of-take}
+use Rattle.buffers.specs.FieldsLaws.{part-of-take, field-text-fits}
 use Rattle.buffers.specs.TableLaws.{length-all-from, all-from-at}
 use Rattle.syntax.specs.Path.{depth}
 use Rattle.tree.specs.declared.Kind.the-variants.{File, Directory}
 use Rattle.tree.specs.declared.Child.{Child}
 use Rattle.tree.specs.declared.Child.the-variants.{Missing}
-use Rattle.tree.specs.Layout.{row-width, row-start, kind-offset, name-width, content-width}
+use Rattle.tree.specs.Layout.{row-width, row-start, kind-offset, name-offset, name-width, tag-offset, tag-width, content-offset, content-width}
 use Rattle.tree.specs.Forest.{Place}
 use Rattle.tree.specs.Node.{Node}
 use Rattle.tree.specs.Rows.{Row, rows}
@@ -34,7 +32,7 @@ use Rattle.tree.specs.RowScan.{span, is-deeper, first-depth, depth-of, e
 use Rattle.tree.specs.RowScanLaws.{span-go, span-stop, span-end, child-from-row, child-from-end}
 use Rattle.tree.specs.Encoding.{kind-of, read-row, encode-tree}
 use Rattle.tree.specs.EncodingLaws.{rows-of-encoded}
-use Rattle.tree.specs.RowAt.{row-count, row-bytes-at, row-at, all-rows}
+use Rattle.tree.specs.RowAt.{row-count, row-bytes-at, row-at, all-rows, tag-text-at}
 
 -- ---- a field of a row
 
@@ -75,25 +73,19 @@ module _ (b : List ℕ) (i : ℕ) where
   unfolding row-at read-row kind-of
   file-in-row e = rw (ne-eqb (getD (row-bytes-at b i) 1 0) 100 (λ q. e (sym (byte-in-row 1 (omega arith)) ∙ q)))
 
--- a text without the zeros is no longer than with them
-unpadded-fits : (l : List ℕ) → length (unpadded l) ≤ length l
-unfolding unpadded
-unpadded-fits [] = omega arith
-unpadded-fits (x ∷ l) = let i = unpadded-fits l in case (eqb x 0) (λ e. rw e (omega arith)) (λ e. rw e (omega arith))
+-- its texts have no more bytes than their fields
+module _ (b : List ℕ) (i : ℕ) where
+  pub row-name-fits : length (row-at b i .name) ≤ name-width
+  unfolding row-at read-row
+  row-name-fits = field-text-fits (row-bytes-at b i) name-offset name-width
 
--- a name has no more bytes than its field
-pub row-name-fits : (b : List ℕ) (i : ℕ) → length (row-at b i .name) ≤ name-width
-unfolding row-at read-row text-at
-row-name-fits b i =
-    let l = drop 8 (row-bytes-at b i) in
-    omega (arith, unpadded-fits (take 8 l), length-take 8 l)
+  pub row-tag-fits : length (tag-text-at b i) ≤ tag-width
+  unfolding tag-text-at
+  row-tag-fits = field-text-fits (row-bytes-at b i) tag-offset tag-width
 
--- nor has a content
-pub row-content-fits : (b : List ℕ) (i : ℕ) → length (row-at b i .here .content) ≤ content-width
-unfolding row-at read-row text-at
-row-content-fits b i =
-    let l = drop 72 (row-bytes-at b i) in
-    omega (arith, unpadded-fits (take 80 l), length-take 80 l)
+  pub row-content-fits : length (row-at b i .here .content) ≤ content-width
+  unfolding row-at read-row
+  row-content-fits = field-text-fits (row-bytes-at b i) content-offset content-width
 
 -- ---- all rows
 

@@ -24,7 +24,7 @@ use Rattle.tree.specs.Layout.{row-width, mode-offset, revision-offset, n
 use Rattle.tree.specs.Node.{Tag, Node}
 use Rattle.tree.specs.Rows.{Row}
 use Rattle.tree.specs.WellFormed.{last-revision, is-tag, fits-kind, is-node}
-use Rattle.tree.specs.Encoding.{kind-byte, kind-of, tag-bytes, tag-of, row-bytes, read-row, row-head, row-spare}
+use Rattle.tree.specs.Encoding.{kind-byte, kind-of, tag-bytes, tag-of, Tag-told, told-none, told-tag, row-bytes, read-row, row-head, row-spare}
 
 -- the pieces of a row: what stands before its name, its name, tag and content, and what is spare
 pub row-parts : (r : Row Node)
@@ -72,19 +72,28 @@ length-tag-bytes o h =
     let l = length-padded tag-width (tag-text o) (tag-fits o h .0) in
     ap length (tag-parts o) ∙ length-append (padded tag-width (tag-text o)) (two-bytes (tag-number o)) ∙ omega arith
 
--- and is read where they stand
-tag-at-bytes : (P Q : List ℕ) (i : ℕ) (o : Option Tag) → length P ≡ i → is-tag o ≡ true
-    → tag-of (text-at i 54 (P ++ (tag-bytes o ++ Q))) (number-at (i + 54) (P ++ (tag-bytes o ++ Q))) ≡ o
-tag-at-bytes P Q i o e h =
-    let T = padded tag-width (tag-text o) in
-    let N = two-bytes (tag-number o) in
-    let w = tag-fits o h in
-    let s : P ++ (tag-bytes o ++ Q) ≡ P ++ (T ++ (N ++ Q)) = ap (λ (l : List ℕ). P ++ (l ++ Q)) (tag-parts o) ∙ ap (λ (l : List ℕ). P ++ l) (append-assoc T N Q) in
-    let a : text-at i 54 (P ++ (T ++ (N ++ Q))) ≡ tag-text o = text-at-padded P (N ++ Q) i 54 (tag-text o) e (w .0) (w .1) in
-    let b : number-at (i + 54) (P ++ (T ++ (N ++ Q))) ≡ tag-number o =
-    rw (← append-assoc P T (N ++ Q))
-    (number-at-bytes (P ++ T) Q (i + 54) (tag-number o) (length-append P T ∙ omega (arith, length-padded tag-width (tag-text o) (w .0)))) in
-    rw (s, a, b) (tag-of-parts o h)
+module _ (P Q : List ℕ) (i : ℕ) (o : Option Tag) (e : length P ≡ i) (h : is-tag o ≡ true) where
+  -- its text and its number are read where they stand
+  tag-parts-at : (text-at i 54 (P ++ (tag-bytes o ++ Q)) ≡ tag-text o) × (number-at (i + 54) (P ++ (tag-bytes o ++ Q)) ≡ tag-number o)
+  tag-parts-at =
+      let T = padded tag-width (tag-text o) in
+      let N = two-bytes (tag-number o) in
+      let w = tag-fits o h in
+      let s : P ++ (tag-bytes o ++ Q) ≡ P ++ (T ++ (N ++ Q)) = ap (λ (l : List ℕ). P ++ (l ++ Q)) (tag-parts o) ∙ ap (λ (l : List ℕ). P ++ l) (append-assoc T N Q) in
+      let a : text-at i 54 (P ++ (T ++ (N ++ Q))) ≡ tag-text o = text-at-padded P (N ++ Q) i 54 (tag-text o) e (w .0) (w .1) in
+      let b : number-at (i + 54) (P ++ (T ++ (N ++ Q))) ≡ tag-number o =
+      rw (← append-assoc P T (N ++ Q))
+      (number-at-bytes (P ++ T) Q (i + 54) (tag-number o) (length-append P T ∙ omega (arith, length-padded tag-width (tag-text o) (w .0)))) in
+      (rw s a, rw s b)
+
+  -- and so is the tag
+  tag-at-bytes : tag-of (text-at i 54 (P ++ (tag-bytes o ++ Q))) (number-at (i + 54) (P ++ (tag-bytes o ++ Q))) ≡ o
+  tag-at-bytes = let v = tag-parts-at in rw (v .0, v .1) (tag-of-parts o h)
+
+tag-told : (o : Option Tag) → Tag-told o (tag-text o) (tag-number o)
+unfolding tag-text tag-number
+tag-told none = told-none
+tag-told (some t) = told-tag t
 
 -- a kind is read from its byte
 kind-of-byte : (k : Kind) → kind-of (kind-byte k) ≡ k
@@ -121,7 +130,20 @@ module _ (r : Row Node) (h : is-node (r .here) ≡ true) (w : (length (r .name) 
       let z = length-padded content-width (n .content) (content-fits (n .content) (i .1) .0) in
       omega arith
 
-  -- and is read back from them
+  -- its tag stands in them as text and number
+  pub tag-in-bytes : Tag-told (r .here .tag) (text-at tag-offset tag-width (row-bytes r)) (number-at tag-revision-offset (row-bytes r))
+  unfolding row-bytes two-bytes
+  tag-in-bytes =
+      let n = r .here in
+      let N = padded name-width (r .name) in
+      let C = padded content-width (n .content) in
+      let Z : List ℕ = replicate 80 0 in
+      let H : List ℕ = (r .depth ∷ kind-byte (n .kind) ∷ n .owner .0 ∷ n .group .0 ∷ []) ++ (two-bytes (n .mode) ++ two-bytes (n .revision)) in
+      let l = length-padded name-width (r .name) (w .0) in
+      let v = tag-parts-at (H ++ N) (C ++ Z) 16 (n .tag) (length-append H N ∙ omega arith) (node-parts n h .0) in
+      rw (v .0, v .1) (tag-told (n .tag))
+
+  -- and it is read back from them
   pub row-of-bytes : read-row (row-bytes r) ≡ r
   unfolding read-row row-bytes two-bytes
   row-of-bytes =

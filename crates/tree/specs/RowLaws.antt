@@ -1,14 +1,18 @@
--- A tree is read back from its rows, and there are as many as it has nodes.
+-- A tree is read back from its rows; there are as many as it has nodes, and none lies deeper than the tree is high.
 use mathlib.Core.Path.{_≡_, refl, _∙_, ap, ap₂}
 use mathlib.Core.List.{List, [], _∷_, _++_, append-assoc, append-nil}
 use mathlib.Core.Option.{some}
 use mathlib.Core.Bool.{Bool, true, false}
-use Prim.Native.Nat.{ℕ, suc, _+_}
+use Prim.Native.Nat.{ℕ, suc, _+_, _≤_}
 use native.Mathlib.Omega.{arith}
 use lib.Dec.{eqb, leb}
 use lib.ListN.{length, length-append}
 use borrow.Author.Tests.{leb-true, le-leb, eq-eqb, ne-eqb}
-use Rattle.tree.specs.Forest.{Forest, nil, node, Place, size}
+use Rattle.buffers.specs.Text.{every}
+use Rattle.buffers.specs.TextLaws.{every-append}
+use Rattle.syntax.specs.Path.{Name}
+use Rattle.tree.specs.Forest.{Forest, nil, node, Place, size, height}
+use Rattle.tree.specs.ForestLaws.{height-node}
 use Rattle.tree.specs.Rows.{Row, flatten, rows, Subtree, siblings, others, subtrees, only, tree-of}
 use Rattle.tree.specs.WellFormed.{nodes}
 
@@ -76,6 +80,22 @@ tree-of-rows t =
     ap only (subtrees-row (record { depth = 0; name = []; here = t .here }) (flatten 1 (t .below)) (t .below) [] refl
     (rw (← append-nil (flatten 1 (t .below))) (subtrees-flatten 1 (t .below) [] refl)))
 
+-- the rows of no siblings
+pub flatten-nil : (A : Type 0) (k : ℕ) → flatten {A = A} k nil ≡ []
+unfolding flatten
+flatten-nil A k = refl
+
+-- those of siblings are the first's, then those below it, then the others'
+pub flatten-node : {A : Type 0} (k : ℕ) (n : Name) (x : A) (cs rest : Forest A)
+    → flatten k (node n x cs rest) ≡ record { depth = k; name = n; here = x } ∷ (flatten (suc k) cs ++ flatten k rest)
+unfolding flatten
+flatten-node k n x cs rest = refl
+
+-- and a tree's are those of `/` and of all below it
+pub rows-are : {A : Type 0} (t : Place A) → rows t ≡ record { depth = 0; name = []; here = t .here } ∷ flatten 1 (t .below)
+unfolding rows
+rows-are t = refl
+
 -- a forest has as many rows as nodes
 pub length-flatten : {A : Type 0} (k : ℕ) (F : Forest A) → length (flatten k F) ≡ size F
 unfolding flatten size
@@ -86,3 +106,21 @@ length-flatten k (node n x cs rest) = ap suc (length-append (flatten (suc k) cs)
 pub length-rows : {A : Type 0} (t : Place A) → length (rows t) ≡ nodes t
 unfolding rows nodes
 length-rows t = ap suc (length-flatten 1 (t .below))
+
+-- the rows of a forest lie no deeper than it is high
+flatten-low : {A : Type 0} (k m : ℕ) (F : Forest A) → k + height F ≤ suc m → every (λ (r : Row A). leb (r .depth) m) (flatten k F) ≡ true
+unfolding flatten every
+flatten-low k m nil h = refl
+flatten-low k m (node n x cs rest) h =
+    let b = height-node n x cs rest in
+    rw (
+      le-leb k m (omega arith),
+      every-append (λ r. leb (r .depth) m) (flatten (suc k) cs) (flatten k rest),
+      flatten-low (suc k) m cs (omega arith),
+      flatten-low k m rest (omega arith),
+    )
+
+-- and so do those of a tree
+pub rows-low : {A : Type 0} (m : ℕ) (t : Place A) → height (t .below) ≤ m → every (λ (r : Row A). leb (r .depth) m) (rows t) ≡ true
+unfolding rows every
+rows-low m t h = rw (le-leb 0 m (omega arith)) (flatten-low 1 m (t .below) (omega arith))

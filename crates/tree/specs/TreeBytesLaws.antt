@@ -1,28 +1,37 @@
 -- What the code reads in a tree's bytes: the tree's rows, and at a place its row, where its subtree ends, and its children.
 use mathlib.Core.Path.{_≡_, refl, sym, _∙_, ap}
-use mathlib.Core.List.{List}
+use mathlib.Core.List.{List, _++_}
 use mathlib.Core.Option.{none, some}
-use mathlib.Core.Bool.{true}
-use Prim.Native.Nat.{ℕ, suc, _+_, _≤_}
+use mathlib.Core.Bool.{Bool, true}
+use Prim.Native.Nat.{ℕ, suc, _+_, _-_, _*_, _≤_, _<_}
 use native.Mathlib.Omega.{arith}
-use lib.ListN.{getD}
+use lib.Dec.{leb}
+use lib.ListN.{length, getD, take, drop, replicate}
+use lib.Seq.{drop-drop}
+use borrow.Author.Tests.{leb-true}
+use Rattle.buffers.specs.Text.{every}
+use Rattle.buffers.specs.TextLaws.{every-there}
+use Rattle.buffers.specs.Fields.{two-bytes}
+use Rattle.buffers.specs.TableLaws.{all-bytes-at}
 use Rattle.syntax.specs.Path.{Name, Path, root, _▹_, last, depth}
 use Rattle.tree.specs.declared.Child.the-variants.{Found, Missing}
+use Rattle.tree.specs.Layout.{row-width, row-start}
 use Rattle.tree.specs.Forest.{Place, get, place-at, size}
 use Rattle.tree.specs.Node.{Node}
-use Rattle.tree.specs.WellFormed.{is-tree, nodes}
+use Rattle.tree.specs.WellFormed.{most-nodes, is-tree, nodes}
 use Rattle.tree.specs.UpdateLaws.{by-option, place-at-root, place-at-child}
 use Rattle.tree.specs.WellFormedLaws.{tree-parts}
 use Rattle.tree.specs.Rows.{Row, rows}
-use Rattle.tree.specs.RowLaws.{length-rows}
+use Rattle.tree.specs.RowLaws.{length-rows, rows-low}
 use Rattle.tree.specs.RowScan.{end-of-subtree, child-in}
 use Rattle.tree.specs.RowPlaces.{index-of, Around, lesser}
 use Rattle.tree.specs.RowPlacesLaws.{around}
 use Rattle.tree.specs.RowChangesLaws.{tree-sorted}
 use Rattle.tree.specs.RowScanLaws.{row-of-place, depth-of-place, index-bound, subtree-span, child-in-rows, no-child-in-rows, missing-not-found}
-use Rattle.tree.specs.Encoding.{encode-tree}
-use Rattle.tree.specs.EncodingLaws.{tree-width-is, length-encode-tree}
-use Rattle.tree.specs.RowAt.{row-count, row-at, all-rows}
+use Rattle.tree.specs.Encoding.{Tag-told, row-bytes, encode-rows, encode-tree}
+use Rattle.tree.specs.RowBytesLaws.{tag-in-bytes}
+use Rattle.tree.specs.EncodingLaws.{fits, fits-parts, tree-fits, length-fitting, tree-width-is, length-encode-tree}
+use Rattle.tree.specs.RowAt.{row-count, row-bytes-at, row-at, all-rows, tag-text-at, tag-number-at}
 use Rattle.tree.specs.TreeBytes.{Used, Encodes, At}
 use Rattle.tree.specs.RowAtLaws.{row-in-rows, all-rows-of-tree, row-count-of-tree}
 
@@ -47,6 +56,43 @@ module _ {b : List ℕ} {t : Place Node} (e : Encodes b t) where
   -- one for each node
   pub encoded-count : row-count b ≡ nodes t
   encoded-count = ap row-count (e .bytes) ∙ row-count-of-tree t (e .whole) ∙ length-rows t
+
+  module _ {i : ℕ} (h : i < row-count b) where
+    -- the row at an index is one of the tree's
+    encoded-row : (z : Row Node) → getD (rows t) i z ≡ row-at b i
+    encoded-row z = ap (λ (rs : List (Row Node)). getD rs i z) (sym encoded-rows) ∙ row-in-rows b i z h
+
+    there-are : i < length (rows t)
+    there-are = omega (arith, encoded-count, length-rows t)
+
+    -- what holds of each of these holds of it
+    encoded-every : (f : Row Node → Bool) → every f (rows t) ≡ true → f (row-at b i) ≡ true
+    encoded-every f k = let z = row-at b i in ap f (sym (encoded-row z)) ∙ every-there f (rows t) i z k there-are
+
+    -- it lies no deeper than a path has names
+    pub encoded-depth : row-at b i .depth ≤ 6
+    encoded-depth = leb-true (row-at b i .depth) 6 (encoded-every (λ r. leb (r .depth) 6) (rows-low 6 t (tree-parts t (e .whole) .low)))
+
+    -- its node is in range, and its name fits
+    pub encoded-fits : fits (row-at b i) ≡ true
+    encoded-fits = encoded-every fits (tree-fits t (e .whole) .0)
+
+    -- its bytes are those of the row that is read
+    pub encoded-row-bytes : row-bytes-at b i ≡ row-bytes (row-at b i)
+    unfolding row-bytes-at encode-tree encode-rows two-bytes
+    encoded-row-bytes =
+        let z = row-at b i in
+        let rs = rows t in
+        let Z : List ℕ = replicate ((most-nodes - length rs) * row-width) 0 in
+        ap (λ (s : List ℕ). take row-width (drop (row-start i) s)) (e .bytes)
+        ∙ ap (take row-width) (sym (drop-drop (row-width * i) 2 (encode-rows rs)))
+        ∙ all-bytes-at row-width fits row-bytes length-fitting rs i Z z (tree-fits t (e .whole) .0) there-are
+        ∙ ap row-bytes (encoded-row z)
+
+    -- so its tag is told by the text and the number there
+    pub encoded-tag : Tag-told (row-at b i .here .tag) (tag-text-at b i) (tag-number-at b i)
+    unfolding tag-text-at tag-number-at
+    encoded-tag = let w = fits-parts (row-at b i) encoded-fits in rw encoded-row-bytes (tag-in-bytes (row-at b i) (w .0) (w .1))
 
   -- a place has a row
   pub at-index : {p : Path} {d : Place Node} → place-at t p ≡ some d → At b t p (index-of t p) d
