@@ -1,3 +1,5 @@
 pub mod Listing
 pub mod ListingLaws
+pub mod RowListing
+pub mod RowListingLaws
 pub mod Compute

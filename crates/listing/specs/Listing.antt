@@ -1,9 +1,11 @@
 -- The listing: all nodes by path in byte order, a line each.
 --
 -- `/` is less than every byte of a name, so byte order of paths is preorder with siblings in byte order.
+use mathlib.Core.Path.{_≡_}
 use mathlib.Core.List.{List, [], _∷_, _++_}
 use mathlib.Core.Option.{Option, none, some}
 use Prim.Native.Nat.{ℕ}
+use lib.ListN.{length, drop}
 use Rattle.buffers.specs.Text.{Text}
 use Rattle.syntax.specs.Pieces.{bytes, comma, joined}
 use Rattle.syntax.specs.Number.{decimal-text, mode-text}
@@ -39,3 +41,10 @@ forest-lines p (node n x cs rest) = node-line (p ▹ n) x ∷ (forest-lines (p �
 
 unfoldable pub listing : Place Node → List Text
 listing t = node-line root (t .here) ∷ forest-lines root (t .below)
+
+-- b is the answer a with a line that is there written in front, and r tells the line's length
+pub record Line-written (line : Option Text) (a : List ℕ) (r : ℕ) (b : List ℕ) : Type 0 where
+  pub text : Text
+  pub there : line ≡ some text
+  pub size : r ≡ length text
+  pub holds : b ≡ text ++ drop (length text) a

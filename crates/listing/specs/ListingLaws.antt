@@ -1,13 +1,14 @@
--- The listing has a line for each node, and no line is longer than `longest-listing-line`; there are lines of that length.
-use mathlib.Core.Path.{_≡_, refl, sym}
-use mathlib.Core.List.{[], _∷_}
+-- The listing has a line for each node and no other, and no line is longer than `longest-listing-line`; there are lines of that length.
+use mathlib.Core.Path.{_≡_, refl, sym, _∙_}
+use mathlib.Core.List.{List, [], _∷_}
 use mathlib.Core.Option.{Option, none, some}
 use mathlib.Core.Bool.{Bool, true}
-use Prim.Native.Nat.{ℕ, _+_, _≤_}
+use Prim.Native.Nat.{ℕ, zero, suc, _+_, _≤_, _<_}
 use native.Mathlib.Omega.{arith}
-use borrow.Author.Tests.{ltb-true, leb-true, le-leb}
-use lib.Dec.{leb}
-use lib.ListN.{length, getD, length-append}
+use borrow.Author.Tests.{ltb-true, ltb-false, leb-true, le-leb}
+use lib.Dec.{leb, ltb}
+use lib.ListN.{length, getD, getElem?, length-append}
+use Rattle.buffers.specs.Cases.{case}
 use Rattle.buffers.specs.Text.{Text, every}
 use Rattle.buffers.specs.TextLaws.{every-append}
 use Rattle.syntax.specs.Pieces.{bytes, comma, joined}
@@ -18,6 +19,7 @@ use Rattle.syntax.specs.NumberLaws.{decimal-length, mode-length}
 use Rattle.syntax.specs.Path.{Path, root, _▹_, depth, most-names, has-names, is-path, path-text, entry-text}
 use Rattle.syntax.specs.PathLaws.{path-text-fits, entry-text-length, path-more}
 use Rattle.syntax.specs.FieldLaws.{content-length}
+use Rattle.syntax.specs.FormLaws.{no-answer}
 use Rattle.tree.specs.declared.Kind.{Kind}
 use Rattle.tree.specs.declared.Kind.the-variants.{File, Directory}
 use Rattle.tree.specs.Forest.{Forest, nil, node, Place, size, height}
@@ -47,6 +49,32 @@ listing-length t = rw (forest-length root (t .below), nodes-below t)
 -- so at most 256
 pub listing-few : (t : Place Node) → is-tree t ≡ true → length (listing t) ≤ 256
 listing-few t h = rw (listing-length t) (tree-parts t h .few)
+
+-- ---- which lines there are
+
+elem-there : {A : Type 0} (l : List A) (n : ℕ) → n < length l → (a : A) × (getElem? l n ≡ some a)
+elem-there [] n h = let z : ⊥ = omega arith in absurd z
+elem-there (a ∷ l) zero h = (a, refl)
+elem-there (a ∷ l) (suc n) h = elem-there l n (omega arith)
+
+elem-past : {A : Type 0} (l : List A) (n : ℕ) → length l ≤ n → getElem? l n ≡ none
+elem-past [] n h = refl
+elem-past (a ∷ l) zero h = let z : ⊥ = omega arith in absurd z
+elem-past (a ∷ l) (suc n) h = elem-past l n (omega arith)
+
+module _ (t : Place Node) (n : ℕ) where
+  -- one for each number below that of the nodes
+  pub line-there : n < nodes t → (x : Text) × (getElem? (listing t) n ≡ some x)
+  line-there h = elem-there (listing t) n (omega (arith, listing-length t))
+
+  -- and none for any other
+  pub no-line : nodes t ≤ n → getElem? (listing t) n ≡ none
+  no-line h = elem-past (listing t) n (omega (arith, listing-length t))
+
+  pub only-past : getElem? (listing t) n ≡ none → nodes t ≤ n
+  only-past e = case (ltb n (nodes t))
+      (λ h. let i = line-there (ltb-true n (nodes t) h) in let z : none ≡ some (i .0) = sym e ∙ i .1 in no-answer z)
+      (λ h. ltb-false n (nodes t) h)
 
 -- ---- how long a line is
 
