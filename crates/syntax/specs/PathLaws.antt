@@ -69,6 +69,10 @@ unfolding extended names
 extended-names root = refl
 extended-names (p ▹ n) = rw (extended-last root (names p) n, extended-names p)
 
+-- every path is made of names from the top
+pub names-from-root : (p : Path) → (ns : List Name) × (extended root ns ≡ p)
+names-from-root p = (names p, extended-names p)
+
 -- one piece more is joined behind a separator
 joined-last : (b : ℕ) (p : Text) (ps : List Text) (n : Text) → joined b (p ∷ (ps ++ (n ∷ []))) ≡ joined b (p ∷ ps) ++ (b ∷ n)
 unfolding joined
@@ -176,6 +180,13 @@ entry-at-sound (p ▹ n) e h =
     let i : _ = both-read (without-rep p) (λ f. some (record { folder = f; name = n })) e h in
     let q : e ≡ record { folder = i .0; name = n } = answered (i .2) in
     rw (q, without-rep-sound p (i .0) (i .1))
+
+-- a text that is read as an entry path is read as the path of its location
+pub entry-reads : (t : Text) (e : Entry-path) → entry-path t ≡ some e → path t ≡ some (entry-location e)
+unfolding entry-path _>>=_
+entry-reads t e h =
+    let i : _ = both-read (path t) entry-at e h in
+    i .1 ∙ ap some (sym (entry-at-sound (i .0) e (i .2)))
 
 -- what is read as an entry path is one
 pub entry-is-entry : (t : Text) (e : Entry-path) → entry-path t ≡ some e → is-entry-path e ≡ true

@@ -80,7 +80,8 @@ tree-update t p f d h e k w l m =
 
 -- ---- a payload altered
 
-alter-at : (t : Place Node) (p : Path) (d : Place Node) (g : Node → Node) → is-tree t ≡ true → place-at t p ≡ some d
+-- a node altered where it stands, its kind kept
+pub alter-at : (t : Place Node) (p : Path) (d : Place Node) (g : Node → Node) → is-tree t ≡ true → place-at t p ≡ some d
     → is-node (g (d .here)) ≡ true → g (d .here) .kind ≡ d .here .kind → is-tree (update p (alter g) t) ≡ true
 unfolding alter
 alter-at t p d g h e w k =

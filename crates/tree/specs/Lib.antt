@@ -43,5 +43,7 @@ pub mod RowAt
 pub mod TreeBytes
 pub mod RowAtLaws
 pub mod TreeBytesLaws
+pub mod AlterLaws
+pub mod TagBytesLaws
 pub mod Compute
 pub mod LargestTrees

@@ -55,7 +55,8 @@ unfolding is-tag tag-text lacks every
 tag-fits none h = (omega arith, refl)
 tag-fits (some t) h = entry-text-fits (t .path) (and-both (is-entry-path (t .path)) (leb (t .revision) last-revision) h .0)
 
-no-entry : entry-path [] ≡ none
+-- nothing is no entry path
+pub no-entry : entry-path [] ≡ none
 unfolding entry-path path same-text bytes pieces names-from-top every check _>>_ _>>=_
 no-entry = refl
 
@@ -64,6 +65,9 @@ unfolding is-tag tag-of tag-text tag-number _>>=_
 tag-of-parts none h = rw no-entry
 tag-of-parts (some t) h =
     rw (entry-of-text (t .path) (and-both (is-entry-path (t .path)) (leb (t .revision) last-revision) h .0))
+
+regroup-tag : (h n t v q : List ℕ) → h ++ (n ++ ((t ++ v) ++ q)) ≡ (h ++ n) ++ (t ++ (v ++ q))
+regroup-tag h n t v q = simp append-assoc
 
 -- a tag takes 56 bytes
 pub length-tag-bytes : (o : Option Tag) → is-tag o ≡ true → length (tag-bytes o) ≡ 56
@@ -94,6 +98,18 @@ tag-told : (o : Option Tag) → Tag-told o (tag-text o) (tag-number o)
 unfolding tag-text tag-number
 tag-told none = told-none
 tag-told (some t) = told-tag t
+
+-- where there is no tag, the text is empty
+pub untagged-text : (r : Row Node) → length (r .name) ≤ 8 → r .here .tag ≡ none → text-at tag-offset tag-width (row-bytes r) ≡ []
+unfolding tag-text tag-number lacks every
+untagged-text r l e =
+    let N = padded name-width (r .name) in
+    let Q = padded content-width (r .here .content) ++ row-spare in
+    let parts : row-bytes r ≡ (row-head r ++ N) ++ (padded tag-width [] ++ (two-bytes 0 ++ Q)) =
+    row-parts r ∙ ap (λ (o : Option Tag). row-head r ++ (N ++ (tag-bytes o ++ Q))) e ∙ ap (λ (x : List ℕ). row-head r ++ (N ++ (x ++ Q))) (tag-parts none)
+    ∙ regroup-tag (row-head r) N (padded tag-width []) (two-bytes 0) Q in
+    ap (text-at tag-offset tag-width) parts
+    ∙ text-at-padded (row-head r ++ N) (two-bytes 0 ++ Q) 16 54 [] (length-append (row-head r) N ∙ omega (arith, length-row-head r, length-padded name-width (r .name) l)) (omega arith) refl
 
 -- a kind is read from its byte
 kind-of-byte : (k : Kind) → kind-of (kind-byte k) ≡ k

@@ -70,7 +70,7 @@ module _ {A : Type 0} where
       (λ t. rw (t, at-replaced n f rest d (rw t at e)))
 
   -- and so is a change of the place at a path
-  update-at : (t : Place A) (p : Path) (f : Place A → Place A) (d : Place A) → place-at t p ≡ some d → update p f t ≡ update p (λ x. f d) t
+  pub update-at : (t : Place A) (p : Path) (f : Place A → Place A) (d : Place A) → place-at t p ≡ some d → update p f t ≡ update p (λ x. f d) t
   unfolding update under place-at
   update-at t root f d e = ap f (sym (answered e))
   update-at t (p ▹ n) f d e =
