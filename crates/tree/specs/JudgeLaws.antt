@@ -1,5 +1,6 @@
 -- What the access test's judge says of a node, and what a node's setters leave, each as an equation, for the crates above.
 use mathlib.Core.Path.{_≡_, refl, sym}
+use mathlib.Core.Option.{some}
 use mathlib.Core.Bool.{true, false, _&&_, _||_, not}
 use Prim.Native.Nat.{ℕ}
 use Rattle.buffers.specs.Text.{Text}
@@ -10,7 +11,7 @@ use Rattle.accounts.specs.declared.Account.{Account}
 use Rattle.accounts.specs.Access.{may}
 use Rattle.tree.specs.declared.Kind.{Kind}
 use Rattle.tree.specs.declared.Kind.the-variants.{File, Directory}
-use Rattle.tree.specs.Node.{is-directory, same-kind, Node, allows, set-revision, set-content}
+use Rattle.tree.specs.Node.{is-directory, same-kind, Tag, Node, allows, set-revision, set-tag, set-content}
 use Rattle.tree.specs.declared.Cause.the-variants.{Access, Exists}
 use Rattle.tree.specs.Result.{done, _>>=_, _>>_, require}
 use Rattle.tree.specs.Forest.{Place}
@@ -64,6 +65,11 @@ module _ (n : Node) where
       set-revision v n ≡ record { kind = n .kind; owner = n .owner; group = n .group; mode = n .mode; revision = v; tag = n .tag; content = n .content }
   unfolding set-revision
   set-revision-is v = refl
+
+  pub set-tag-is : (t : Tag) →
+      set-tag t n ≡ record { kind = n .kind; owner = n .owner; group = n .group; mode = n .mode; revision = n .revision; tag = some t; content = n .content }
+  unfolding set-tag
+  set-tag-is t = refl
 
   pub set-content-is : (c : Text) →
       set-content c n ≡ record { kind = n .kind; owner = n .owner; group = n .group; mode = n .mode; revision = n .revision; tag = n .tag; content = c }

@@ -41,7 +41,7 @@ use Rattle.walks.specs.RowWalkLaws.{outcome-refused, outcome-at}
 use Rattle.walks.specs.WalkBytes.{spot-of, Came}
 
 -- by what an outcome is
-by-result : {A P : Type 0} (r : Result A) → ((k : Cause) → r ≡ refused k → P) → ((a : A) → r ≡ done a → P) → P
+pub by-result : {A P : Type 0} (r : Result A) → ((k : Cause) → r ≡ refused k → P) → ((a : A) → r ≡ done a → P) → P
 by-result (refused k) f g = f k refl
 by-result (done a) f g = g a refl
 

@@ -1,0 +1,5 @@
+pub mod EntrySteps
+pub mod LinkLaws
+pub mod RemovalLaws
+pub mod EntryStepsLaws
+pub mod TestsLaws

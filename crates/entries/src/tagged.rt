@@ -1,0 +1,84 @@
+// Where a working file and its entry stand: the checks that `commit` and `up` share.
+ghost use mathlib.Core.Path.{_≡_};
+ghost use Rattle.syntax.specs.Path.{Path};
+ghost use Rattle.tree.specs.Forest.{Place};
+ghost use Rattle.tree.specs.Node.{Node};
+ghost use Rattle.tree.specs.RowAt.{row-at};
+ghost use Rattle.tree.specs.TreeBytes.{Has-row, Whole, Path-text, Whichever, At};
+ghost use Rattle.walks.specs.RowWalk.{spot, outcome};
+ghost use Rattle.entries.specs.EntrySteps.{file-tests, file-walk, link-on, link, rows-from, spot-from, passing, links-told, Some-place};
+use crate::Links;
+use accounts::Account;
+use accounts::Right;
+use tree::Cause;
+use tree::Kind;
+use tree::kind_at;
+use tree::tag_path_at;
+use walks::Walked;
+use walks::may_at;
+use walks::walk;
+
+// A file with the right, else why not.
+fn judge_file(tree: &[u8], account: Account, right: Right, row: usize, above: usize) -> Walked
+    requires { ⌜ Has-row (now tree) row ⌝ }
+    ensures { λ r. ⌜ outcome r ≡ passing (file-tests account right (row-at (now (tree .entry)) row .here)) (spot row above) ⌝ }
+{
+    match kind_at(tree, row) {
+        Kind::Directory => Walked::Refused(Cause::WrongKind),
+        Kind::File => {
+            if !may_at(tree, row, account, right) {
+                return Walked::Refused(Cause::Access);
+            }
+            Walked::To { row, above }
+        }
+    }
+}
+
+// The walk to a file at which the account has a right.
+fn walk_file(tree: &[u8], account: Account, right: Right, path: &[u8]) -> Walked
+    requires { ⌜ Whole (now tree) ⌝ }
+    requires { ⌜ Path-text (now path) ⌝ }
+    ensures { λ r. ⌜ Whichever (now (tree .entry)) (now (path .entry)) (λ t p. outcome r ≡ spot-from t p (file-walk account right t p)) ⌝ }
+{
+    match walk(tree, account, path) {
+        Walked::To { row, above } => judge_file(tree, account, right, row, above),
+        Walked::Refused(cause) => Walked::Refused(cause),
+    }
+}
+
+// From a working file to the entry that its tag leads to.
+fn entry_rows(tree: &[u8], account: Account, working: usize) -> Links
+    requires { ⌜ Some-place (now tree) working ⌝ }
+    ensures { λ r. ⌜ ((t : Place Node) (p : Path) (d : Place Node) → At (now (tree .entry)) t p working d → links-told r ≡ rows-from t (link-on account t p d)) ⌝ }
+{
+    let path = tag_path_at(tree, working);
+    if path.len() == 0 {
+        return Links::Refused(Cause::Untagged);
+    }
+    match walk_file(tree, account, Right::R, path) {
+        Walked::To { row, above } => Links::To {
+            working,
+            entry: row,
+            above,
+        },
+        Walked::Refused(cause) => Links::Refused(cause),
+    }
+}
+
+// The person's walk to a working file, and the account's to its entry.
+pub fn linked_rows(
+    tree: &[u8],
+    person: Account,
+    right: Right,
+    account: Account,
+    working: &[u8],
+) -> Links
+    requires { ⌜ Whole (now tree) ⌝ }
+    requires { ⌜ Path-text (now working) ⌝ }
+    ensures { λ r. ⌜ Whichever (now (tree .entry)) (now (working .entry)) (λ t w. links-told r ≡ rows-from t (link person right account t w)) ⌝ }
+{
+    match walk_file(tree, person, right, working) {
+        Walked::To { row, above: _ } => entry_rows(tree, account, row),
+        Walked::Refused(cause) => Links::Refused(cause),
+    }
+}
