@@ -186,7 +186,7 @@ module _ (o B : List ℕ) (n i to : ℕ) (h : i < to) (fits : to ≤ most-rows) 
   depth-beside = ap (λ (l : List ℕ). read-row l .depth) row-beside
 
 -- the depth is the first byte
-depth-of-bytes : (r : Row Node) → read-row (row-bytes r) .depth ≡ r .depth
+pub depth-of-bytes : (r : Row Node) → read-row (row-bytes r) .depth ≡ r .depth
 unfolding read-row row-bytes two-bytes
 depth-of-bytes r = refl
 

@@ -1,14 +1,21 @@
--- The copies of an entry: where it stands among the rows of its tree, what its copy asks for, and what is written.
+-- The copies of an entry: what a text that reads as its path gives, where it stands among the rows of its tree, what its copy asks for,
+-- and what is written.
 use mathlib.Core.Path.{_≡_, _∙_, ap}
 use mathlib.Core.List.{List}
+use mathlib.Core.Option.{some}
 use Prim.Native.Nat.{ℕ, _+_, _≤_}
 use native.Mathlib.Omega.{arith}
 use lib.ListN.{length, drop}
+use Rattle.buffers.specs.Text.{Text}
 use Rattle.accounts.specs.declared.Gid.{Gid}
-use Rattle.syntax.specs.Path.{Name, depth, last}
-use Rattle.syntax.specs.PathLaws.{entry-text-fits}
+use Rattle.syntax.specs.Path.{Name, Entry-path, depth, last, entry-location, entry-path}
+use Rattle.syntax.specs.PathLaws.{entry-is-entry, entry-text-fits}
+use Rattle.syntax.specs.ParentLaws.{text-of-entry}
 use Rattle.syntax.specs.FieldLaws.{content-fits}
 use Rattle.tree.specs.Layout.{name-width, tag-width}
+use Rattle.tree.specs.Forest.{Place}
+use Rattle.tree.specs.Node.{Node, new-node}
+use Rattle.tree.specs.UpdateLaws.{height-below}
 use Rattle.tree.specs.WellFormedLaws.{Place-parts, place-parts, place-below, tree-parts}
 use Rattle.tree.specs.RowPlaces.{index-of}
 use Rattle.tree.specs.RowPlacesLaws.{around}
@@ -16,13 +23,32 @@ use Rattle.tree.specs.RowScanLaws.{rows-from-place}
 use Rattle.tree.specs.Encoding.{encode-tree}
 use Rattle.tree.specs.RowBytesLaws.{node-parts}
 use Rattle.tree.specs.RowAt.{row-at, all-rows}
-use Rattle.tree.specs.TreeBytes.{Wide, Used}
+use Rattle.tree.specs.TreeBytes.{Wide, Used, At}
 use Rattle.tree.specs.RowAtLaws.{all-rows-of-tree}
 use Rattle.tree.specs.TreeBytesLaws.{at-used, at-within, at-row}
 use Rattle.copying.specs.declared.Copier.{Copier}
+use Rattle.copying.specs.Copying.{copy-mode}
 use Rattle.copying.specs.CopyRows.{deepest, most-levels, Holds-row, row-put, Stands, tagged-row, children, Job, job-rows, Written, Entry-job, entry-copy, first-row, entry-rows}
 use Rattle.copying.specs.CopyRowLaws.{row-held}
 use Rattle.copying.specs.CopyJobLaws.{Fits, copy-wide, below-copy, place-written}
+
+-- an entry is one to copy once the walk along its path has come to it: no path of the tree is too long for a tag
+pub entry-job : (w : Copier) {b : List ℕ} {t : Place Node} {at : ℕ} {group : Gid} {d : Place Node} {e : Entry-path} (s : Text) (parent : Node) → entry-path s ≡ some e
+    → At b t (entry-location e) at d → group ≡ new-node (w .caller) parent (d .here .kind) (copy-mode (d .here .kind)) .group → Entry-job w b at group s
+entry-job w {t = t} {d = d} {e = e} s parent reads a given =
+    let v = tree-parts t (a .tree .whole) in
+    record {
+      top = t;
+      spot = entry-location e;
+      place = d;
+      found = a;
+      entry = e;
+      parent = parent;
+      text = text-of-entry s e reads;
+      valid = entry-is-entry s e reads;
+      short = omega (arith, height-below t (entry-location e) d (a .there), v .low);
+      given = given;
+    }
 
 module _ {w : Copier} {b : List ℕ} {at : ℕ} {group : Gid} {path : List ℕ} (j : Entry-job w b at group path) where
   entry-used : Used b at

@@ -2,17 +2,19 @@
 -- leaves. Only the entry as a whole is found by its path in the tree; all below it is found by its rows.
 use mathlib.Core.Path.{_≡_}
 use mathlib.Core.List.{List, _++_}
-use mathlib.Core.Bool.{true, false}
-use Prim.Native.Nat.{ℕ, suc, _+_, _*_, _≤_, _<_}
+use mathlib.Core.Bool.{Bool, true, false}
+use Prim.Native.Nat.{ℕ, zero, suc, _+_, _*_, _≤_, _<_}
+use lib.Dec.{eqb}
 use lib.ListN.{length, drop}
 use lib.Seq.{paste}
+use Rattle.buffers.specs.Text.{every}
 use Rattle.buffers.specs.Fields.{all-bytes}
 use Rattle.accounts.specs.declared.Uid.{Uid}
 use Rattle.accounts.specs.declared.Gid.{Gid}
 use Rattle.syntax.specs.Number.{set-gid}
 use Rattle.syntax.specs.Path.{Name, Path, Entry-path, depth, entry-location, is-entry-path, entry-text}
 use Rattle.tree.specs.Layout.{row-width, most-rows, row-start}
-use Rattle.tree.specs.Forest.{Forest, nil, node, Place, size, height}
+use Rattle.tree.specs.Forest.{Forest, nil, node, Place, size, larger, height}
 use Rattle.tree.specs.Node.{Node, set-tag, new-node}
 use Rattle.tree.specs.Walk.{by-modes}
 use Rattle.tree.specs.WellFormed.{is-node, is-forest}
@@ -127,11 +129,24 @@ pub record Job (what : Name → Place Node → Forest Node) (b o : List ℕ) (at
 unfoldable pub job-rows : {what : Name → Place Node → Forest Node} {b o : List ℕ} {at above to left : ℕ} → Copier → Job what b o at above to left → List (Row Node)
 job-rows {what} {b} {o} {at} {above} {to} {left} w j = copy-rows w (row-at o above .depth) (j .below .parent) (j .below .entry) (what (j .name) (j .place))
 
+-- whether a row has as many bytes as rows have
+unfoldable pub is-wide : Row Node → Bool
+is-wide r = eqb (length (row-bytes r)) row-width
+
 -- rows written from row `to` on, and nothing else: r is the row behind them
 pub record Written (o : List ℕ) (to : ℕ) (rs : List (Row Node)) (r : ℕ) (z : List ℕ) : Type 0 where
   pub next : r ≡ to + length rs
   pub bytes : z ≡ paste o (row-start to) (all-bytes row-bytes rs) (row-width * length rs)
-  pub wide : length (all-bytes row-bytes rs) ≡ row-width * length rs
+  pub wide : every is-wide rs ≡ true
+
+-- the rows of whatever job this is are written
+abbrev pub Job-written : (Name → Place Node → Forest Node) → Copier → List ℕ → List ℕ → ℕ → ℕ → ℕ → ℕ → ℕ → List ℕ → Type 0
+Job-written what w b o at above to left r z = (j : Job what b o at above to left) → Written o to (job-rows w j) r z
+
+-- the greatest of a number m and the depths of n rows from row i on
+unfoldable pub deepest-from : List ℕ → ℕ → ℕ → ℕ → ℕ
+deepest-from b m i zero = m
+deepest-from b m i (suc n) = deepest-from b (larger m (row-at b i .depth)) (suc i) n
 
 -- an entry to copy: the place at row `at` of a tree's bytes, with its path as text, and the group of a new node in the directory that the copy goes to
 pub record Entry-job (w : Copier) (b : List ℕ) (at : ℕ) (group : Gid) (path : List ℕ) : Type 0 where

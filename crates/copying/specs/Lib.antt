@@ -4,6 +4,7 @@ pub mod CopyRows
 pub mod CopyRowLaws
 pub mod CopyBytesLaws
 pub mod RowsWrittenLaws
+pub mod DepthLaws
 pub mod CopyJobLaws
 pub mod CopyEntryLaws
 pub mod Compute

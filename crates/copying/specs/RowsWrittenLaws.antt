@@ -1,11 +1,16 @@
 -- Rows written one behind the other: none, one, and others behind them; what stays of the bytes before.
 use mathlib.Core.Path.{_≡_, refl, sym, _∙_, ap}
 use mathlib.Core.List.{List, [], _∷_, _++_, append-nil}
+use mathlib.Core.Bool.{true}
 use Prim.Native.Nat.{ℕ, _+_, _*_, _≤_, _<_}
 use native.Mathlib.Omega.{arith}
 use lib.ListN.{length, length-append}
 use lib.Seq.{paste, paste-zero, length-paste}
+use borrow.Author.Tests.{eqb-true, eq-eqb}
+use Rattle.buffers.specs.Text.{every}
+use Rattle.buffers.specs.TextLaws.{every-append}
 use Rattle.buffers.specs.Fields.{all-bytes}
+use Rattle.buffers.specs.TableLaws.{length-all-bytes}
 use Rattle.buffers.specs.PasteLaws.{paste-join}
 use Rattle.tree.specs.Layout.{row-width, most-rows, row-start}
 use Rattle.tree.specs.Node.{Node}
@@ -14,24 +19,33 @@ use Rattle.tree.specs.Encoding.{row-bytes}
 use Rattle.tree.specs.RowAt.{row-at, tag-text-at}
 use Rattle.tree.specs.TreeBytes.{Wide}
 use Rattle.edits.specs.EncodedRowsLaws.{all-append}
-use Rattle.copying.specs.CopyRows.{row-put, Written}
+use Rattle.copying.specs.CopyRows.{row-put, is-wide, Written}
 use Rattle.copying.specs.CopyBytesLaws.{tag-beside, depth-beside}
 
 -- the same rows under another name
 pub written-as : {o z : List ℕ} {to r : ℕ} {xs ys : List (Row Node)} → xs ≡ ys → Written o to xs r z → Written o to ys r z
 written-as q v = rw q at v
 
+-- a row that is as wide as rows are
+pub row-is-wide : (r : Row Node) → is-wide r ≡ true → length (row-bytes r) ≡ row-width
+unfolding is-wide
+row-is-wide r h = eqb-true (length (row-bytes r)) row-width h
+
+-- rows written take their widths
+pub written-width : {o z : List ℕ} {to r : ℕ} {rs : List (Row Node)} → Written o to rs r z → length (all-bytes row-bytes rs) ≡ row-width * length rs
+written-width {rs = rs} v = length-all-bytes row-width is-wide row-bytes row-is-wide rs (v .wide) ∙ omega arith
+
 -- no rows
 pub written-nothing : (o : List ℕ) (to : ℕ) → Written o to [] to o
-unfolding all-bytes
+unfolding all-bytes every
 written-nothing o to = record { next = omega arith; bytes = paste-zero o (row-start to) []; wide = refl }
 
 -- one row
 pub written-one : (o z : List ℕ) (to : ℕ) (r : Row Node) → length (row-bytes r) ≡ row-width → z ≡ row-put o to r → Written o to (r ∷ []) (to + 1) z
-unfolding all-bytes
+unfolding all-bytes every is-wide
 written-one o z to r l e =
     let q = append-nil (row-bytes r) in
-    record { next = omega arith; bytes = e ∙ ap (λ (s : List ℕ). paste o (row-start to) s row-width) (sym q); wide = ap length q ∙ l }
+    record { next = omega arith; bytes = e ∙ ap (λ (s : List ℕ). paste o (row-start to) s row-width) (sym q); wide = rw (eq-eqb (length (row-bytes r)) row-width l) }
 
 module _ {o z : List ℕ} {to r : ℕ} {xs : List (Row Node)} (v : Written o to xs r z) (wide : Wide o) where
   -- and others behind them
@@ -49,17 +63,17 @@ module _ {o z : List ℕ} {to r : ℕ} {xs : List (Row Node)} (v : Written o to 
             w .bytes
             ∙ ap (λ (b : List ℕ). paste b (row-start r) Y (row-width * length ys)) (v .bytes)
             ∙ ap (λ (j : ℕ). paste (paste o (row-start to) X (row-width * length xs)) j Y (row-width * length ys)) i
-            ∙ paste-join o X Y (row-start to) (row-width * length xs) (row-width * length ys) (v .wide) (w .wide) (omega arith)
+            ∙ paste-join o X Y (row-start to) (row-width * length xs) (row-width * length ys) (written-width v) (written-width w) (omega arith)
             ∙ ap (paste o (row-start to) (X ++ Y)) s
             ∙ ap (λ (b : List ℕ). paste o (row-start to) b (row-width * length (xs ++ ys))) (sym a);
-        wide = ap length a ∙ length-append X Y ∙ omega (arith, v .wide, w .wide);
+        wide = every-append is-wide xs ys ∙ rw (v .wide, w .wide);
       }
 
   -- as many bytes are left
   pub written-wide : to + length xs ≤ most-rows → Wide z
   written-wide fits =
       let X = all-bytes row-bytes xs in
-      ap length (v .bytes) ∙ length-paste o (row-start to) X (row-width * length xs) (omega arith) (omega (arith, v .wide)) ∙ wide
+      ap length (v .bytes) ∙ length-paste o (row-start to) X (row-width * length xs) (omega arith) (omega (arith, written-width v)) ∙ wide
 
   module _ (i : ℕ) (h : i < to) (fits : to ≤ most-rows) where
     -- the tags of the rows before them stay

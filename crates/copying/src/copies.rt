@@ -6,7 +6,7 @@ ghost use Rattle.tree.specs.Layout.{name-width};
 ghost use Rattle.tree.specs.RowAt.{row-at};
 ghost use Rattle.tree.specs.TreeBytes.{Wide, Has-row};
 ghost use Rattle.copying.specs.Copying.{copy-mode};
-ghost use Rattle.copying.specs.CopyRows.{deepest, most-levels, Holds-row, row-put, handed-row, Spelled, child-row, children, alone, Job, job-rows, Written, Entry-job, first-row, entry-rows};
+ghost use Rattle.copying.specs.CopyRows.{deepest, most-levels, Holds-row, row-put, handed-row, Spelled, child-row, children, alone, Job, Job-written, Written, Entry-job, first-row, entry-rows};
 use crate::Copier;
 use accounts::Gid;
 use accounts::Uid;
@@ -99,7 +99,7 @@ fn copy_node(
     to: usize,
 ) -> usize
     requires { ⌜ Job alone (now tree) (now out) at above to (suc left) ⌝ }
-    ensures { λ r. ⌜ ((j : Job alone (now (tree .entry)) (now (out .entry)) at above to (suc left)) → Written (now (out .entry)) to (job-rows who j) r (now (out .exit))) ⌝ }
+    ensures { λ r. ⌜ Job-written alone who (now (tree .entry)) (now (out .entry)) at above to (suc left) r (now (out .exit)) ⌝ }
 {
     let reader = who.reader;
     if !readable_at(tree, at, reader) {
@@ -120,7 +120,7 @@ fn copy_children(
     to: usize,
 ) -> usize
     requires { ⌜ Job children (now tree) (now out) at above to left ⌝ }
-    ensures { λ r. ⌜ ((j : Job children (now (tree .entry)) (now (out .entry)) at above to left) → Written (now (out .entry)) to (job-rows who j) r (now (out .exit))) ⌝ }
+    ensures { λ r. ⌜ Job-written children who (now (tree .entry)) (now (out .entry)) at above to left r (now (out .exit)) ⌝ }
 {
     if left == 0 {
         return to;

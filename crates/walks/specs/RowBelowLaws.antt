@@ -3,7 +3,7 @@
 -- In order:
 --   the rows below by index, the greatest depth among them and their names, row by row: below-go to name-elsewhere;
 --   the three answers by index: children-by-next to child-text-from;
---   on siblings' rows: first-deeper to names-flatten;
+--   on siblings' rows, and those of a place: first-deeper to names-flatten;
 --   at a place of a tree: at-has-children, at-height, at-child-text.
 use mathlib.Core.Path.{_≡_, refl, sym, _∙_, ap}
 use mathlib.Core.List.{List, [], _∷_, _++_}
@@ -18,14 +18,14 @@ use borrow.Author.Tests.{lt-ltb, le-ltb, le-leb, eq-eqb, ne-eqb}
 use Rattle.buffers.specs.Cases.{case}
 use Rattle.buffers.specs.Text.{Text}
 use Rattle.syntax.specs.Pieces.{comma, joined}
-use Rattle.syntax.specs.Path.{Path, depth}
+use Rattle.syntax.specs.Path.{Name, Path, depth}
 use Rattle.tree.specs.Forest.{Forest, nil, node, Place, is-empty, larger, height, names}
 use Rattle.tree.specs.ForestLaws.{larger-bounds, larger-least}
 use Rattle.tree.specs.Node.{Node}
 use Rattle.tree.specs.Rows.{Row, flatten, rows}
 use Rattle.tree.specs.RowLaws.{length-flatten}
 use Rattle.tree.specs.RowScan.{span, first-passes, is-deeper, depth-of}
-use Rattle.tree.specs.RowPlaces.{ends, index-of, Around}
+use Rattle.tree.specs.RowPlaces.{ends, place-rows, index-of, Around}
 use Rattle.tree.specs.RowPlacesLaws.{around}
 use Rattle.tree.specs.RowScanLaws.{first-at, span-end, ends-deeper, rows-from-children, subtree-span, depth-of-place}
 use Rattle.tree.specs.RowAt.{row-count, row-at, all-rows}
@@ -200,6 +200,14 @@ deepest-flatten m k (node n x cs rest) h =
     ∙ ap (λ (j : ℕ). deepest-in j (flatten (suc k) rest)) (deepest-flatten a (suc k) cs (omega arith))
     ∙ deepest-flatten b k rest (omega arith)
     ∙ larger-steps m k (height cs) (height rest) h
+
+-- and so do those of a place
+pub deepest-place : (k : ℕ) (n : Name) (d : Place Node) → deepest-in 0 (place-rows k n d) ≡ k + height (d .below)
+unfolding deepest-in place-rows
+deepest-place k n d =
+    ap (λ (m : ℕ). deepest-in m (flatten (suc k) (d .below))) (larger-second 0 k (omega arith))
+    ∙ deepest-flatten k k (d .below) (omega arith)
+    ∙ larger-second k (k + height (d .below)) (omega arith)
 
 -- no row of siblings further down lies at a depth
 names-deeper : (k j : ℕ) (F : Forest Node) → k < j → names-in k (flatten j F) ≡ []

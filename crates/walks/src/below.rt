@@ -25,7 +25,7 @@ pub fn has_children(tree: &[u8], at: usize) -> bool
     depth_at(tree, at) < depth_at(tree, at + 1)
 }
 
-fn larger_of(a: u8, b: u8) -> u8
+pub fn larger_of(a: u8, b: u8) -> u8
     ensures { λ r. ⌜ r ≡ larger a b ⌝ }
 {
     if a <= b {

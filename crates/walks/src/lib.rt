@@ -11,6 +11,7 @@ pub use along::walk;
 pub use below::child_names;
 pub use below::has_children;
 pub use below::height_below;
+pub use below::larger_of;
 use tree::Cause;
 
 // Where a walk came to: the row of the place and that of the directory above it, or why it was refused.
