@@ -1,6 +1,6 @@
 -- The copies of an entry: what a text that reads as its path gives, where it stands among the rows of its tree, what its copy asks for,
 -- and what is written.
-use mathlib.Core.Path.{_≡_, _∙_, ap}
+use mathlib.Core.Path.{_≡_, refl, _∙_, ap}
 use mathlib.Core.List.{List}
 use mathlib.Core.Option.{some}
 use Prim.Native.Nat.{ℕ, _+_, _≤_}
@@ -12,13 +12,13 @@ use Rattle.syntax.specs.Path.{Name, Entry-path, depth, last, entry-location, en
 use Rattle.syntax.specs.PathLaws.{entry-is-entry, entry-text-fits}
 use Rattle.syntax.specs.ParentLaws.{text-of-entry}
 use Rattle.syntax.specs.FieldLaws.{content-fits}
-use Rattle.tree.specs.Layout.{name-width, tag-width}
+use Rattle.tree.specs.Layout.{most-rows, name-width, tag-width}
 use Rattle.tree.specs.Forest.{Place}
 use Rattle.tree.specs.Node.{Node, new-node}
 use Rattle.tree.specs.UpdateLaws.{height-below}
 use Rattle.tree.specs.WellFormedLaws.{Place-parts, place-parts, place-below, tree-parts}
-use Rattle.tree.specs.RowPlaces.{index-of}
-use Rattle.tree.specs.RowPlacesLaws.{around}
+use Rattle.tree.specs.RowPlaces.{place-rows, index-of}
+use Rattle.tree.specs.RowPlacesLaws.{length-place-rows, around}
 use Rattle.tree.specs.RowScanLaws.{rows-from-place}
 use Rattle.tree.specs.Encoding.{encode-tree}
 use Rattle.tree.specs.RowBytesLaws.{node-parts}
@@ -27,28 +27,34 @@ use Rattle.tree.specs.TreeBytes.{Wide, Used, At}
 use Rattle.tree.specs.RowAtLaws.{all-rows-of-tree}
 use Rattle.tree.specs.TreeBytesLaws.{at-used, at-within, at-row}
 use Rattle.copying.specs.declared.Copier.{Copier}
-use Rattle.copying.specs.Copying.{copy-mode}
-use Rattle.copying.specs.CopyRows.{deepest, most-levels, Holds-row, row-put, Stands, tagged-row, children, Job, job-rows, Written, Entry-job, entry-copy, first-row, entry-rows}
-use Rattle.copying.specs.CopyRowLaws.{row-held}
+use Rattle.copying.specs.Copying.{below-rep, copy-mode, copied, copy}
+use Rattle.copying.specs.CopyRows.{deepest, most-levels, Holds-row, row-put, Stands, read-by, tagged-row, children, Job, job-rows, Written, Entry-job, entry-copy, first-row, entry-rows}
+use Rattle.copying.specs.CopyRowLaws.{row-held, copies-few}
 use Rattle.copying.specs.CopyJobLaws.{Fits, copy-wide, below-copy, place-written}
 
 -- an entry is one to copy once the walk along its path has come to it: no path of the tree is too long for a tag
-pub entry-job : (w : Copier) {b : List ℕ} {t : Place Node} {at : ℕ} {group : Gid} {d : Place Node} {e : Entry-path} (s : Text) (parent : Node) → entry-path s ≡ some e
-    → At b t (entry-location e) at d → group ≡ new-node (w .caller) parent (d .here .kind) (copy-mode (d .here .kind)) .group → Entry-job w b at group s
-entry-job w {t = t} {d = d} {e = e} s parent reads a given =
-    let v = tree-parts t (a .tree .whole) in
-    record {
-      top = t;
-      spot = entry-location e;
-      place = d;
-      found = a;
-      entry = e;
-      parent = parent;
-      text = text-of-entry s e reads;
-      valid = entry-is-entry s e reads;
-      short = omega (arith, height-below t (entry-location e) d (a .there), v .low);
-      given = given;
-    }
+module _ (w : Copier) {b : List ℕ} {t : Place Node} {at : ℕ} {group : Gid} {d : Place Node} {e : Entry-path} (s : Text) (parent : Node) (reads : entry-path s ≡ some e)
+    (a : At b t (entry-location e) at d) (given : group ≡ new-node (w .caller) parent (d .here .kind) (copy-mode (d .here .kind)) .group) where
+  pub entry-job : Entry-job w b at group s
+  entry-job =
+      let v = tree-parts t (a .tree .whole) in
+      record {
+        top = t;
+        spot = entry-location e;
+        place = d;
+        found = a;
+        entry = e;
+        parent = parent;
+        text = text-of-entry s e reads;
+        valid = entry-is-entry s e reads;
+        short = omega (arith, height-below t (entry-location e) d (a .there), v .low);
+        given = given;
+      }
+
+  -- its rows are those of its copy
+  pub entry-job-rows : (k : ℕ) (n : Name) → entry-rows entry-job k n ≡ place-rows k n (copy (w .caller) (read-by w) parent e d)
+  unfolding entry-rows entry-copy entry-job
+  entry-job-rows k n = refl
 
 module _ {w : Copier} {b : List ℕ} {at : ℕ} {group : Gid} {path : List ℕ} (j : Entry-job w b at group path) where
   entry-used : Used b at
@@ -75,6 +81,13 @@ module _ {w : Copier} {b : List ℕ} {at : ℕ} {group : Gid} {path : List ℕ} 
             ∙ ap (drop (index-of (j .top) (j .spot))) (all-rows-of-tree (j .top) (f .tree .whole)) ∙ rows-from-place c;
         stops = c .stops;
       }
+
+  -- there are no more copies than rows in a tree
+  pub entry-few : (k : ℕ) (n : Name) → length (entry-rows j k n) ≤ most-rows
+  unfolding entry-rows entry-copy copy
+  entry-few k n =
+      let x = copied (w .caller) (read-by w) (j .parent) (j .entry) (j .place .here) in
+      omega (arith, length-place-rows k n (entry-copy j), copies-few w x (below-rep (j .entry)) (j .place .below), at-within (j .found), j .found .tree .sized .few-rows)
 
   -- it is that of its place
   pub entry-row : row-at b at ≡ record { depth = depth (j .spot); name = last (j .spot); here = j .place .here }

@@ -127,7 +127,7 @@ unfolding copied copy-node new-node set-tag set-content
 copied-plain w parent e x = copy-mode-fits (by-modes (w .reader) .kind x) .1
 
 -- there are at most as many copies as originals
-copies-few : (w : Copier) (x : Node) (folder : Path) (F : Forest Node) → size (copy-children (w .caller) (read-by w) x folder F) ≤ size F
+pub copies-few : (w : Copier) (x : Node) (folder : Path) (F : Forest Node) → size (copy-children (w .caller) (read-by w) x folder F) ≤ size F
 unfolding copy-children size
 copies-few w x folder nil = omega arith
 copies-few w x folder (node n a cs rest) =

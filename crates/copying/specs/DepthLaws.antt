@@ -1,4 +1,4 @@
--- The greatest depth among copies: row by row, and of the copies of an entry as they are written.
+-- The greatest depth among copies: row by row, and among the rows of a place as they are written.
 use mathlib.Core.Path.{_≡_, refl, sym, _∙_, ap}
 use mathlib.Core.List.{List, [], _∷_, _++_, append-assoc}
 use mathlib.Core.Bool.{true}
@@ -10,19 +10,18 @@ use lib.Seq.{paste, length-take-le, take-all, take-at, drop-at}
 use Rattle.buffers.specs.Cases.{and-both}
 use Rattle.buffers.specs.Text.{every}
 use Rattle.buffers.specs.Fields.{all-bytes}
-use Rattle.accounts.specs.declared.Gid.{Gid}
 use Rattle.syntax.specs.Path.{Name}
 use Rattle.tree.specs.Layout.{row-width, row-start}
-use Rattle.tree.specs.Forest.{larger, height}
+use Rattle.tree.specs.Forest.{Place, larger, height}
 use Rattle.tree.specs.Node.{Node}
 use Rattle.tree.specs.Rows.{Row}
+use Rattle.tree.specs.RowPlaces.{place-rows}
 use Rattle.tree.specs.Encoding.{row-bytes, read-row}
 use Rattle.tree.specs.RowAt.{row-bytes-at, row-at}
 use Rattle.tree.specs.TreeBytes.{Wide}
 use Rattle.walks.specs.RowBelow.{deepest-in}
 use Rattle.walks.specs.RowBelowLaws.{deepest-place}
-use Rattle.copying.specs.declared.Copier.{Copier}
-use Rattle.copying.specs.CopyRows.{is-wide, Written, deepest-from, Entry-job, entry-copy, entry-rows}
+use Rattle.copying.specs.CopyRows.{is-wide, Written, deepest-from}
 use Rattle.copying.specs.CopyBytesLaws.{depth-of-bytes}
 use Rattle.copying.specs.RowsWrittenLaws.{row-is-wide, written-width}
 
@@ -78,8 +77,7 @@ deepest-written {o} {z} {r} {rs} v wide =
     ∙ ap (deepest-from (take (row-start 0) o ++ (X ++ D)) 0 0) k
     ∙ deepest-between rs (take (row-start 0) o) D 0 0 (length-take-le (row-start 0) o (omega arith)) (v .wide)
 
--- among the copies of an entry, the first at depth k
-pub deepest-of-entry : {w : Copier} {b : List ℕ} {at : ℕ} {group : Gid} {path : List ℕ} (j : Entry-job w b at group path) {o z : List ℕ} {r : ℕ} (k : ℕ) (n : Name)
-    → Written o 0 (entry-rows j k n) r z → Wide o → deepest-from z 0 0 r ≡ k + height (entry-copy j .below)
-unfolding entry-rows
-deepest-of-entry j k n v wide = deepest-written v wide ∙ deepest-place k n (entry-copy j)
+-- among those of a place at depth k
+pub deepest-of-place : {o z : List ℕ} {r : ℕ} (k : ℕ) (n : Name) (d : Place Node) → Written o 0 (place-rows k n d) r z → Wide o
+    → deepest-from z 0 0 r ≡ k + height (d .below)
+deepest-of-place k n d v wide = deepest-written v wide ∙ deepest-place k n d

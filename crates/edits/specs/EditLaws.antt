@@ -1,6 +1,6 @@
 -- Which change of a well-formed tree each change of its bytes is.
 --
--- In order: a place put in (spot-bound, put-law, child-law) and taken out (take-law), its rows read (place-fits, place-law).
+-- In order: a place put in (spot-bound, rows-law, put-law, child-law) and taken out (take-law), its rows read (place-fits, place-law).
 use mathlib.Core.Path.{_≡_, sym, _∙_, ap}
 use mathlib.Core.List.{List, [], _++_, append-nil}
 use mathlib.Core.Option.{none, some}
@@ -91,12 +91,6 @@ module _ (t : Place Node) (p : Path) (d : Place Node) (n : Name) (h : is-tree t 
       ∙ table-put xs ns ys Q (fitting-wide xs (f .0)) w (fitting-wide ys (f .1)) (omega arith)
       ∙ sym (encode-tree-rows (update p (put n e) t) ∙ ap encode-rows (r .1 e))
 
-  -- a well-formed place
-  put-changed : (e : Place Node) → get n (d .below) ≡ none → is-name n ≡ true → is-place e ≡ true → nodes t + suc (size (e .below)) ≤ 256 → (Q : List ℕ)
-      → rows-put (encode-tree t) (suc (index-of t p + size (lesser n (d .below)))) (suc (size (e .below))) (all-bytes row-bytes (place-rows (suc (depth p)) n e) ++ Q)
-      ≡ encode-tree (update p (put n e) t)
-  put-changed e g a w few Q = put-wide e Q g (place-wide (suc (depth p)) n e a w) few
-
   -- a new node
   child-changed : (f : Fresh) → get n (d .below) ≡ none → is-name n ≡ true → nodes t < 256
       → rows-put (encode-tree t) (suc (index-of t p + size (lesser n (d .below)))) 1 (row-bytes (record { depth = suc (depth p); name = n; here = fresh-node f }))
@@ -169,11 +163,17 @@ module _ {b : List ℕ} {t : Place Node} {p : Path} {i : ℕ} {d : Place Node} (
     pub spot-bound : get n (d .below) ≡ none → suc (i + size (lesser n (d .below))) ≤ row-count b
     spot-bound g = omega (arith, a .row, spot-bounded t p d n (a .tree .whole) (a .there) g, encoded-count (a .tree))
 
+    -- a place put in whose rows take their widths
+    pub rows-law : (e : Place Node) → get n (d .below) ≡ none → Rows-wide (place-rows (suc (depth p)) n e) → nodes t + suc (size (e .below)) ≤ most-rows → (Q : List ℕ)
+        → rows-put b (suc (i + size (lesser n (d .below)))) (suc (size (e .below))) (all-bytes row-bytes (place-rows (suc (depth p)) n e) ++ Q)
+        ≡ encode-tree (update p (put n e) t)
+    rows-law e g w few Q = rw (a .row, a .tree .bytes) (put-wide t p d n (a .tree .whole) (a .there) e Q g w few)
+
     -- a well-formed place put in
     pub put-law : (e : Place Node) → get n (d .below) ≡ none → is-name n ≡ true → is-place e ≡ true → nodes t + suc (size (e .below)) ≤ most-rows → (Q : List ℕ)
         → rows-put b (suc (i + size (lesser n (d .below)))) (suc (size (e .below))) (all-bytes row-bytes (place-rows (suc (depth p)) n e) ++ Q)
         ≡ encode-tree (update p (put n e) t)
-    put-law e g h w few Q = rw (a .row, a .tree .bytes) (put-changed t p d n (a .tree .whole) (a .there) e g h w few Q)
+    put-law e g h w few Q = rows-law e g (place-wide (suc (depth p)) n e h w) few Q
 
     -- a new node put in
     pub child-law : (f : Fresh) → get n (d .below) ≡ none → is-name n ≡ true → nodes t < most-rows
