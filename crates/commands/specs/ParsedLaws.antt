@@ -189,22 +189,22 @@ part-reads read t s x e =
     let j = text-inside t s (i .0) (i .1) in
     record { inside = j .0; reads = ap read (sym (j .1)) ∙ i .2 }
 
-path-reads : (t : Text) (s : Span) (q : Path) → path-in t s ≡ some q → Part-reads path t s q
+path-part-reads : (t : Text) (s : Span) (q : Path) → path-in t s ≡ some q → Part-reads path t s q
 unfolding path-in
-path-reads t s q e = part-reads path t s q e
+path-part-reads t s q e = part-reads path t s q e
 
-entry-reads : (t : Text) (s : Span) (q : Entry-path) → entry-in t s ≡ some q → Part-reads entry-path t s q
+entry-part-reads : (t : Text) (s : Span) (q : Entry-path) → entry-in t s ≡ some q → Part-reads entry-path t s q
 unfolding entry-in
-entry-reads t s q e = part-reads entry-path t s q e
+entry-part-reads t s q e = part-reads entry-path t s q e
 
 -- a path alone, and an entry path alone
 one-path : (t : Text) (s : Span) (f : Path → Command) (k : Command) → with-path t s f ≡ some k → (q : Path) × Part-reads path t s q × (k ≡ f q)
 unfolding with-path
-one-path t s f k e = let i : _ = both-read (path-in t s) (λ p. some (f p)) k e in (i .0, path-reads t s (i .0) (i .1), answered (i .2))
+one-path t s f k e = let i : _ = both-read (path-in t s) (λ p. some (f p)) k e in (i .0, path-part-reads t s (i .0) (i .1), answered (i .2))
 
 one-entry : (t : Text) (s : Span) (f : Entry-path → Command) (k : Command) → with-entry t s f ≡ some k → (q : Entry-path) × Part-reads entry-path t s q × (k ≡ f q)
 unfolding with-entry
-one-entry t s f k e = let i : _ = both-read (entry-in t s) (λ p. some (f p)) k e in (i .0, entry-reads t s (i .0) (i .1), answered (i .2))
+one-entry t s f k e = let i : _ = both-read (entry-in t s) (λ p. some (f p)) k e in (i .0, entry-part-reads t s (i .0) (i .1), answered (i .2))
 
 -- a number that is a role is that role
 bounded-role : (r : Role) (z : Bounded-role) → bounded (r .0) ≡ some z → z .role ≡ r
@@ -225,13 +225,13 @@ meaning-means t (Write p c) k e =
     let i : _ = both-read (path-in t p) _ k e in
     let j : _ = both-read (text-in t c) _ k (i .2) in
     let x = text-inside t c (j .0) (j .1) in
-    (i .0, path-reads t p (i .0) (i .1), x .0, answered (j .2) ∙ ap (λ (y : Text). shell (write (i .0) y)) (x .1))
+    (i .0, path-part-reads t p (i .0) (i .1), x .0, answered (j .2) ∙ ap (λ (y : Text). shell (write (i .0) y)) (x .1))
 meaning-means t (Rm p) k e = one-path t p _ k e
 meaning-means t (Rmdir p) k e = one-path t p _ k e
 meaning-means t (Mv a b) k e =
     let i : _ = both-read (path-in t a) _ k e in
     let j : _ = one-path t b _ k (i .2) in
-    (i .0, j .0, path-reads t a (i .0) (i .1), j .1, j .2)
+    (i .0, j .0, path-part-reads t a (i .0) (i .1), j .1, j .2)
 meaning-means t (Chmod p m) k e = one-path t p _ k e
 meaning-means t (Chgrp p g) k e = one-path t p _ k e
 meaning-means t (Chown p u) k e = one-path t p _ k e
@@ -245,11 +245,11 @@ meaning-means t (Add w n r) k e =
     let i : _ = both-read (path-in t w) _ k e in
     let j : _ = both-read (entry-in t n) _ k (i .2) in
     let h : _ = both-read (bounded (r .0)) _ k (j .2) in
-    (i .0, j .0, h .0, path-reads t w (i .0) (i .1), entry-reads t n (j .0) (j .1), bounded-role r (h .0) (h .1), answered (h .2))
+    (i .0, j .0, h .0, path-part-reads t w (i .0) (i .1), entry-part-reads t n (j .0) (j .1), bounded-role r (h .0) (h .1), answered (h .2))
 meaning-means t (Co n d) k e =
     let i : _ = both-read (entry-in t n) _ k e in
     let j : _ = one-path t d _ k (i .2) in
-    (i .0, j .0, entry-reads t n (i .0) (i .1), j .1, j .2)
+    (i .0, j .0, entry-part-reads t n (i .0) (i .1), j .1, j .2)
 meaning-means t (Commit w) k e = one-path t w _ k e
 meaning-means t (Up w) k e = one-path t w _ k e
 meaning-means t (Del n) k e = one-entry t n _ k e
