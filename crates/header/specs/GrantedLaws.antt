@@ -43,29 +43,30 @@ pub few-granted : {b : List ℕ} → Headed b → getD b grants-offset 0 ≤ 32
 few-granted h = omega (arith, grants-counted (h .2), apart (h .0) (h .2 .in-range) .few-grants)
 
 -- s is the bounded role of the number that the code has
-module _ {b : List ℕ} {u : Setup} {z : Sessions} (h : Heads b u z) (uid : Uid) (role : Role) (password : Text) (s : Bounded-role) (e : s .role ≡ role) where
+module _ {b : List ℕ} {u : Setup} {z : Sessions} (h : Heads b u z)
+    (uid : Uid) (role : Role) (password : Text) (s : Bounded-role) (e : s .role ≡ role) where
   -- whether one of the grants from an index on has just these three
-  abbrev left : ℕ → Bool
-  left i = granted (drop i (u .grants)) uid s password
+  abbrev granted-from : ℕ → Bool
+  granted-from i = granted (drop i (u .grants)) uid s password
 
   -- whether the grant at an index has
-  abbrev here : ℕ → Bool
-  here i = grant-has (grant-in b i) uid role password
+  abbrev this-grants : ℕ → Bool
+  this-grants i = grant-has (grant-in b i) uid role password
 
   -- the grant at the index, or one behind it
-  one-of : (i : ℕ) → i < length (u .grants) → left i ≡ (here i || left (suc i))
+  one-of : (i : ℕ) → i < length (u .grants) → granted-from i ≡ (this-grants i || granted-from (suc i))
   unfolding granted grant-has
   one-of i l =
       let g = grant-in b i in
-      let q : left i ≡ (grant-has g uid (s .role) password || left (suc i)) = rw (drop-cons (u .grants) i g l, grant-stands h i g l) in
-      q ∙ ap (λ (r : Role). grant-has g uid r password || left (suc i)) e
+      let q : granted-from i ≡ (grant-has g uid (s .role) password || granted-from (suc i)) = rw (drop-cons (u .grants) i g l, grant-stands h i g l) in
+      q ∙ ap (λ (r : Role). grant-has g uid r password || granted-from (suc i)) e
 
-  pub granted-here : (i : ℕ) (r : Bool) → i < length (u .grants) → r ≡ here i → r ≡ true → true ≡ left i
+  pub granted-here : (i : ℕ) (r : Bool) → i < length (u .grants) → r ≡ this-grants i → r ≡ true → true ≡ granted-from i
   granted-here i r l f q = rw (one-of i l, ← f, q)
 
-  pub not-granted-here : (i : ℕ) (r : Bool) → i < length (u .grants) → r ≡ here i → r ≡ false → left (i + 1) ≡ left i
+  pub not-granted-here : (i : ℕ) (r : Bool) → i < length (u .grants) → r ≡ this-grants i → r ≡ false → granted-from (i + 1) ≡ granted-from i
   not-granted-here i r l f q = rw (one-of i l, ← f, q, add-one i)
 
-  pub not-granted : (i : ℕ) → length (u .grants) ≤ i → false ≡ left i
+  pub not-granted : (i : ℕ) → length (u .grants) ≤ i → false ≡ granted-from i
   unfolding granted
   not-granted i l = rw (drop-of-length-le (u .grants) l)

@@ -23,6 +23,7 @@ use Rattle.shell.specs.Replies.{reply, answer-of, written}
 use Rattle.store.specs.HeaderLayout.{pairs-offset, pair-width, grants-offset, grant-width, password-offset, password-width, spare-offset, spare-width}
 use Rattle.store.specs.State.{Sessions}
 use Rattle.store.specs.StoreBytes.{header-bytes}
+use Rattle.store.specs.Callers.{granted}
 use Rattle.store.specs.Logins.{logged-in, logged-out}
 use Rattle.header.specs.declared.Known.{Known}
 use Rattle.header.specs.declared.Known.the-variants.{As, Nobody}
@@ -85,6 +86,10 @@ grant-in b i = record {
 -- whether a grant has just these three
 unfoldable pub grant-has : Grant → Uid → Role → Text → Bool
 grant-has g uid role password = same-uid (g .uid) uid && (same-role (g .role) role && same-text (g .password) password)
+
+-- whether a grant of the setup has just these three, for whatever setup the bytes are of and the bounded role that the number is
+abbrev pub Grant-told : List ℕ → Uid → Role → Text → Bool → Type 0
+Grant-told b uid role password r = Whose b (λ u z. (s : Bounded-role) → s .role ≡ role → r ≡ granted (u .grants) uid s password)
 
 -- steps that have no text
 abbrev pub silently : {S : Type 0} → Result S → Result (Outcome S)

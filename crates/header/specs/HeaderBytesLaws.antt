@@ -16,9 +16,9 @@ use Rattle.buffers.specs.TableLaws.{length-all-from, all-from-at}
 use Rattle.accounts.specs.declared.Uid.{Uid}
 use Rattle.accounts.specs.declared.Pair.{Pair}
 use Rattle.accounts.specs.Dominance.{Bounded-role}
-use Rattle.setup.specs.Setup.{Person, Grant, Setup, accounts, person}
+use Rattle.setup.specs.Setup.{Grant, Setup, accounts, person}
 use Rattle.setup.specs.SetupLaws.{apart}
-use Rattle.store.specs.HeaderLayout.{slot-width, sessions-offset, pairs-offset, pair-width, grants-offset, grant-width, password-offset, password-width}
+use Rattle.store.specs.HeaderLayout.{slot-width, sessions-offset, pairs-offset, pair-width, grants-offset, grant-width}
 use Rattle.store.specs.State.{Sessions}
 use Rattle.store.specs.StoreBytes.{header-width, slot-of, session-byte, pair-of, grant-of, header-bytes, setup-of}
 use Rattle.store.specs.HeaderLaws.{length-header, setup-of-header, session-in-header, header-with-session}
@@ -114,7 +114,8 @@ module _ {b : List ℕ} {u : Setup} {z : Sessions} (h : Heads b u z) where
   pub session-stands : (v : Uid) → v .0 < 16 → getD b (sessions-offset + v .0) 0 ≡ session-byte (getD z (v .0) none)
   session-stands v l = rw (h .bytes) (session-in-header u z (h .in-range) (h .sixteen) (v .0) l)
 
-  pub session-stored : (v : Uid) → v .0 < 16 → (o : Option Bounded-role) → set b (sessions-offset + v .0) (session-byte o) ≡ header-bytes u (set z (v .0) o)
+  pub session-stored : (v : Uid) → v .0 < 16 → (o : Option Bounded-role)
+      → set b (sessions-offset + v .0) (session-byte o) ≡ header-bytes u (set z (v .0) o)
   session-stored v l o = rw (h .bytes) (header-with-session u z (h .in-range) (h .sixteen) (v .0) l o)
 
   -- ---- the role pairs

@@ -11,7 +11,7 @@ use Rattle.accounts.specs.Dominance.{Bounded-role}
 use Rattle.setup.specs.Setup.{Setup}
 use Rattle.tree.specs.declared.Cause.{Cause}
 use Rattle.tree.specs.declared.Cause.the-variants.{NoGrant}
-use Rattle.tree.specs.Result.{Result, refused, done, Outcome}
+use Rattle.tree.specs.Result.{Result, refused, done}
 use Rattle.tree.specs.ResultLaws.{refused-bind, done-bind, require-true, require-false, refused-then, done-then}
 use Rattle.shell.specs.declared.Answer.the-variants.{Done, Refused}
 use Rattle.shell.specs.Replies.{reply, answer-of, written}
@@ -56,8 +56,8 @@ module _ (u : Setup) (z : Sessions) (b : List ℕ) (uid : Uid) where
   login-refused s password g = refused-follows u b NoGrant (no-grant-refused u z uid s password g)
 
   -- `login` with one
-  pub login-done : (s : Bounded-role) (password : Text) (b′ : List ℕ) → granted (u .grants) uid s password ≡ true → b′ ≡ header-bytes u (set z (uid .0) (some s))
-      → Header-follows u (logged-in u z uid s password) b Done b′
+  pub login-done : (s : Bounded-role) (password : Text) (b′ : List ℕ) → granted (u .grants) uid s password ≡ true
+      → b′ ≡ header-bytes u (set z (uid .0) (some s)) → Header-follows u (logged-in u z uid s password) b Done b′
   login-done s password b′ g e = done-follows u b (set z (uid .0) (some s)) b′ (grant-done u z uid s password g) e
 
   -- `logout`

@@ -15,7 +15,7 @@ use Rattle.accounts.specs.Groups.{no-groups, with-group}
 use Rattle.accounts.specs.Caller.{root-caller}
 use Rattle.setup.specs.Setup.{Person, Setup, person}
 use Rattle.tree.specs.declared.Cause.the-variants.{UnknownCaller}
-use Rattle.tree.specs.Result.{Result, done}
+use Rattle.tree.specs.Result.{done}
 use Rattle.tree.specs.ResultLaws.{present-of, present-none, done-bind, refused-bind}
 use Rattle.store.specs.HeaderLayout.{slot-width}
 use Rattle.store.specs.State.{Sessions}
@@ -33,7 +33,7 @@ module _ (u : Setup) (v : Uid) where
   -- root is in group 0 alone
   pub root-known : (g : Groups) → v .0 ≡ 0 → g ≡ with-group (record { 0 = 0 }) no-groups → known (As (calls-as v g (record { 0 = 0 }))) ≡ caller u v
   unfolding known caller root-caller is-root
-  root-known g e q = rw (eq-eqb (v .0) 0 e) (λ i. done (record { account = record { uid = record { 0 = e i }; groups = q i }; primary = record { 0 = 0 } }))
+  root-known g e q = rw (eq-eqb (v .0) 0 e) (λ i. done (calls-as (record { 0 = e i }) (q i) (record { 0 = 0 })))
 
   -- who is no person is nobody
   pub nobody-known : (v .0 ≡ 0 → ⊥) → person u v ≡ none → known Nobody ≡ caller u v
@@ -46,7 +46,7 @@ module _ (u : Setup) (v : Uid) where
   unfolding known caller known-caller person-caller is-root
   person-known p g n e q =
       rw (ne-eqb (v .0) 0 n, e, present-of p UnknownCaller, done-bind p (λ w. done (person-caller v w)))
-      (λ i. done (record { account = record { uid = v; groups = q i }; primary = p .primary }))
+      (λ i. done (calls-as v (q i) (p .primary)))
 
 -- a primary group is one that a set of groups has room for
 pub primary-low : {b : List ℕ} {u : Setup} {z : Sessions} → Heads b u z → (v : Uid) → v .0 < 16 → (getD b (slot-width * v .0) 0 ≡ 0 → ⊥)

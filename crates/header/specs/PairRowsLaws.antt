@@ -1,6 +1,7 @@
 -- The rows of dominance by a header's bytes: grown pair by pair they are those of the setup's pairs, and tell who dominates.
 use mathlib.Core.Path.{_≡_, refl, sym, ap, _∙_}
 use mathlib.Core.List.{List, [], _∷_, _++_}
+use mathlib.Core.Option.{some}
 use mathlib.Core.Bool.{true}
 use Prim.Native.Nat.{ℕ, zero, suc, _+_, _≤_, _<_}
 use native.Mathlib.Omega.{arith}
@@ -14,13 +15,13 @@ use Rattle.buffers.specs.TextLaws.{every-getD}
 use Rattle.accounts.specs.declared.Pair.{Pair}
 use Rattle.accounts.specs.Dominance.{Bounded-role, dominates, falls, all-fall}
 use Rattle.accounts.specs.Service.{service}
-use Rattle.accounts.specs.Closure.{rows-of, own-rows, grown-rows, row-dominates, row-account}
+use Rattle.accounts.specs.Closure.{rows-of, own-rows, grown-rows, row-dominates, row-account, session-dominates}
 use Rattle.accounts.specs.ClosureLaws.{own-rows-are, grown-rows-are, row-dominates-is, row-account-is}
 use Rattle.setup.specs.Setup.{Setup, is-pair}
 use Rattle.setup.specs.SetupLaws.{apart}
 use Rattle.store.specs.HeaderLayout.{pairs-offset}
 use Rattle.store.specs.State.{Sessions}
-use Rattle.header.specs.HeaderBytes.{Heads, Headed, pair-at}
+use Rattle.header.specs.HeaderBytes.{Heads, Headed, session-held, pair-at}
 use Rattle.header.specs.HeaderBytesLaws.{pairs-counted, pair-stands}
 
 -- the first pairs of a list in range fall
@@ -68,6 +69,11 @@ module _ (ps : List Pair) (rows : List ℕ) (e : rows ≡ rows-of ps) where
   -- which role dominates which
   pub rows-tell-dominance : (s r : Bounded-role) → row-dominates rows (s .role) (r .role) ≡ dominates ps (s .role) (r .role)
   rows-tell-dominance s r = rw e (row-dominates-is ps s r)
+
+  -- also by a session
+  pub rows-tell-session : (s r : Bounded-role) → session-dominates (session-held (some s)) rows (r .role) ≡ dominates ps (s .role) (r .role)
+  unfolding session-dominates session-held
+  rows-tell-session s r = rows-tell-dominance s r
 
   -- and the service account of a role
   pub rows-tell-account : (s : Bounded-role) → row-account rows (s .role) ≡ service ps s

@@ -1,14 +1,12 @@
 -- The byte of a session and the code's session are told from each other.
-use mathlib.Core.Path.{_≡_, refl, ap, _∙_}
+use mathlib.Core.Path.{_≡_, refl}
 use mathlib.Core.Option.{Option, none, some}
-use Prim.Native.Nat.{ℕ, suc, _+_, _-_, _<_}
+use Prim.Native.Nat.{ℕ, _+_, _-_, _<_}
 use native.Mathlib.Omega.{arith}
 use native.Mathlib.Numerals.{add-one}
-use lib.Dec.{ltb}
 use borrow.Author.Tests.{ltb-true, lt-ltb}
 use Rattle.buffers.specs.Cases.{contra}
 use Rattle.accounts.specs.declared.Role.{Role}
-use Rattle.accounts.specs.declared.Session.{Session}
 use Rattle.accounts.specs.declared.Session.the-variants.{Nobody, As}
 use Rattle.accounts.specs.Dominance.{Bounded-role}
 use Rattle.store.specs.StoreBytes.{session-byte}

@@ -1,9 +1,7 @@
 // Whether a login is granted.
 ghost use mathlib.Core.Path.{_≡_};
 ghost use Prim.Native.Nat.{_<_};
-ghost use Rattle.accounts.specs.Dominance.{Bounded-role};
-ghost use Rattle.store.specs.Callers.{granted};
-ghost use Rattle.header.specs.HeaderBytes.{Wide-header, Headed, Whose, grant-in, grant-has};
+ghost use Rattle.header.specs.HeaderBytes.{Wide-header, Headed, grant-in, grant-has, Grant-told};
 use accounts::Role;
 use accounts::Uid;
 use buffers::same;
@@ -43,7 +41,7 @@ fn grant_has(header: &[u8], i: usize, uid: Uid, role: Role, password: &[u8]) -> 
 pub fn is_granted(header: &[u8], uid: Uid, role: Role, password: &[u8]) -> bool
     requires { ⌜ Headed (now header) ⌝ }
     requires { ⌜ role .0 < 8 ⌝ }
-    ensures { λ r. ⌜ Whose (now (header .entry)) (λ u z. (s : Bounded-role) → s .role ≡ role → r ≡ granted (u .grants) uid s (now (password .entry))) ⌝ }
+    ensures { λ r. ⌜ Grant-told (now (header .entry)) uid role (now (password .entry)) r ⌝ }
 {
     let n = header[GRANTS] as usize;
     let mut i: usize = 0;

@@ -24,7 +24,8 @@ module _ {S A : Type 0} (M : Machine S A) (setup : Setup) (s : S) (c : Caller) w
   unfolding run-login logged-in
   run-login-is z password =
       let after = set (M .sessions s) (c .account .uid .0) (some z) in
-      rw (then-bind (require (granted (setup .grants) (c .account .uid) z password) NoGrant) (done after) continued-with, done-bind after continued-with)
+      let allowed = require (granted (setup .grants) (c .account .uid) z password) NoGrant in
+      rw (then-bind allowed (done after) continued-with, done-bind after continued-with)
 
   pub run-logout-is : run-logout M setup s c ≡ (logged-out (M .sessions s) (c .account .uid) >>= continued-with)
   unfolding run-logout logged-out

@@ -23,7 +23,8 @@ with-requires c κs = search needs
 returns : tie.Need-returns
 returns c u z h =
     let a = c .before .before .before .before .before .args in
-    root-known u (a .uid) (c .with .result) (c .before .before .if1 .taken) (c .with .ensures ∙ ap (λ (g : Groups). with-group (record { 0 = 0 }) g) (c .before .empty .ensures))
+    root-known u (a .uid) (c .with .result) (c .before .before .if1 .taken)
+    (c .with .ensures ∙ ap (λ (g : Groups). with-group (record { 0 = 0 }) g) (c .before .empty .ensures))
 
 returns-2 : tie.Need-returns-2
 returns-2 c u z h =
@@ -60,9 +61,11 @@ with-requires-2 c κs =
 
 returns-4 : tie.Need-returns-4
 returns-4 c u z h =
-    let a = c .before .before .before .before .before .before .before .before .before .before .before .args in
+    let k = c .before .before in
+    let j = k .before .before .before .before .before .before in
+    let a = j .before .before .before .args in
     let p : Gid = record { 0 = getD (now (a .header)) (slot-width * a .uid .0) 0 } in
-    person-known u (a .uid) _ (c .with2 .result) (c .before .before .before .before .before .before .before .before .if1 .left) (filled-slot h (a .uid) (omega arith) (c .before .before .if3 .left))
+    person-known u (a .uid) _ (c .with2 .result) (j .if1 .left) (filled-slot h (a .uid) (omega arith) (k .if3 .left))
     (c .with2 .ensures ∙ (λ i. with-group p (record { 0 = c .before .number .ensures i })))
 
 pub caller-of-spec : {M : Type 1} → statement M

@@ -1,5 +1,5 @@
 -- `header::grants::grant_has` meets its contract: the first field that differs decides.
-use mathlib.Core.Path.{sym, _∙_, ap}
+use mathlib.Core.Path.{_∙_, ap}
 use denote.Ref.{now}
 use Rattle.buffers.specs.Text.{Text, same-text}
 use Rattle.header.specs.HeaderBytes.{grant-in}

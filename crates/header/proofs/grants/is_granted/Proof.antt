@@ -13,7 +13,6 @@ use Rattle.store.specs.Callers.{granted}
 use Rattle.header.specs.HeaderBytes.{Whose}
 use Rattle.header.specs.HeaderBytesLaws.{headed-wide, grants-counted}
 use Rattle.header.specs.GrantedLaws.{few-granted, granted-here, not-granted-here, not-granted}
-use borrow.Author.Needs.{needs}
 use Rattle.header.proofs.grants.is_granted.Statement.{statement}
 use Rattle.header.proofs.grants.is_granted.Tie as tie
 

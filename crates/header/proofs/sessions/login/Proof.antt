@@ -37,11 +37,13 @@ same-length-2 c = search needs
 
 returns-2 : tie.Need-returns-2
 returns-2 c u z h s e =
-    let a = c .before .before .before .before .before .before .before .before .before .before .before .before .args in
-    let p = c .before .before .set-session in
-    login-done u z (now (a .header)) (a .uid) s (now (a .password)) (p .last .0)
-    (answers-true (c .before .before .before .before .before .before .before .before .is-granted .ensures u z h s e) (c .before .before .before .before .before .before .before .if1 .left))
-    (p .ensures u z h (some s) (c .before .before .before .before .log-in .ensures ∙ role-is (a .role) s e))
+    let p = c .before .before in
+    let k = p .before .before .before .before .before in
+    let g = k .before in
+    let a = g .before .before .before .before .args in
+    login-done u z (now (a .header)) (a .uid) s (now (a .password)) (p .set-session .last .0)
+    (answers-true (g .is-granted .ensures u z h s e) (k .if1 .left))
+    (p .set-session .ensures u z h (some s) (p .before .before .log-in .ensures ∙ role-is (a .role) s e))
 
 pub login-spec : {M : Type 1} → statement M
 login-spec =

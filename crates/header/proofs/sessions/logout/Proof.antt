@@ -24,9 +24,10 @@ same-length c = search needs
 
 returns : tie.Need-returns
 returns c u z h =
-    let s = c .before .before .before .before .before .before .before .before in
-    let p = c .before .before .set-session in
-    logout-done u z (now (s .args .header)) (s .args .uid) (p .last .0) (p .ensures u z h none (c .before .before .before .before .log-out .ensures ∙ nobody-is))
+    let p = c .before .before in
+    let a = p .before .before .before .before .before .before .args in
+    logout-done u z (now (a .header)) (a .uid) (p .set-session .last .0)
+    (p .set-session .ensures u z h none (p .before .before .log-out .ensures ∙ nobody-is))
 
 pub logout-spec : {M : Type 1} → statement M
 logout-spec =

@@ -28,7 +28,8 @@ same-length c = search needs
 returns : tie.Need-returns
 returns c u z h o e =
     let s = c .before .before .before in
-    ap (set (now (s .args .header)) (sessions-offset + s .args .uid .0)) (c .before .byte-of .ensures o e) ∙ session-stored h (s .args .uid) (s .pre .1 .0) o
+    let v = s .args .uid in
+    ap (set (now (s .args .header)) (sessions-offset + v .0)) (c .before .byte-of .ensures o e) ∙ session-stored h v (s .pre .1 .0) o
 
 pub set-session-spec : {M : Type 1} → statement M
 set-session-spec =
