@@ -18,6 +18,8 @@ use Rattle.syntax.specs.FormLaws.{both, the-some}
 use Rattle.setup.specs.Setup.{Setup, accounts, is-setup}
 use Rattle.tree.specs.Encoding.{encode-tree, decode-tree}
 use Rattle.tree.specs.EncodingLaws.{decode-encode as decode-encode-tree, encode-decode as encode-decode-tree}
+use Rattle.tree.specs.TreeBytes.{Encodes}
+use Rattle.tree.specs.TreeBytesLaws.{encodes}
 use Rattle.store.specs.State.{Sessions, State, state-of, well-formed}
 use Rattle.store.specs.StateLaws.{parts, formed}
 use Rattle.store.specs.StoreBytes.{header-width, store-width, header-bytes, session-of, setup-of, sessions-of, is-header, encode, decode}
@@ -50,6 +52,16 @@ read-in-parts b s e =
         rw (← i .0, drop-at H T header-width l, decode-encode-tree (s .store .tree) (p .tree)),
       ),
     )
+
+-- the tree stands behind the header
+pub tree-read : (b : List ℕ) (s : State) → decode b ≡ some s → Encodes (drop header-width b) (s .store .tree)
+unfolding encode
+tree-read b s e =
+    let i = encode-decode b s e in
+    let p = parts s (i .1) in
+    let H = header-bytes (s .setup) (s .store .sessions) in
+    let l = length-header (s .setup) (s .store .sessions) (p .setup) (p .sessions) in
+    rw (← i .0, drop-at H (encode-tree (s .store .tree)) header-width l) (encodes (p .tree))
 
 -- there are always 16 sessions
 length-sessions-of : (b : List ℕ) → length (sessions-of b) ≡ 16
