@@ -14,7 +14,7 @@ use Rattle.accounts.specs.declared.Gid.{Gid}
 use Rattle.syntax.specs.Number.{set-gid}
 use Rattle.syntax.specs.Path.{Name, Path, _▹_, Entry-path, depth}
 use Rattle.tree.specs.Forest.{Forest, nil, node, Place, size}
-use Rattle.tree.specs.Node.{Node, set-tag, set-content, new-node}
+use Rattle.tree.specs.Node.{Node, set-tag, set-content, new-group, new-node}
 use Rattle.tree.specs.Walk.{by-modes}
 use Rattle.tree.specs.Rows.{Row, flatten, rows}
 use Rattle.tree.specs.RowLaws.{length-flatten}
@@ -118,7 +118,7 @@ copy-place-rows w parent e g k n d h =
 
 -- without set-gid it is the primary group
 pub primary-group : (c : Caller) (parent x : Node) → set-gid (parent .mode) ≡ false → c .primary ≡ new-node c parent (x .kind) (copy-mode (x .kind)) .group
-unfolding new-node
+unfolding new-node new-group
 primary-group c parent x h = rw h
 
 -- a copy has no set-gid

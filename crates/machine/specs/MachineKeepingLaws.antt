@@ -35,6 +35,7 @@ use Rattle.tree.specs.Walk.{Judge, by-modes, walk}
 use Rattle.tree.specs.WellFormed.{last-revision, is-node, is-tree}
 use Rattle.tree.specs.JudgeLaws.{kind-by-modes}
 use Rattle.tree.specs.StepLaws.{was-unused, parent-walked}
+use Rattle.tree.specs.RoomLaws.{room-found}
 use Rattle.tree.specs.PlaceLaws.{leaf-size}
 use Rattle.tree.specs.UpdateLaws.{leaf-height}
 use Rattle.tree.specs.NodeLaws.{last-revision-is, node-ranges, node-of-revision, node-of-tag, node-of-content, kind-of-set-revision, kind-of-set-tag, kind-of-set-content}
@@ -42,7 +43,7 @@ use Rattle.tree.specs.WellFormedLaws.{place-node, leaf-place, entered-directory
 use Rattle.tree.specs.ChangeLaws.{keep-alter, keep-alter-all, keep-put, keep-drop}
 use Rattle.copying.specs.Copying.{below-rep, copy}
 use Rattle.copying.specs.CopyLaws.{copy-is-place}
-use Rattle.shell.specs.ShellKeepingLaws.{room-found, fit-most, room-keeps, run-shell-keeps}
+use Rattle.shell.specs.ShellKeepingLaws.{fit-most, room-keeps, run-shell-keeps}
 use Rattle.shell.specs.Replies.{after}
 use Rattle.store.specs.State.{Store, state-of, well-formed}
 use Rattle.store.specs.StateLaws.{parts, formed}
@@ -134,7 +135,7 @@ module _ (u : Setup) (g : is-setup u ≡ true) (s : Store) (w : well-formed (sta
       let j = by-modes (service (u .pairs) z) in
       let x = copy c (source store j) (f .here) e d in
       changed none _ (room-keeps c 0 (s .tree) p f x tree i r
-      (copy-is-place c o (service (u .pairs) z) (f .here) e d (node-at (by-modes (c .account)) (parent p) f (room-found c 0 (s .tree) p f r .0))
+      (copy-is-place c o (service (u .pairs) z) (f .here) e d (node-at (by-modes (c .account)) (parent p) f (room-found (c .account) (s .tree) p r .led))
       k (walked-place j (s .tree) (entry-location e) d tree a) (walked-depth j (s .tree) (entry-location e) d tree a))
       (leb-true (depth p + height (x .below)) 6 l) (fit-most c 0 (s .tree) (suc (size (x .below))) fits))
 

@@ -1,5 +1,4 @@
 pub mod Relabel
 pub mod RelabelLaws
 pub mod Moving
-pub mod VacantLaws
 pub mod MovingLaws

@@ -1,48 +1,48 @@
 -- A place moved: what holds before, and what the tree and the bytes are then and on the way.
 use mathlib.Core.Path.{_≡_}
 use mathlib.Core.List.{List, _++_}
-use mathlib.Core.Option.{none, some}
-use mathlib.Core.Bool.{true, false}
+use mathlib.Core.Option.{some}
+use mathlib.Core.Bool.{false}
 use Prim.Native.Nat.{ℕ, suc, _+_, _*_, _≤_}
 use lib.ListN as L
 use Rattle.buffers.specs.Text.{Text}
 use Rattle.buffers.specs.Fields.{all-bytes}
+use Rattle.accounts.specs.declared.Account.{Account}
 use Rattle.syntax.specs.Path.{Path, parent, last, depth, is-top, within, most-names}
 use Rattle.syntax.specs.Path as paths
-use Rattle.syntax.specs.Parts.{last-slash}
 use Rattle.tree.specs.Layout.{row-width}
-use Rattle.tree.specs.Forest.{Place, get, update, put, drop, size, height}
-use Rattle.tree.specs.Node.{Node, is-directory}
-use Rattle.tree.specs.RowPlaces.{place-rows, lesser}
+use Rattle.tree.specs.Result.{done}
+use Rattle.tree.specs.Forest.{Place, update, put, drop, size, height}
+use Rattle.tree.specs.Node.{Node}
+use Rattle.tree.specs.Walk.{by-modes, room}
+use Rattle.tree.specs.RowPlaces.{place-rows}
 use Rattle.tree.specs.Encoding.{row-bytes}
-use Rattle.tree.specs.TreeBytes.{At}
+use Rattle.tree.specs.TreeBytes.{Encodes, At}
 use Rattle.edits.specs.Changes.{rows-put}
+use Rattle.gaps.specs.Gaps.{gap-of}
 use Rattle.moving.specs.Relabel.{relabelled}
 
--- the bytes of a tree, and the text of a path below `/` where nothing stands, in a directory that is there, with its row
+-- the account that passes every test
+abbrev pub superuser : Account
+superuser = record { uid = record { 0 = 0 }; groups = record { 0 = 0 } }
+
+-- the bytes of a tree, and the text of a path where root finds room for a new child
 pub record Vacant (b : List ℕ) (to : Text) : Type 0 where
   pub tree : Place Node
   pub path : Path
   pub directory : Place Node
-  pub row : ℕ
-  pub above : At b tree (parent path) row directory
+  pub encoded : Encodes b tree
   pub reads : paths.path to ≡ some path
-  pub below-top : is-top path ≡ false
-  pub enterable : is-directory (directory .here .kind) ≡ true
-  pub free : get (last path) (directory .below) ≡ none
+  pub found : room (by-modes superuser) tree path ≡ done directory
 
 module _ {b : List ℕ} {to : Text} (v : Vacant b to) where
-  -- the index at which the rows of a place come in there: behind the directory's own and those below its lesser children
-  unfoldable pub gap-index : ℕ
-  gap-index = suc (v .row + size (lesser (last (v .path)) (v .directory .below)))
-
   -- n rows that begin with that of a place, with the name and the depth of the path
   unfoldable pub relabelled-for : ℕ → List ℕ → List ℕ
   relabelled-for n rows = relabelled n (depth (v .path)) (last (v .path)) rows
 
   -- the bytes with n rows put in there
   unfoldable pub filled : ℕ → List ℕ → List ℕ
-  filled n rows = rows-put b gap-index n rows
+  filled n rows = rows-put b (gap-of (v .tree) (v .path) (v .directory) .at) n rows
 
 -- and in the tree a place below `/`, with its row, that may be moved there: not into itself, and nothing below it comes too deep
 pub record Movable (b : List ℕ) (at : ℕ) (to : Text) : Type 0 where
@@ -80,7 +80,3 @@ some-rows = 16
 
 abbrev pub many-rows : ℕ
 many-rows = 64
-
--- what stands behind the last `/` of a text
-unfoldable pub behind-slash : Text → Text
-behind-slash t = L.drop (suc (last-slash t)) t

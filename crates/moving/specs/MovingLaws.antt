@@ -8,38 +8,50 @@ use native.Mathlib.Omega.{arith}
 use lib.ListN.{take}
 use lib.ListN as L
 use lib.Seq.{paste}
-use Rattle.buffers.specs.Cases.{case, contra}
+use Rattle.buffers.specs.Cases.{case}
 use Rattle.buffers.specs.Text.{Text}
 use Rattle.buffers.specs.Fields.{all-bytes}
-use Rattle.syntax.specs.Path.{Path, root, _▹_, parent, last, depth, is-top, within, most-names}
-use Rattle.syntax.specs.PathLaws.{name-fits, parent-depth}
+use Rattle.accounts.specs.Access.{is-root}
+use Rattle.syntax.specs.Path.{Path, _▹_, parent, last, depth, is-top, within, most-names}
+use Rattle.syntax.specs.PathLaws.{name-fits, parent-and-last}
 use Rattle.syntax.specs.WithinLaws.{deeper, lies, lies-outside}
 use Rattle.tree.specs.Layout.{row-width, row-start, most-rows}
-use Rattle.tree.specs.Forest.{Place, place-at, size}
+use Rattle.tree.specs.Forest.{Place, get, place-at, size}
 use Rattle.tree.specs.Node.{Node, is-directory}
 use Rattle.tree.specs.WellFormed.{nodes, is-tree}
-use Rattle.tree.specs.UpdateLaws.{place-at-child, place-at-parent}
+use Rattle.tree.specs.Result.{done}
+use Rattle.tree.specs.Walk.{by-modes, room}
+use Rattle.tree.specs.UpdateLaws.{place-at-child, place-at-parent, walked-at}
+use Rattle.tree.specs.RoomLaws.{Roomed, room-found, root-room}
 use Rattle.tree.specs.WellFormedLaws.{tree-parts, place-below}
 use Rattle.tree.specs.ChangeLaws.{keep-drop, nodes-drop}
 use Rattle.tree.specs.OtherPathLaws.{drop-none, drop-some}
 use Rattle.tree.specs.RowScan.{end-of-subtree}
-use Rattle.tree.specs.RowPlaces.{index-of, place-rows, lesser}
+use Rattle.tree.specs.RowPlaces.{index-of, place-rows}
 use Rattle.tree.specs.Encoding.{row-bytes, encode-tree}
 use Rattle.tree.specs.RowAt.{row-count, all-rows}
 use Rattle.tree.specs.TreeBytes.{Stretch, At}
 use Rattle.tree.specs.TreeBytesLaws.{encodes, encoded-count, at-index, at-used, at-end, at-within}
 use Rattle.edits.specs.Changes.{rows-put, rows-taken}
-use Rattle.edits.specs.EditLaws.{put-law, take-law, place-fits, place-law}
+use Rattle.edits.specs.EditLaws.{take-law, place-fits, place-law}
+use Rattle.gaps.specs.Gaps.{gap-of}
+use Rattle.gaps.specs.GapsLaws.{last-named, found-stands, stands-place}
 use Rattle.moving.specs.Relabel.{relabelled}
 use Rattle.moving.specs.RelabelLaws.{relabelled-place}
-use Rattle.moving.specs.Moving.{Vacant, gap-index, relabelled-for, filled, Movable, remaining, moved, moved-rows, held-after}
-use Rattle.moving.specs.VacantLaws.{vacant-name}
+use Rattle.moving.specs.Moving.{superuser, Vacant, relabelled-for, filled, Movable, remaining, moved, moved-rows, held-after}
 
--- a path below `/` is its parent with its last name
-parent-and-last : (p : Path) → is-top p ≡ false → p ≡ parent p ▹ last p
-unfolding is-top parent last
-parent-and-last root h = contra {b = true} refl h
-parent-and-last (p ▹ n) h = refl
+is-superuser : is-root (superuser .uid) ≡ true
+unfolding is-root
+is-superuser = refl
+
+-- the room that root finds at a vacant path
+pub vacant-room : {b : List ℕ} {to : Text} (v : Vacant b to) → Roomed superuser (v .tree) (v .path) (v .directory)
+vacant-room v = room-found superuser (v .tree) (v .path) (v .found)
+
+-- root finds one in every directory where the name is not used
+pub superuser-room : (t : Place Node) (p : Path) {d : Place Node} → is-tree t ≡ true → place-at t (parent p) ≡ some d → is-directory (d .here .kind) ≡ true
+    → get (last p) (d .below) ≡ none → is-top p ≡ false → room (by-modes superuser) t p ≡ done d
+superuser-room t p h there directory free below = root-room superuser t p is-superuser h there directory free below
 
 module _ {b : List ℕ} {at : ℕ} {to : Text} (m : Movable b at to) where
   abbrev tree : Place Node
@@ -65,12 +77,16 @@ module _ {b : List ℕ} {at : ℕ} {to : Text} (m : Movable b at to) where
   from-parent = ap (place-at tree) (sym (parent-and-last (m .from) (m .from-below-top))) ∙ m .stands .there
 
   outside-path : within (old-parent ▹ last (m .from)) (new-parent ▹ new-name) ≡ false
-  outside-path = rw (← parent-and-last (m .from) (m .from-below-top), ← parent-and-last (m .vacant .path) (m .vacant .below-top)) (m .outside)
+  outside-path = rw (← parent-and-last (m .from) (m .from-below-top), ← parent-and-last (m .vacant .path) (vacant-room (m .vacant) .below-top)) (m .outside)
 
   outside-parent : within (old-parent ▹ last (m .from)) new-parent ≡ false
   outside-parent =
       let a = old-parent ▹ last (m .from) in
       case (within a new-parent) (λ l. lies-outside outside-path (deeper (lies a new-parent l))) (λ l. l)
+
+  -- the directory where it is to stand
+  directory-there : place-at tree new-parent ≡ some (m .vacant .directory)
+  directory-there = walked-at tree (by-modes superuser) new-parent (m .vacant .directory) (vacant-room (m .vacant) .led)
 
   -- ---- the tree without the place
 
@@ -83,12 +99,12 @@ module _ {b : List ℕ} {at : ℕ} {to : Text} (m : Movable b at to) where
   unfolding remaining
   remaining-none =
       drop-none tree (new-parent ▹ new-name) old-parent (last (m .from)) outside-path
-      (place-at-child tree new-parent new-name (m .vacant .directory) (m .vacant .above .there) ∙ m .vacant .free)
+      (place-at-child tree new-parent new-name (m .vacant .directory) directory-there ∙ vacant-room (m .vacant) .free)
 
   -- and the directory above is there
   remaining-parent : (g : Place Node) × (place-at (remaining m) new-parent ≡ some g) × (g .here ≡ m .vacant .directory .here)
   unfolding remaining
-  remaining-parent = drop-some tree new-parent (m .vacant .directory) old-parent (last (m .from)) outside-parent (m .vacant .above .there)
+  remaining-parent = drop-some tree new-parent (m .vacant .directory) old-parent (last (m .from)) outside-parent directory-there
 
   -- there is room for the place
   remaining-room : nodes (remaining m) + count ≤ most-rows
@@ -127,20 +143,16 @@ module _ {b : List ℕ} {at : ℕ} {to : Text} (m : Movable b at to) where
       pub remaining-vacant : Vacant u to
       remaining-vacant =
           let g = remaining-parent in
+          let f = vacant-room (m .vacant) in
           record {
             tree = remaining m;
             path = m .vacant .path;
             directory = g .0;
-            row = index-of (remaining m) new-parent;
-            above = record {
-              tree = record { sized = rw remaining-bytes (encodes remaining-whole .sized); whole = remaining-whole; bytes = remaining-bytes };
-              there = g .1;
-              row = refl;
-            };
+            encoded = record { sized = rw remaining-bytes (encodes remaining-whole .sized); whole = remaining-whole; bytes = remaining-bytes };
             reads = m .vacant .reads;
-            below-top = m .vacant .below-top;
-            enterable = ap (λ (x : Node). is-directory (x .kind)) (g .2) ∙ m .vacant .enterable;
-            free = sym (place-at-child (remaining m) new-parent new-name (g .0) (g .1)) ∙ remaining-none;
+            found =
+                superuser-room (remaining m) (m .vacant .path) remaining-whole (g .1) (ap (λ (x : Node). is-directory (x .kind)) (g .2) ∙ f .enterable)
+                (sym (place-at-child (remaining m) new-parent new-name (g .0) (g .1)) ∙ remaining-none) (f .below-top);
           }
 
       -- the rows, held in a buffer, get the new name and depth
@@ -157,26 +169,25 @@ module _ {b : List ℕ} {at : ℕ} {to : Text} (m : Movable b at to) where
           ∙ ap (relabelled n k new-name) (held ∙ ap (λ (l : List ℕ). l ++ Q) read)
           ∙ ap (λ (j : ℕ). relabelled j k new-name (old ++ Q)) movable-count
           ∙ relabelled-place (depth (m .from)) k (last (m .from)) new-name (m .place) Q
-          (place-fits (m .stands)) (name-fits new-name (vacant-name (m .vacant)) .0) (omega (arith, m .low))
+          (place-fits (m .stands)) (name-fits new-name (last-named to (m .vacant .reads) (vacant-room (m .vacant) .below-top)) .0) (omega (arith, m .low))
           ∙ ap (λ (j : ℕ). moved-rows m ++ L.drop j Z) i
 
       -- there is room for the rows
       pub remaining-rows : row-count u + n ≤ most-rows
       unfolding remaining-vacant
       remaining-rows =
-          let c : row-count u ≡ nodes (remaining m) = encoded-count (remaining-vacant .above .tree) in
+          let c : row-count u ≡ nodes (remaining m) = encoded-count (remaining-vacant .encoded) in
           omega (arith, remaining-room, movable-count)
 
       -- and put in there they make the tree with the place moved
       pub move-law : (Z w : List ℕ) → w ≡ held-after m Z → filled remaining-vacant n w ≡ encode-tree (moved m)
-      unfolding remaining-vacant filled gap-index moved moved-rows held-after
+      unfolding remaining-vacant filled gap-of moved moved-rows held-after
       move-law Z w is =
-          let g = remaining-parent in
-          let j = suc (index-of (remaining m) new-parent + size (lesser new-name (g .0 .below))) in
+          let v = remaining-vacant in
+          let j = gap-of (v .tree) (v .path) (v .directory) .at in
           let Q = L.drop (row-width * count) Z in
-          let rows-at : ℕ → List ℕ = λ k. all-bytes row-bytes (place-rows k new-name (m .place)) ++ Q in
+          let rows-there = all-bytes row-bytes (place-rows (depth (m .vacant .path)) new-name (m .place)) ++ Q in
           ap (rows-put u j n) is
-          ∙ ap (λ (x : ℕ). rows-put u j x (rows-at (depth (m .vacant .path)))) movable-count
-          ∙ ap (λ (x : ℕ). rows-put u j count (rows-at x)) (sym (parent-depth (m .vacant .path) (m .vacant .below-top)))
-          ∙ put-law (remaining-vacant .above) new-name (m .place) (remaining-vacant .free) (vacant-name (m .vacant))
+          ∙ ap (λ (x : ℕ). rows-put u j x rows-there) movable-count
+          ∙ stands-place (found-stands (v .encoded) superuser (v .path) (v .found)) to (m .vacant .reads) (m .place)
           (place-below tree (m .from) (m .place) (tree-parts tree whole .whole) (m .stands .there)) remaining-room Q

@@ -1,5 +1,4 @@
 // A place of a tree moved with all below it.
-mod gap;
 mod relabel;
 mod subtree;
 

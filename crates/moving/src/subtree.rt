@@ -10,12 +10,16 @@ ghost use Rattle.tree.specs.RowAt.{row-count, all-rows};
 ghost use Rattle.tree.specs.TreeBytes.{Stretch};
 ghost use Rattle.edits.specs.Changes.{rows-taken};
 ghost use Rattle.moving.specs.Moving.{Vacant, relabelled-for, filled, Movable, moved, held-after, few-rows, some-rows, many-rows};
-use crate::gap::gap_for;
-use crate::gap::last_name;
 use crate::relabel::relabel;
+use accounts::Account;
+use accounts::Groups;
+use accounts::Uid;
 use buffers::write_many;
 use edits::put_rows;
 use edits::take_rows;
+use gaps::Room;
+use gaps::last_name;
+use gaps::room_for;
 use tree::FIRST;
 use tree::ROW;
 use tree::subtree_end;
@@ -48,7 +52,8 @@ fn take_held(tree: &mut [u8], at: usize, n: usize, held: &mut [u8])
     take_rows(tree, at, n);
 }
 
-// Puts n rows of a buffer that begin with that of a place in at a path where nothing stands, with its name and depth.
+// Puts n rows of a buffer that begin with that of a place in at a path where nothing stands, with its name and depth. Root finds the room:
+// it may write in every directory.
 fn put_held(tree: &mut [u8], to: &[u8], n: usize, held: &mut [u8])
     requires { ⌜ Vacant (now tree) (now to) ⌝ }
     requires { ⌜ 0 < n ⌝ }
@@ -57,10 +62,17 @@ fn put_held(tree: &mut [u8], to: &[u8], n: usize, held: &mut [u8])
     ensures { λ _. ⌜ ((v : Vacant (now (tree .entry)) (now (to .entry))) → now (tree .exit) ≡ filled v n (now (held .exit))) ⌝ }
     ensures { λ _. ⌜ ((v : Vacant (now (tree .entry)) (now (to .entry))) → now (held .exit) ≡ relabelled-for v n (now (held .entry))) ⌝ }
 {
-    let gap = gap_for(tree, to);
-    let name = last_name(to);
-    relabel(held, n, gap.depth, name);
-    put_rows(tree, gap.at, n, held);
+    let root = Account {
+        uid: Uid(0),
+        groups: Groups(0),
+    };
+    match room_for(tree, root, to) {
+        Room::At { row: _, at, depth } => {
+            relabel(held, n, depth, last_name(to));
+            put_rows(tree, at, n, held);
+        }
+        Room::Refused(_) => {}
+    }
 }
 
 // Moves the place at a row, whose rows are n, by a buffer that holds them on the way.

@@ -1,6 +1,5 @@
 -- No shell command makes a well-formed tree ill-formed, whoever calls, root too.
 use mathlib.Core.Path.{_≡_, refl, sym}
-use mathlib.Core.Option.{none}
 use mathlib.Core.Bool.{true, false, _||_, not}
 use Prim.Native.Nat.{ℕ, suc, _+_, _/_, _≤_}
 use native.Mathlib.Omega.{arith}
@@ -13,22 +12,23 @@ use Rattle.accounts.specs.declared.Uid.{Uid}
 use Rattle.accounts.specs.declared.Gid.{Gid}
 use Rattle.accounts.specs.Caller.{is-caller}
 use Rattle.syntax.specs.Number.{set-gid, is-mode}
-use Rattle.syntax.specs.Path.{Path, root, _▹_, parent, last, depth, is-top, reserved, is-path, most-names}
+use Rattle.syntax.specs.Path.{Path, root, _▹_, parent, last, depth, reserved, is-path, most-names}
 use Rattle.syntax.specs.PathLaws.{path-depth, last-is-name, parent-depth, not-reserved}
 use Rattle.syntax.specs.Field.{is-content}
 use Rattle.commands.specs.Command.{Shell-command, create, mkdir, read, write, rm, rmdir, mv, chmod, chgrp, chown, is-shell-command}
 use Rattle.tree.specs.declared.Kind.{Kind}
 use Rattle.tree.specs.declared.Kind.the-variants.{File, Directory}
-use Rattle.tree.specs.declared.Cause.the-variants.{Access, Exists, WrongKind, NotEmpty, Reserved, Full, IntoItself, TooDeep}
+use Rattle.tree.specs.declared.Cause.the-variants.{Access, WrongKind, NotEmpty, Reserved, Full, IntoItself, TooDeep}
 use Rattle.tree.specs.Result.{Result, done, Outcome}
 use Rattle.tree.specs.Outcomes.{gives, Ensures}
-use Rattle.tree.specs.GivesLaws.{any-outcome, done-with, then-check, then-guard, then-do}
-use Rattle.tree.specs.Forest.{Place, get, update, put, leaf, size, height}
+use Rattle.tree.specs.GivesLaws.{any-outcome, then-check, then-guard, then-do}
+use Rattle.tree.specs.Forest.{Place, update, put, leaf, size, height}
 use Rattle.tree.specs.Node.{is-directory, Node, set-owner, set-group, set-mode, set-content, new-node}
 use Rattle.tree.specs.Walk.{by-modes, walk, room}
 use Rattle.tree.specs.WellFormed.{nodes, is-node, is-place, is-tree}
-use Rattle.tree.specs.JudgeLaws.{file-is-none, directory-is-one, room-by-modes}
+use Rattle.tree.specs.JudgeLaws.{file-is-none, directory-is-one}
 use Rattle.tree.specs.StepLaws.{was-unused, parent-walked}
+use Rattle.tree.specs.RoomLaws.{room-found}
 use Rattle.tree.specs.PlaceLaws.{leaf-size}
 use Rattle.tree.specs.UpdateLaws.{leaf-height}
 use Rattle.tree.specs.NodeLaws.{new-node-fits, node-of-owner, node-of-group, node-of-mode, node-of-content, kind-of-set-owner, kind-of-set-group, kind-of-set-mode, kind-of-set-content}
@@ -41,24 +41,7 @@ plain-mode-fits : (m : ℕ) → ltb m 512 ≡ true → (is-mode m ≡ true) × (
 unfolding is-mode set-gid
 plain-mode-fits m h = (rw h, ne-eqb (m / 512) 2 (omega (arith, ltb-true m 512 h)))
 
--- a directory for a new node at p: the walk to the parent leads there, and the name is not used
-abbrev Room : Caller → Place Node → Path → Place Node → Type 0
-Room c t p d = (walk (by-modes (c .account)) t (parent p) ≡ done d) × (is-directory (d .here .kind) ≡ true) × (get (last p) (d .below) ≡ none) × (is-top p ≡ false)
-
 module _ (c : Caller) (m : ℕ) (t : Place Node) where
-  room-ensures : (p : Path) → Ensures (Room c t p) (room (by-modes (c .account)) t p)
-  room-ensures p = rw (room-by-modes (c .account) t p) (
-      then-check Exists tt _ λ a.
-      then-do _ λ d e.
-      then-guard (any-outcome _) λ b.
-      then-check Access tt _ λ _.
-      let i = parent-walked (by-modes (c .account)) t p e in
-      gives (i .0, entered-directory (c .account) (d .here) (i .1), was-unused (last p) (d .below) b, not-true (is-top p) a))
-
-  -- the room for a new node is a directory that the walk to the parent leads to, without that name
-  pub room-found : (p : Path) (d : Place Node) → room (by-modes (c .account)) t p ≡ done d → Room c t p d
-  room-found p d e = done-with (room-ensures p) e
-
   -- what fits is at most 256 nodes
   pub fit-most : (k : ℕ) → fit c m t k ≡ true → nodes t + k ≤ 256
   unfolding fit
@@ -68,8 +51,9 @@ module _ (c : Caller) (m : ℕ) (t : Place Node) where
   pub room-keeps : (p : Path) (d e : Place Node) → is-tree t ≡ true → is-path p ≡ true → room (by-modes (c .account)) t p ≡ done d → is-place e ≡ true
       → depth p + height (e .below) ≤ 6 → nodes t + suc (size (e .below)) ≤ 256 → is-tree (update (parent p) (put (last p) e) t) ≡ true
   room-keeps p d e h a i w l n =
-      let f = room-found p d i in
-      keep-put (by-modes (c .account)) t (parent p) d (last p) e h (f .0) (f .1) (f .2) (last-is-name p a (f .3)) w (omega (arith, parent-depth p (f .3))) n
+      let f = room-found (c .account) t p i in
+      keep-put (by-modes (c .account)) t (parent p) d (last p) e h (f .led) (f .enterable) (f .free) (last-is-name p a (f .below-top)) w
+      (omega (arith, parent-depth p (f .below-top))) n
 
   module _ (o : is-caller c ≡ true) (h : is-tree t ≡ true) where
     abbrev Keeps : Result (Outcome (Place Node)) → Type 0
@@ -86,7 +70,7 @@ module _ (c : Caller) (m : ℕ) (t : Place Node) where
         then-do _ λ d e.
         then-check Full tt _ λ f.
         let x = new-node c (d .here) kind mode in
-        gives (room-keeps p d (leaf x) h a e (leaf-place x (new-node-fits c (d .here) kind mode o (node-at (parent p) d (room-found p d e .0)) b g))
+        gives (room-keeps p d (leaf x) h a e (leaf-place x (new-node-fits c (d .here) kind mode o (node-at (parent p) d (room-found (c .account) t p e .led)) b g))
         (omega (arith, leaf-height x, path-depth p a)) (omega (arith, leaf-size x, fit-most 1 f)))
 
     read-keeps : (p : Path) → Keeps (run-read c m t p)

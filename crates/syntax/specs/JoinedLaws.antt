@@ -24,7 +24,7 @@ pieces-one b [] h = refl
 pieces-one b (c ∷ p) h = let i : _ = lacks-both b c p h in rw (i .0, pieces-one b p (i .1))
 
 -- and before a separator it is the first
-pieces-first : (b : ℕ) (p t : Text) → lacks b p ≡ true → pieces b (p ++ (b ∷ t)) ≡ p ∷ pieces b t
+pub pieces-first : (b : ℕ) (p t : Text) → lacks b p ≡ true → pieces b (p ++ (b ∷ t)) ≡ p ∷ pieces b t
 unfolding pieces prefix-first
 pieces-first b [] t h = rw (eq-eqb b b refl)
 pieces-first b (c ∷ p) t h = let i : _ = lacks-both b c p h in rw (i .0, pieces-first b p t (i .1))

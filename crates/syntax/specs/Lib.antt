@@ -6,13 +6,14 @@ pub mod FormLaws
 pub mod NumberLaws
 pub mod RenderLaws
 pub mod Path
-pub mod PathLaws
 pub mod WithinLaws
+pub mod PathLaws
 pub mod Field
 pub mod FieldLaws
 pub mod Parts
 pub mod PartsLaws
 pub mod PathPartsLaws
 pub mod ParentLaws
+pub mod PathTextLaws
 pub mod FieldPartsLaws
 pub mod Compute

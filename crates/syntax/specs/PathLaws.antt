@@ -1,6 +1,7 @@
 -- Laws of names, paths and entry paths: their texts read back to them, what is read is in range, and texts fit their places.
 use mathlib.Core.Path.{_≡_, refl, sym, ap, _∙_}
 use mathlib.Core.List.{List, [], _∷_, _++_, append-assoc}
+use mathlib.Core.Logic.{_⊎_, inl, inr}
 use mathlib.Core.Option.{some}
 use mathlib.Core.Bool.{true, false, _&&_, not}
 use Prim.Native.Nat.{ℕ, suc, _+_, _*_, _≤_, _<_}
@@ -12,10 +13,11 @@ use Rattle.buffers.specs.Cases.{case, and-both, contra}
 use Rattle.buffers.specs.Text.{Text, same-text, every, lacks}
 use Rattle.buffers.specs.TextLaws.{same-text-refl, same-text-sound, every-implies, every-append}
 use Rattle.syntax.specs.Pieces.{bytes, joined, pieces}
-use Rattle.syntax.specs.JoinedLaws.{pieces-joined}
+use Rattle.syntax.specs.JoinedLaws.{pieces-first, pieces-joined}
 use Rattle.syntax.specs.Form.{_>>=_, _>>_, check}
 use Rattle.syntax.specs.FormLaws.{no-answer, both-read, checked, answered}
 use Rattle.syntax.specs.Path.{Name, Path, root, _▹_, Entry-path, parent, last, depth, is-top, rep, in-rep, entry-location, reserved, name-byte, is-name, most-names, has-names, is-path, is-entry-path, extended, names-from-top, path, without-rep, entry-at, entry-path, names-text, path-text, entry-text}
+use Rattle.syntax.specs.WithinLaws.{Lies, itself, deeper}
 
 -- the bytes of names are from 48 on
 name-byte-from : (b : ℕ) → name-byte b ≡ true → 48 ≤ b
@@ -90,6 +92,43 @@ unfolding lacks every
 pieces-names p h =
     rw (names-text-joined p)
     (pieces-joined 47 [] (names p) (every-implies is-name (lacks 47) (name-lacks 47 (omega arith)) (names p) (every-names p ∙ h)))
+
+-- and with more behind them
+pieces-names-more : (p : Path) (t : Text) → has-names p ≡ true → pieces 47 (names-text p ++ (47 ∷ t)) ≡ ([] ∷ names p) ++ pieces 47 t
+unfolding names-text names has-names pieces
+pieces-names-more root t h = refl
+pieces-names-more (p ▹ n) t h =
+    let i : _ = and-both (has-names p) (is-name n) h in
+    rw (append-assoc (names-text p) (47 ∷ n) (47 ∷ t), pieces-names-more p (n ++ (47 ∷ t)) (i .0), pieces-first 47 n t (name-lacks 47 (omega arith) n (i .1)))
+    (ap (λ (l : List Text). [] ∷ l) (sym (append-assoc (names p) (n ∷ []) (pieces 47 t))))
+
+extended-append : (q : Path) (k l : List Name) → extended q (k ++ l) ≡ extended (extended q k) l
+unfolding extended
+extended-append q [] l = refl
+extended-append q (n ∷ k) l = extended-append (q ▹ n) k l
+
+lies-extended : {p : Path} (q : Path) (ns : List Name) → Lies p q → Lies p (extended q ns)
+unfolding extended
+lies-extended q [] l = l
+lies-extended q (n ∷ ns) l = lies-extended (q ▹ n) ns (deeper l)
+
+-- where the text of a path's names goes on with a `/`, the longer one lies below it
+pub text-lies : (p q : Path) (t : Text) → has-names p ≡ true → has-names q ≡ true → names-text q ≡ names-text p ++ (47 ∷ t) → Lies p q
+text-lies p q t h k e =
+    let c : [] ∷ names q ≡ [] ∷ (names p ++ pieces 47 t) = sym (pieces-names q k) ∙ ap (pieces 47) e ∙ pieces-names-more p t h in
+    let d : names q ≡ names p ++ pieces 47 t = cc in
+    let x : q ≡ extended p (pieces 47 t) =
+    sym (extended-names q) ∙ ap (extended root) d ∙ extended-append root (names p) (pieces 47 t) ∙ ap (λ (r : Path). extended r (pieces 47 t)) (extended-names p) in
+    rw x (lies-extended p (pieces 47 t) itself)
+
+-- and so goes on the text of what lies below
+pub lies-text : {p q : Path} → Lies p q → (names-text q ≡ names-text p) ⊎ ((t : Text) × (names-text q ≡ names-text p ++ (47 ∷ t)))
+unfolding names-text
+lies-text itself = inl refl
+lies-text {p} (deeper {n = n} l) = elim (lies-text l) [
+  | inl e ↦ inr (n, ap (λ (s : Text). s ++ (47 ∷ n)) e)
+  | inr e ↦ inr (e .0 ++ (47 ∷ n), ap (λ (s : Text). s ++ (47 ∷ n)) (e .1) ∙ append-assoc (names-text p) (47 ∷ e .0) (47 ∷ n))
+]
 
 names-back : (p : Path) → is-path p ≡ true → 1 ≤ depth p → names-from-top (pieces 47 (names-text p)) ≡ some p
 unfolding is-path names-from-top check _>>_
@@ -256,6 +295,12 @@ pub parent-depth : (p : Path) → is-top p ≡ false → suc (depth (parent p)) 
 unfolding parent is-top depth
 parent-depth root t = contra refl t
 parent-depth (p ▹ n) t = refl
+
+-- and with its last name is the path
+pub parent-and-last : (p : Path) → is-top p ≡ false → p ≡ parent p ▹ last p
+unfolding is-top parent last
+parent-and-last root t = contra {b = true} refl t
+parent-and-last (p ▹ n) t = refl
 
 -- what is not reserved is not `/`
 pub not-reserved : (p : Path) → reserved p ≡ false → is-top p ≡ false

@@ -42,7 +42,7 @@ within-self root = same-path-refl root
 within-self (p ▹ n) = rw (same-path-refl (p ▹ n))
 
 -- and what lies there the test finds
-lies-within : {p q : Path} → Lies p q → within p q ≡ true
+pub lies-within : {p q : Path} → Lies p q → within p q ≡ true
 unfolding within
 lies-within {p} itself = within-self p
 lies-within {p} (deeper {q = q} {n = n} l) = rw (lies-within l) (or-true (same-path p (q ▹ n)))

@@ -31,6 +31,17 @@ unfolding is-directory same-kind
 directory-not-file File h = sym h
 directory-not-file Directory h = refl
 
+-- what is of a file's kind, and of a directory's
+pub kind-of-file : (k : Kind) → same-kind k File ≡ not (is-directory k)
+unfolding is-directory same-kind
+kind-of-file File = refl
+kind-of-file Directory = refl
+
+pub kind-of-directory : (k : Kind) → same-kind k Directory ≡ is-directory k
+unfolding is-directory same-kind
+kind-of-directory File = refl
+kind-of-directory Directory = refl
+
 module _ (a : Account) (n : Node) where
   -- the test of a node's owner, group and mode
   pub allows-is : (t : Right) → allows a t n ≡ may a t (n .owner) (n .group) (n .mode)
@@ -75,5 +86,3 @@ module _ (n : Node) where
       set-content c n ≡ record { kind = n .kind; owner = n .owner; group = n .group; mode = n .mode; revision = n .revision; tag = n .tag; content = c }
   unfolding set-content
   set-content-is c = refl
-
--- ---- kinds

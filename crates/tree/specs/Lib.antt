@@ -25,6 +25,7 @@ pub mod SoundTree
 pub mod SoundTreeLaws
 pub mod ChangeLaws
 pub mod OtherPathLaws
+pub mod RoomLaws
 pub mod MapLaws
 pub mod Graft
 pub mod GraftLaws

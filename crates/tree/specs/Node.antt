@@ -47,12 +47,16 @@ allows a t n = may a t (n .owner) (n .group) (n .mode)
 unfoldable pub owns : Account → Node → Bool
 owns a n = is-root (a .uid) || same-uid (a .uid) (n .owner)
 
--- A new node is the caller's; its group is its parent's if the parent has set-gid, else the person's primary group.
+-- A new node's group is its parent's if the parent has set-gid, else the person's primary group.
+unfoldable pub new-group : Caller → Node → Gid
+new-group c parent = cond (set-gid (parent .mode)) (parent .group) (c .primary)
+
+-- A new node is the caller's.
 unfoldable pub new-node : Caller → Node → Kind → ℕ → Node
 new-node c parent kind mode = record {
   kind = kind;
   owner = c .account .uid;
-  group = cond (set-gid (parent .mode)) (parent .group) (c .primary);
+  group = new-group c parent;
   mode = mode;
   revision = 0;
   tag = none;

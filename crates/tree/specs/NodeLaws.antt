@@ -20,7 +20,7 @@ use Rattle.syntax.specs.Field.{content-limit, is-content}
 use Rattle.syntax.specs.FormLaws.{no-answer, answered, both}
 use Rattle.tree.specs.declared.Kind.{Kind}
 use Rattle.tree.specs.declared.Kind.the-variants.{File, Directory}
-use Rattle.tree.specs.Node.{is-directory, Tag, Node, new-node, set-owner, set-group, set-mode, set-revision, set-tag, set-content}
+use Rattle.tree.specs.Node.{is-directory, Tag, Node, new-group, new-node, set-owner, set-group, set-mode, set-revision, set-tag, set-content}
 use Rattle.tree.specs.WellFormed.{last-revision, is-tag, fits-kind, is-node}
 
 -- the last revision's number
@@ -205,10 +205,25 @@ pub kind-of-set-content : (c : Text) (n : Node) → set-content c n .kind ≡ n 
 unfolding set-content
 kind-of-set-content c n = refl
 
--- a node that a caller in range makes is in range
+-- its group is the parent's with set-gid there, else the caller's primary one
+pub group-given : (c : Caller) (parent : Node) → set-gid (parent .mode) ≡ true → new-group c parent ≡ parent .group
+unfolding new-group
+group-given c parent h = rw h
+
+pub group-primary : (c : Caller) (parent : Node) → set-gid (parent .mode) ≡ false → new-group c parent ≡ c .primary
+unfolding new-group
+group-primary c parent h = rw h
+
+-- what a caller makes
+pub new-node-is : (c : Caller) (parent : Node) (kind : Kind) (mode : ℕ) →
+    new-node c parent kind mode ≡ record { kind = kind; owner = c .account .uid; group = new-group c parent; mode = mode; revision = 0; tag = none; content = [] }
+unfolding new-node
+new-node-is c parent kind mode = refl
+
+-- is in range if the caller is
 pub new-node-fits : (c : Caller) (parent : Node) (kind : Kind) (mode : ℕ) → is-caller c ≡ true → is-node parent ≡ true → is-mode mode ≡ true
     → (is-directory kind || not (set-gid mode)) ≡ true → is-node (new-node c parent kind mode) ≡ true
-unfolding new-node is-caller
+unfolding new-node new-group is-caller
 new-node-fits c parent kind mode o h a b =
     let i = and-both (ltb (c .account .uid .0) 24) (ltb (c .primary .0) 25) o in
     case (set-gid (parent .mode))

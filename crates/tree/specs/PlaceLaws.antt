@@ -1,8 +1,10 @@
 -- What a leaf holds, what a child put in leaves and changes, and a change at `/`.
 use mathlib.Core.Path.{_≡_, refl}
+use mathlib.Core.Bool.{true}
 use Prim.Native.Nat.{suc}
 use Rattle.syntax.specs.Path.{Name, root}
-use Rattle.tree.specs.Forest.{nil, Place, insert, under, update, put, leaf, size}
+use Rattle.tree.specs.Forest.{Forest, nil, Place, is-empty, insert, under, update, put, leaf, size}
+use Rattle.tree.specs.ForestLaws.{empty-is-nil}
 use Rattle.tree.specs.WellFormed.{nodes}
 
 module _ {A : Type 0} where
@@ -20,6 +22,11 @@ module _ {A : Type 0} where
   pub leaf-size : (x : A) → size (leaf x .below) ≡ 0
   unfolding leaf size
   leaf-size x = refl
+
+  -- nor where nothing lies
+  pub empty-size : (F : Forest A) → is-empty F ≡ true → size F ≡ 0
+  unfolding size
+  empty-size F e = rw (empty-is-nil F e)
 
   -- the nodes of a tree are `/` and those below
   pub nodes-below : (d : Place A) → nodes d ≡ suc (size (d .below))

@@ -1,5 +1,5 @@
 -- Laws of outcomes: what has been done where something is done, and how a refusal and what is done go on.
-use mathlib.Core.Path.{_≡_, refl}
+use mathlib.Core.Path.{_≡_, refl, sym, ap}
 use mathlib.Core.Option.{Option, none, some}
 use mathlib.Core.Bool.{Bool, true, false}
 use Rattle.buffers.specs.Cases.{contra}
@@ -42,6 +42,12 @@ unfolding _>>_
 then-done (refused why) r e = not-done e
 then-done (done u) r e = (refl, e)
 
+-- a step that is never refused is refused only before
+pub refused-before : {A B : Type 0} (w : Result A) (f : A → B) {why : Cause} → (w >>= λ d. done (f d)) ≡ refused why → w ≡ refused why
+unfolding _>>=_
+refused-before (refused c) f {why} e = let q : c ≡ why = cc in ap refused q
+refused-before (done d) f e = not-done (sym e)
+
 -- ---- how outcomes go on
 
 -- what is there is done as present
@@ -83,6 +89,14 @@ require-true why = refl
 pub require-false : (why : Cause) → require false why ≡ refused why
 unfolding require
 require-false why = refl
+
+-- two checks for one cause come in either order
+pub checks-swap : {A : Type 0} (x y : Bool) (why : Cause) (r : Result A) → (require x why >> (require y why >> r)) ≡ (require y why >> (require x why >> r))
+unfolding _>>_ require
+checks-swap true true why r = refl
+checks-swap true false why r = refl
+checks-swap false true why r = refl
+checks-swap false false why r = refl
 
 -- checks one after another are grouped either way
 pub then-then : {A : Type 0} (a b : Result (Unit {0})) (c : Result A) → ((a >> b) >> c) ≡ (a >> (b >> c))

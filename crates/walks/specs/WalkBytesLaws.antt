@@ -18,7 +18,7 @@ use Rattle.tree.specs.declared.Cause.{Cause}
 use Rattle.tree.specs.declared.Child.{Child}
 use Rattle.tree.specs.declared.Cause.the-variants.{Missing}
 use Rattle.tree.specs.Result.{Result, refused, done, _>>=_, _>>_, present}
-use Rattle.tree.specs.ResultLaws.{not-done, bind-done}
+use Rattle.tree.specs.ResultLaws.{bind-done, refused-before}
 use Rattle.tree.specs.Forest.{Place, get, place-at}
 use Rattle.tree.specs.Node.{Node}
 use Rattle.tree.specs.Walk.{Judge, by-modes, look, enter, walk, parent-walk}
@@ -131,14 +131,8 @@ unfolding parent
 place-above t root {d} e = (d, e)
 place-above t (p ▹ n) {d} e = let i = place-at-parent t p n d e in (i .0, i .1)
 
--- a step that is never refused is refused only before
-refused-before : {A B : Type 0} (w : Result A) (s : B) (k : Cause) → (w >>= λ d. done s) ≡ refused k → w ≡ refused k
-unfolding _>>=_
-refused-before (refused c) s k e = let q : c ≡ k = cc in ap refused q
-refused-before (done d) s k e = not-done (sym e)
-
 module _ {b : List ℕ} {t : Place Node} (tree : Encodes b t) (w : Result (Place Node)) (p : Path) {r : Walked} (same : outcome r ≡ (w >>= λ d. done (spot-of t p))) where
-  -- a walk in the tree that leads to the place at p
+  -- a walk in the tree that leads to the place at p, whatever else it checks
   pub came-to : ((d : Place Node) → w ≡ done d → place-at t p ≡ some d) → {row above : ℕ} → r ≡ To row above → Came b t p w row above
   unfolding spot-of
   came-to leads {row} {above} e =
@@ -156,7 +150,7 @@ module _ {b : List ℕ} {t : Place Node} (tree : Encodes b t) (w : Result (Place
 
   -- one that is refused
   pub came-not : {k : Cause} → r ≡ Refused k → w ≡ refused k
-  came-not {k} e = refused-before w (spot-of t p) k (sym same ∙ ap outcome e ∙ outcome-refused k)
+  came-not {k} e = refused-before w (λ d. spot-of t p) (sym same ∙ ap outcome e ∙ outcome-refused k)
 
 module _ {b : List ℕ} {t : Place Node} (tree : Encodes b t) (a : Account) (s : Text) {p : Path} (reads : path s ≡ some p) where
   is-walk : walk-in a (all-rows b) s ≡ (walk (by-modes a) t p >>= λ d. done (spot-of t p))

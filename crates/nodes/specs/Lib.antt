@@ -1,0 +1,3 @@
+pub mod NodeChecks
+pub mod NodeChecksLaws
+pub mod NodeChangesLaws
