@@ -3,28 +3,27 @@
 -- In order: the bytes of one value; tests in another order; the parts, and the whole header.
 use mathlib.Core.Path.{_≡_, refl, sym, _∙_, ap, ap₂}
 use mathlib.Core.List.{List, [], _∷_, _++_}
-use mathlib.Core.Option.{Option, none}
+use mathlib.Core.Option.{none}
 use mathlib.Core.Bool.{Bool, true, false, _&&_, _||_, not, cond, and-false, and-true, Bool·not-not}
 use Prim.Native.Nat.{ℕ, zero, suc, _+_, _-_, _*_, _/_, _%_, _≤_, _<_}
 use native.Mathlib.Omega.{arith}
 use native.Mathlib.Nat.{add-zero}
 use lib.Dec.{eqb, leb, ltb}
 use lib.ListN.{length, getD, take, drop, replicate, length-drop, List·getD-eq-default}
-use lib.Seq.{drop-drop, take-all, take-take, getD-take, getD-drop}
-use borrow.Author.Tests.{eqb-true, eqb-false, ne-eqb, eq-eqb, leb-true, leb-false, le-leb, lt-leb, lt-ltb, ltb-false}
+use lib.Seq.{take-all, take-take, getD-take, getD-drop}
+use borrow.Author.Tests.{eqb-true, eqb-false, ne-eqb, eq-eqb, leb-true, leb-false, le-leb, lt-ltb}
 use Rattle.buffers.specs.Cases.{case}
 use Rattle.buffers.specs.Text.{same-text, every}
 use Rattle.buffers.specs.TextLaws.{same-text-refl}
-use Rattle.buffers.specs.Fields.{two-bytes, number-at, padded, unpadded, text-at, all-zero, zeros-at, is-filled, all-bytes, all-from, table-bytes, table-from}
+use Rattle.buffers.specs.Fields.{two-bytes, number-at, padded, unpadded, text-at, all-zero, zeros-at, all-bytes, all-from, table-bytes, table-from}
 use Rattle.buffers.specs.FieldsLaws.{length-two-bytes, length-padded}
 use Rattle.buffers.specs.TableLaws.{length-all-from, all-from-at}
-use Rattle.accounts.specs.declared.Uid.{Uid}
 use Rattle.accounts.specs.Access.{is-root}
 use Rattle.accounts.specs.Dominance.{falls}
 use Rattle.syntax.specs.Path.{is-name}
 use Rattle.syntax.specs.Form.{is-some}
 use Rattle.syntax.specs.Field.{bounded, bounded-by}
-use Rattle.setup.specs.Setup.{Person, Setup, accounts, most-pairs, most-grants, person, is-person, is-slot, is-pair, is-grant, is-setup}
+use Rattle.setup.specs.Setup.{Setup, accounts, most-pairs, most-grants, person, is-person, is-slot, is-pair, is-grant, is-setup}
 use Rattle.soundness.specs.RowTestLaws.{eqb-flip, length-text-at, same-filled, same-zeros-at}
 use Rattle.store.specs.StoreBytes.{slot-bytes, slot-of, session-byte, session-of, pair-bytes, pair-of, grant-bytes, grant-of, header-bytes, setup-of, sessions-of, is-header}
 use Rattle.sound_store.specs.HeaderTests.{Header-wide, passes-from, slot-start, pair-start, grant-start, is-slot-at, has-slots, is-session-at, has-sessions, is-pair-at, has-pairs, named-at, is-password-at, is-grant-at, has-grants, header-test}

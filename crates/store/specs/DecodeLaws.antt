@@ -1,5 +1,5 @@
 -- Bytes are read as a state just if there are as many as a store has, the first are those of a header, and the others are read as a tree.
-use mathlib.Core.Path.{_≡_, sym, _∙_, ap, ap₂}
+use mathlib.Core.Path.{_≡_, _∙_, ap₂}
 use mathlib.Core.List.{List, [], _++_, append-nil}
 use mathlib.Core.Option.{some}
 use mathlib.Core.Bool.{true, _&&_}

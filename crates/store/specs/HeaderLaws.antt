@@ -24,7 +24,7 @@ use Rattle.syntax.specs.Field.{bounded, bounded-by}
 use Rattle.syntax.specs.Form.{is-some}
 use Rattle.setup.specs.Setup.{Person, Grant, Setup, accounts, most-pairs, most-grants, person, is-person, is-slot, is-pair, is-grant, is-setup}
 use Rattle.setup.specs.SetupLaws.{apart}
-use Rattle.store.specs.HeaderLayout.{sessions-offset}
+use Rattle.store.specs.HeaderLayout.{sessions-offset, pair-width, grant-width}
 use Rattle.store.specs.State.{Sessions}
 use Rattle.store.specs.StoreBytes.{header-width, slot-bytes, slot-of, session-byte, session-of, pair-bytes, pair-of, grant-bytes, grant-of, header-bytes, setup-of, sessions-of}
 
@@ -76,7 +76,8 @@ length-session : (z : Option Bounded-role) → any-session z ≡ true → length
 unfolding one-session
 length-session z t = refl
 
-grant-password : (u : Setup) (g : Grant) → is-grant u g ≡ true → (length (g .password) ≤ 8) × (lacks 0 (g .password) ≡ true)
+-- a password fits its field, and has no zero
+pub grant-password : (u : Setup) (g : Grant) → is-grant u g ≡ true → (length (g .password) ≤ 8) × (lacks 0 (g .password) ≡ true)
 unfolding is-grant
 grant-password u g h =
     let i = and-both (is-root (g .uid) || is-some (person u (g .uid))) (ltb (g .role .0) 8 && is-name (g .password)) h in
@@ -162,6 +163,16 @@ length-pairs u h = let r = apart u h in length-table 2 is-pair pair-bytes length
 length-grants : (u : Setup) → is-setup u ≡ true → length (grants-part u) ≡ 321
 unfolding grants-part most-grants
 length-grants u h = let r = apart u h in length-table 10 (is-grant u) grant-bytes (length-grant u) 32 (u .grants) (r .all-grants) (r .few-grants)
+
+-- the widths of these parts, of a setup in range
+pub record Part-widths (u : Setup) : Type 0 where
+  pub slots : length (all-bytes slot-bytes (u .persons)) ≡ 48
+  pub pairs : length (table-bytes pair-width most-pairs pair-bytes (u .pairs)) ≡ 57
+  pub grants : length (table-bytes grant-width most-grants grant-bytes (u .grants)) ≡ 321
+
+pub part-widths : (u : Setup) → is-setup u ≡ true → Part-widths u
+unfolding slots-part pairs-part grants-part
+part-widths u h = record { slots = length-slots u h; pairs = length-pairs u h; grants = length-grants u h }
 
 persons-back : (u : Setup) (Q : List ℕ) → is-setup u ≡ true → all-from 3 slot-of accounts (slots-part u ++ Q) ≡ u .persons
 unfolding slots-part accounts

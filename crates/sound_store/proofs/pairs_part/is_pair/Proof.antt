@@ -1,5 +1,5 @@
 -- `sound_store::pairs_part::is_pair` meets its contract: each return by the bytes that have been tested.
-use mathlib.Core.Path.{sym, _∙_}
+use mathlib.Core.Path.{sym}
 use native.Mathlib.Omega.{arith}
 use denote.Ref.{now}
 use Rattle.sound_store.specs.StoreStepLaws.{pair-rises, pair-falls}

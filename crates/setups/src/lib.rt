@@ -1,0 +1,50 @@
+// The whole store written from a setup: its header, and the initial tree behind it.
+ghost use mathlib.Core.Path.{_≡_};
+ghost use lib.ListN.{length};
+ghost use Rattle.setup.specs.Reader.{setup-value};
+ghost use Rattle.store.specs.State.{state-of};
+ghost use Rattle.store.specs.Initial.{no-sessions, initial-store};
+ghost use Rattle.store.specs.StoreBytes.{header-width, store-width, header-bytes, encode};
+ghost use Rattle.setups.specs.Writable.{Writable};
+
+mod header_parts;
+mod header_values;
+
+use buffers::clear;
+use header_parts::write_grants;
+use header_parts::write_pairs;
+use header_parts::write_slots;
+use setup::Setup;
+use store::HEADER;
+use store::SESSIONS;
+use store::SPARE;
+use store::write_initial;
+
+// Writes the header of a setup without sessions, whatever stood there.
+pub fn write_header(header: &mut [u8], text: &[u8], setup: Setup)
+    requires { ⌜ length (now header) ≡ header-width ⌝ }
+    requires { ⌜ Writable (now text) setup ⌝ }
+    ensures { λ _. ⌜ now (header .exit) ≡ header-bytes (setup-value (now (text .entry)) setup) no-sessions ⌝ }
+{
+    let persons = setup.persons;
+    let pairs = setup.pairs;
+    let paired = setup.paired;
+    let grants = setup.grants;
+    let granted = setup.granted;
+    write_slots(header, persons);
+    clear(header, SESSIONS, 16);
+    write_pairs(header, pairs, paired);
+    write_grants(header, text, grants, granted);
+    clear(header, SPARE, HEADER - SPARE);
+}
+
+// Writes the initial store of a setup, whatever stood there.
+pub fn write_store(store: &mut [u8], text: &[u8], setup: Setup)
+    requires { ⌜ length (now store) ≡ store-width ⌝ }
+    requires { ⌜ Writable (now text) setup ⌝ }
+    ensures { λ _. ⌜ now (store .exit) ≡ encode (state-of (setup-value (now (text .entry)) setup) (initial-store (setup-value (now (text .entry)) setup))) ⌝ }
+{
+    let persons = setup.persons;
+    write_header(&mut store[..HEADER], text, setup);
+    write_initial(&mut store[HEADER..], persons);
+}
