@@ -35,7 +35,7 @@ use Rattle.tree.specs.RowAtLaws.{length-all-rows, row-in-rows}
 use Rattle.tree.specs.TreeBytes.{Has-row, Encodes, Whole}
 use Rattle.tree.specs.TreeBytesLaws.{encoded-rows, encoded-tag, at-root, at-row}
 use Rattle.listing.specs.Listing.{kind-text, tag-fields, node-line, forest-lines, listing, Line-written}
-use Rattle.listing.specs.RowListing.{Names-seen, none-seen, row-seen, rows-seen, path-seen, lines-behind, lines-in, names-among, row-path, Told-rows, names-told, Last-rows, Wrote-most, or-dash, owner-fields, number-fields, tag-fields-at, fields-at}
+use Rattle.listing.specs.RowListing.{Names-seen, none-seen, row-seen, rows-seen, path-seen, lines-behind, lines-in, names-among, row-path, names-told, Last-rows, Wrote-most, or-dash, owner-fields, number-fields, tag-fields-at, fields-at}
 
 -- ---- the lines of a tree's rows
 

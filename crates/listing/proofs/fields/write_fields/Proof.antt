@@ -1,6 +1,6 @@
 -- `listing::fields::write_fields` meets its contract: the fields stand one behind the other.
 use mathlib.Core.Path.{ap}
-use mathlib.Core.List.{_∷_, _++_}
+use mathlib.Core.List.{_∷_}
 use native.Mathlib.Omega.{arith}
 use lib.ListN.{length}
 use denote.Ref.{now}
@@ -30,7 +30,8 @@ content-at-requires c κs = search needs
 
 write-behind-requires : tie.Need-write-behind-requires
 write-behind-requires c κs =
-    let a = c .before .before .before .before .before .before .before .before .before .before .before .before .before .before .before .before .before .before .before .before .args in
+    let kind = c .before .before .before .before .before .before .before .before .before .before .before .before .before .before .before .before in
+    let a = kind .before .before .before .before .args in
     let e = ap length (c .content-at .ensures) in
     omega (arith, row-content-fits (now (a .tree)) (a .i))
 
@@ -40,12 +41,16 @@ same-length c = search needs
 returns : tie.Need-returns
 unfolding fields-at comma
 returns c =
-    let a = c .before .before .before .before .before .before .before .before .before .before .before .before .before .before .before .before .before .before .before .before .before .before .before .args in
+    let tag = c .before .before .before .before .before .before .before in
+    let numbers = tag .before .before .before .before in
+    let owners = numbers .before .before .before .before in
+    let kind = owners .before .before .before .before in
+    let a = kind .before .before .before .before .args in
     let content = c .before .before .before .content-at .ensures in
     let e = ap length content in
-    let first = writes-both (c .before .before .before .before .before .before .before .before .before .before .before .before .before .before .before .before .before .before .before .write-kind .ensures) (c .before .before .before .before .before .before .before .before .before .before .before .before .before .before .before .write-owners .ensures) (omega arith) in
-    let second = writes-both first (c .before .before .before .before .before .before .before .before .before .before .before .write-numbers .ensures) (omega arith) in
-    let third = writes-both second (c .before .before .before .before .before .before .before .write-tag .ensures) (omega arith) in
+    let first = writes-both (kind .write-kind .ensures) (owners .write-owners .ensures) (omega arith) in
+    let second = writes-both first (numbers .write-numbers .ensures) (omega arith) in
+    let third = writes-both second (tag .write-tag .ensures) (omega arith) in
     writes-both third
     (writes-as (ap (λ (t : Text). 44 ∷ t) content)
     (writes-behind {k = 80} (c .before .before .write-behind .ensures) (omega (arith, row-content-fits (now (a .tree)) (a .i)))))

@@ -38,8 +38,9 @@ returns : tie.Need-returns
 unfolding comma kind-text bytes
 returns c =
     let w = c .before .before .write-behind in
-    writes-as (ap (λ (k : Kind). 44 ∷ kind-text k) (sym (c .before .before .before .before .before .enum-told .given .1) ∙ c .before .before .before .before .before .before .before .kind-at .ensures))
-    (record { wrote = w .ensures; short = omega (arith, w .ensures .ends) })
+    let arm = c .before .before .before .before .before in
+    let is = sym (arm .enum-told .given .1) ∙ arm .before .before .kind-at .ensures in
+    writes-as (ap (λ (k : Kind). 44 ∷ kind-text k) is) (record { wrote = w .ensures; short = omega (arith, w .ensures .ends) })
 
 same-length-2 : tie.Need-same-length-2
 same-length-2 c = search needs
@@ -48,8 +49,9 @@ returns-2 : tie.Need-returns-2
 unfolding comma kind-text bytes
 returns-2 c =
     let w = c .before .before .write-behind2 in
-    writes-as (ap (λ (k : Kind). 44 ∷ kind-text k) (sym (c .before .before .before .before .before .enum-told2 .given .1) ∙ c .before .before .before .before .before .before .before .kind-at .ensures))
-    (record { wrote = w .ensures; short = omega (arith, w .ensures .ends) })
+    let arm = c .before .before .before .before .before in
+    let is = sym (arm .enum-told2 .given .1) ∙ arm .before .before .kind-at .ensures in
+    writes-as (ap (λ (k : Kind). 44 ∷ kind-text k) is) (record { wrote = w .ensures; short = omega (arith, w .ensures .ends) })
 
 pub write-kind-spec : {M : Type 1} → statement M
 write-kind-spec =

@@ -1,8 +1,7 @@
 -- `listing::fields::write_mode_field` meets its contract: the comma is stored, and the digits stand behind it.
 use mathlib.Core.Path.{_∙_}
 use native.Mathlib.Omega.{arith}
-use Prim.Native.Nat.{_+_}
-use lib.ListN.{set, length-set}
+use lib.ListN.{length-set}
 use denote.Ref.{now}
 use Rattle.buffers.specs.OverLaws.{wrote-byte, wrote-both}
 use Rattle.syntax.specs.Pieces.{comma}

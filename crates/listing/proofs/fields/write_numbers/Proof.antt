@@ -29,8 +29,11 @@ same-length c = search needs
 returns : tie.Need-returns
 unfolding number-fields
 returns c =
-    writes-as (ap₂ (λ (u v : ℕ). (comma ∷ mode-text u) ++ (comma ∷ decimal-text v)) (c .before .before .before .before .before .before .before .before .mode-at .ensures) (c .before .before .before .revision-at .ensures))
-    (writes-both (c .before .before .before .before .before .before .before .write-mode-field .ensures) (c .before .before .write-decimal-field .ensures) (omega arith))
+    let first = c .before .before .before .before .before .before .before in
+    let mode = first .before .mode-at .ensures in
+    let revision = c .before .before .before .revision-at .ensures in
+    writes-as (ap₂ (λ (u v : ℕ). (comma ∷ mode-text u) ++ (comma ∷ decimal-text v)) mode revision)
+    (writes-both (first .write-mode-field .ensures) (c .before .before .write-decimal-field .ensures) (omega arith))
 
 pub write-numbers-spec : {M : Type 1} → statement M
 write-numbers-spec =

@@ -37,10 +37,11 @@ same-length c = search needs
 returns : tie.Need-returns
 unfolding owner-fields
 returns c =
-    let owner = c .before .before .before .before .before .before .before .before .before .before .before .owner-at .ensures in
-    let group = c .before .before .before .before .before .before .before .before .before .group-at .ensures in
-    writes-as (ap₂ (λ (u v : ℕ). (comma ∷ decimal-text u) ++ (comma ∷ decimal-text v)) (ap (λ (x : Uid). x .0) owner) (ap (λ (x : Gid). x .0) group))
-    (writes-both (c .before .before .before .before .before .before .write-decimal-field .ensures) (c .before .before .write-decimal-field2 .ensures) (omega arith))
+    let first = c .before .before .before .before .before .before in
+    let owner = ap (λ (x : Uid). x .0) (c .before .before .before .before .before .before .before .before .before .before .before .owner-at .ensures) in
+    let group = ap (λ (x : Gid). x .0) (c .before .before .before .before .before .before .before .before .before .group-at .ensures) in
+    writes-as (ap₂ (λ (u v : ℕ). (comma ∷ decimal-text u) ++ (comma ∷ decimal-text v)) owner group)
+    (writes-both (first .write-decimal-field .ensures) (c .before .before .write-decimal-field2 .ensures) (omega arith))
 
 pub write-owners-spec : {M : Type 1} → statement M
 write-owners-spec =

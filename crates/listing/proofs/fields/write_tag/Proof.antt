@@ -36,8 +36,11 @@ same-length c = search needs
 returns : tie.Need-returns
 unfolding tag-fields-at
 returns c =
-    writes-as (ap₂ (λ (t : Text) (v : ℕ). (comma ∷ or-dash t) ++ (comma ∷ decimal-text v)) (c .before .before .before .before .before .before .before .before .tag-path-at .ensures) (c .before .before .before .tag-revision-at .ensures))
-    (writes-both (c .before .before .before .before .before .before .before .write-tag-path .ensures) (c .before .before .write-decimal-field .ensures) (omega arith))
+    let first = c .before .before .before .before .before .before .before in
+    let path = first .before .tag-path-at .ensures in
+    let revision = c .before .before .before .tag-revision-at .ensures in
+    writes-as (ap₂ (λ (t : Text) (v : ℕ). (comma ∷ or-dash t) ++ (comma ∷ decimal-text v)) path revision)
+    (writes-both (first .write-tag-path .ensures) (c .before .before .write-decimal-field .ensures) (omega arith))
 
 pub write-tag-spec : {M : Type 1} → statement M
 write-tag-spec =

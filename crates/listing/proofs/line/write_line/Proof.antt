@@ -11,17 +11,18 @@ write-path-requires c κs = search needs
 
 write-fields-requires : tie.Need-write-fields-requires
 write-fields-requires c κs =
-    let p = c .before .before .before .before .before .before .before .pre in
-    (whole-row (c .before .before .before .before .before .before .before .args .n) (p .0) (p .1 .0), omega (arith, c .before .before .before .write-path .ensures .short))
+    let s = c .before .before .before .before .before .before .before in
+    (whole-row (s .args .n) (s .pre .0) (s .pre .1 .0), omega (arith, c .before .before .before .write-path .ensures .short))
 
 same-length : tie.Need-same-length
 same-length c = search needs
 
 returns : tie.Need-returns
 returns c =
+    let s = c .before .before .before .before .before .before .before .before .before .before in
     let p = c .before .before .before .before .before .before .write-path .ensures in
     let f = c .before .before .write-fields .ensures in
-    λ t e. line-wrote e (c .before .before .before .before .before .before .before .before .before .before .args .n) (c .before .before .before .before .before .before .before .before .before .before .pre .1 .0) (wrote-both (p .wrote) (f .wrote) (omega (arith, p .short, f .short)))
+    λ t e. line-wrote e (s .args .n) (s .pre .1 .0) (wrote-both (p .wrote) (f .wrote) (omega (arith, p .short, f .short)))
 
 pub write-line-spec : {M : Type 1} → statement M
 write-line-spec =

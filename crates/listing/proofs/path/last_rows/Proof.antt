@@ -2,7 +2,6 @@
 use mathlib.Core.Path.{_≡_}
 use native.Mathlib.Omega.{arith}
 use Prim.Native.Nat.{_≤_, _+_, _-_}
-use denote.Ref.{now}
 use Rattle.tree.specs.TreeBytesLaws.{encoded-depth}
 use Rattle.listing.specs.RowListing.{Last-rows}
 use Rattle.listing.specs.RowListingLaws.{whole-row, last-none, last-more}
@@ -26,16 +25,13 @@ cast-depth c = omega arith
 
 mul-last : tie.Need-mul-last Inv-loop μ-loop
 mul-last c =
-    let e = c .before .before .before .before .pre .0 .1 in
     let l = c .before .before .loop in
-    let h : l .i ≤ c .before .before .before .before .args .n = omega arith in
-    omega (arith, c .depth-at .ensures, encoded-depth e {i = l .i} (omega arith))
+    omega (arith, c .depth-at .ensures, encoded-depth (c .before .before .before .before .pre .0 .1) {i = l .i} (omega arith))
 
 array-write-last : tie.Need-array-write-last Inv-loop μ-loop
 array-write-last c =
-    let e = c .before .before .before .before .pre .0 .1 in
     let l = c .before .before .loop in
-    omega (arith, c .depth-at .ensures, encoded-depth e {i = l .i} (omega arith))
+    omega (arith, c .depth-at .ensures, encoded-depth (c .before .before .before .before .pre .0 .1) {i = l .i} (omega arith))
 
 add-i : tie.Need-add-i Inv-loop μ-loop
 add-i c = omega arith

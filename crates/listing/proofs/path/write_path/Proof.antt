@@ -1,13 +1,12 @@
 -- `listing::path::write_path` meets its contract: `/` stands alone, another path is the names of the rows last seen down to its own.
 use mathlib.Core.Path.{sym, ap, _∙_}
 use native.Mathlib.Omega.{arith}
-use lib.ListN.{length-set}
 use denote.Ref.{now}
 use Rattle.buffers.specs.OverLaws.{wrote-byte}
 use Rattle.syntax.specs.Path.{path-text}
 use Rattle.tree.specs.TreeBytesLaws.{encoded-depth}
 use Rattle.listing.specs.RowListing.{names-told}
-use Rattle.listing.specs.RowListingLaws.{whole-row, top-path, told-path, path-of-names, writes-as}
+use Rattle.listing.specs.RowListingLaws.{top-path, told-path, path-of-names, writes-as}
 use borrow.Author.Needs.{needs}
 use Rattle.listing.proofs.path.write_path.Statement.{statement}
 use Rattle.listing.proofs.path.write_path.Tie as tie
@@ -35,20 +34,23 @@ last-rows-requires c κs = search needs
 
 write-names-requires : tie.Need-write-names-requires
 write-names-requires c κs =
-    let a = c .before .before .before .before .before .before .args in
-    (c .before .last-rows .ensures .told, (omega (arith, c .before .before .before .depth-at .ensures, encoded-depth (c .before .before .before .before .before .before .pre .0 .1) {i = a .n} (omega arith)), omega arith))
+    let s = c .before .before .before .before .before .before in
+    let low = encoded-depth (s .pre .0 .1) {i = s .args .n} (omega arith) in
+    (c .before .last-rows .ensures .told, (omega (arith, c .before .before .before .depth-at .ensures), omega arith))
 
 same-length-2 : tie.Need-same-length-2
 same-length-2 c = search needs
 
 returns-2 : tie.Need-returns-2
 returns-2 c =
-    let a = c .before .before .before .before .before .before .before .before .before .args in
-    let d = c .before .before .before .before .before .before .depth-at in
     let v = c .before .before .before .before .last-rows in
-    let low = encoded-depth (c .before .before .before .before .before .before .before .before .before .pre .0 .1) {i = a .n} (omega arith) in
-    let same = told-path (a .n) (v .ensures) (d .result) (d .ensures) (omega (arith, d .ensures)) in
-    writes-as (sym (path-of-names (names-told (now (a .tree)) (v .result)) (d .result) (c .before .before .before .before .before .if1 .left)) ∙ ap path-text same) (c .before .before .write-names .ensures)
+    let d = c .before .before .before .before .before .before .depth-at in
+    let s = c .before .before .before .before .before .before .before .before .before in
+    let b = now (s .args .tree) in
+    let low = encoded-depth (s .pre .0 .1) {i = s .args .n} (omega arith) in
+    let same = told-path (s .args .n) (v .ensures) (d .result) (d .ensures) (omega (arith, d .ensures)) in
+    let text = path-of-names (names-told b (v .result)) (d .result) (c .before .before .before .before .before .if1 .left) in
+    writes-as (sym text ∙ ap path-text same) (c .before .before .write-names .ensures)
 
 pub write-path-spec : {M : Type 1} → statement M
 write-path-spec =
