@@ -6,7 +6,7 @@ use Prim.Native.Nat.{ℕ, suc, _+_, _-_, _*_, _≤_, _<_}
 use native.Mathlib.Omega.{arith}
 use native.Mathlib.Numerals.{add-one}
 use lib.ListN.{length, take, drop, length-append}
-use lib.Seq.{paste, length-take-le, take-all, take-at, drop-at}
+use lib.Seq.{length-take-le, take-at, drop-at}
 use Rattle.buffers.specs.Cases.{and-both}
 use Rattle.buffers.specs.Text.{every}
 use Rattle.buffers.specs.Fields.{all-bytes}
@@ -23,7 +23,7 @@ use Rattle.walks.specs.RowBelow.{deepest-in}
 use Rattle.walks.specs.RowBelowLaws.{deepest-place}
 use Rattle.copying.specs.CopyRows.{is-wide, Written, deepest-from}
 use Rattle.copying.specs.CopyBytesLaws.{depth-of-bytes}
-use Rattle.copying.specs.RowsWrittenLaws.{row-is-wide, written-width}
+use Rattle.copying.specs.RowsWrittenLaws.{row-is-wide, written-pieces}
 
 -- ---- row by row
 
@@ -67,15 +67,12 @@ deepest-between (r ∷ rs) P Q m i l h =
 -- the greatest depth among rows that were written
 deepest-written : {o z : List ℕ} {r : ℕ} {rs : List (Row Node)} → Written o 0 rs r z → Wide o → deepest-from z 0 0 r ≡ deepest-in 0 rs
 deepest-written {o} {z} {r} {rs} v wide =
-    let X = all-bytes row-bytes rs in
-    let n = row-width * length rs in
-    let D = drop (row-start 0 + n) o in
-    let is : z ≡ take (row-start 0) o ++ (X ++ D) =
-    v .bytes ∙ ap (λ (x : List ℕ). take (row-start 0) o ++ x ++ D) (take-all n X (omega (arith, written-width v))) ∙ append-assoc (take (row-start 0) o) X D in
+    let P = take (row-start 0) o in
+    let D = drop (row-start 0 + row-width * length rs) o in
     let k : r ≡ length rs = omega (arith, v .next) in
-    ap (λ (s : List ℕ). deepest-from s 0 0 r) is
-    ∙ ap (deepest-from (take (row-start 0) o ++ (X ++ D)) 0 0) k
-    ∙ deepest-between rs (take (row-start 0) o) D 0 0 (length-take-le (row-start 0) o (omega arith)) (v .wide)
+    ap (λ (s : List ℕ). deepest-from s 0 0 r) (written-pieces v wide)
+    ∙ ap (deepest-from (P ++ (all-bytes row-bytes rs ++ D)) 0 0) k
+    ∙ deepest-between rs P D 0 0 (length-take-le (row-start 0) o (omega arith)) (v .wide)
 
 -- among those of a place at depth k
 pub deepest-of-place : {o z : List ℕ} {r : ℕ} (k : ℕ) (n : Name) (d : Place Node) → Written o 0 (place-rows k n d) r z → Wide o

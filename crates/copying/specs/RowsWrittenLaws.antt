@@ -1,11 +1,11 @@
 -- Rows written one behind the other: none, one, and others behind them; what stays of the bytes before.
 use mathlib.Core.Path.{_≡_, refl, sym, _∙_, ap}
-use mathlib.Core.List.{List, [], _∷_, _++_, append-nil}
+use mathlib.Core.List.{List, [], _∷_, _++_, append-assoc, append-nil}
 use mathlib.Core.Bool.{true}
 use Prim.Native.Nat.{ℕ, _+_, _*_, _≤_, _<_}
 use native.Mathlib.Omega.{arith}
-use lib.ListN.{length, length-append}
-use lib.Seq.{paste, paste-zero, length-paste}
+use lib.ListN.{length, take, drop, length-append}
+use lib.Seq.{paste, paste-zero, length-paste, take-all}
 use borrow.Author.Tests.{eqb-true, eq-eqb}
 use Rattle.buffers.specs.Text.{every}
 use Rattle.buffers.specs.TextLaws.{every-append}
@@ -68,6 +68,15 @@ module _ {o z : List ℕ} {to r : ℕ} {xs : List (Row Node)} (v : Written o to 
             ∙ ap (λ (b : List ℕ). paste o (row-start to) b (row-width * length (xs ++ ys))) (sym a);
         wide = every-append is-wide xs ys ∙ rw (v .wide, w .wide);
       }
+
+  -- they stand between the bytes before and behind
+  pub written-pieces : z ≡ take (row-start to) o ++ (all-bytes row-bytes xs ++ drop (row-start to + row-width * length xs) o)
+  written-pieces =
+      let X = all-bytes row-bytes xs in
+      let D = drop (row-start to + row-width * length xs) o in
+      v .bytes
+      ∙ ap (λ (x : List ℕ). take (row-start to) o ++ x ++ D) (take-all (row-width * length xs) X (omega (arith, written-width v)))
+      ∙ append-assoc (take (row-start to) o) X D
 
   -- as many bytes are left
   pub written-wide : to + length xs ≤ most-rows → Wide z
