@@ -10,6 +10,7 @@ use Rattle.accounts.specs.Groups.{member}
 use Rattle.accounts.specs.Access.{is-root, same-uid}
 use Rattle.syntax.specs.Number.{set-gid}
 use Rattle.syntax.specs.Path.{Path}
+use Rattle.tree.specs.declared.Cause.{Cause}
 use Rattle.tree.specs.declared.Cause.the-variants.{Access, WrongKind, Reserved}
 use Rattle.tree.specs.Result.{Result, done, _>>=_, _>>_, require}
 use Rattle.tree.specs.Forest.{Place}
@@ -22,18 +23,20 @@ use Rattle.walks.specs.WalkBytes.{spot-of}
 use Rattle.attributes.specs.declared.Deed.{Deed}
 use Rattle.attributes.specs.declared.Deed.the-variants.{Read, Write, Chmod, Chgrp, Chown}
 
+-- two tests, the first of which that fails tells its cause
+abbrev pub both : Bool → Cause → Bool → Cause → Result (Unit {0})
+both first cause second other = do
+  require first cause
+  require second other
+
 -- root may give any group, an owner any of the own groups
 unfoldable pub gives : Account → Gid → Node → Bool
 gives a group n = is-root (a .uid) || (same-uid (a .uid) (n .owner) && member group (a .groups))
 
 unfoldable pub tests : Account → Deed → Node → Result (Unit {0})
 tests a Read n = require (allows a R n) Access
-tests a Write n = do
-  require (not (is-directory (n .kind))) WrongKind
-  require (allows a W n) Access
-tests a (Chmod mode) n = do
-  require (is-directory (n .kind) || not (set-gid mode)) WrongKind
-  require (owns a n) Reserved
+tests a Write n = both (not (is-directory (n .kind))) WrongKind (allows a W n) Access
+tests a (Chmod mode) n = both (is-directory (n .kind) || not (set-gid mode)) WrongKind (owns a n) Reserved
 tests a (Chgrp group) n = require (gives a group n) Reserved
 tests a Chown n = require (is-root (a .uid)) Reserved
 

@@ -53,7 +53,7 @@ use Rattle.shell.specs.CommandBytes.{Follows, Follows-silently}
 use Rattle.shell.specs.CommandBytesLaws.{refusal-follows, silence-follows, text-follows}
 use Rattle.attributes.specs.declared.Deed.{Deed}
 use Rattle.attributes.specs.declared.Deed.the-variants.{Read, Write, Chmod, Chgrp, Chown}
-use Rattle.attributes.specs.Checks.{gives, tests, may-do, passed, may-do-at, row-text}
+use Rattle.attributes.specs.Checks.{both, gives, tests, may-do, passed, may-do-at, row-text}
 
 -- ---- the steps by the checks
 
@@ -117,12 +117,13 @@ passes k row above e = rw (e, require-true k, done-then (done (spot row above)))
 pub fails : {x : Bool} (k : Cause) (row above : ℕ) → x ≡ false → outcome (Refused k) ≡ passed (require x k) row above
 fails k row above e = rw (e, require-false k, refused-then k (done (spot row above))) (outcome-refused k)
 
--- so does the first of two that fails, and after one that passes the second
-pub fails-first : {x : Bool} (k : Cause) (r : Result (Unit {0})) (row above : ℕ) → x ≡ false → outcome (Refused k) ≡ passed (require x k >> r) row above
-fails-first k r row above e = fails k row above e ∙ rw (e, require-false k, refused-then k r)
+-- so does the first of two that fails
+pub fails-first : {x : Bool} (k : Cause) (y : Bool) (l : Cause) (row above : ℕ) → x ≡ false → outcome (Refused k) ≡ passed (both x k y l) row above
+fails-first k y l row above e = fails k row above e ∙ rw (e, require-false k, refused-then k (require y l))
 
-pub passes-first : {x : Bool} (k : Cause) (r : Result (Unit {0})) → x ≡ true → r ≡ (require x k >> r)
-passes-first k r e = rw (e, require-true k) (sym (done-then r))
+-- and after one that passes the second
+pub passes-first : {x : Bool} (k : Cause) (y : Bool) (l : Cause) → x ≡ true → require y l ≡ both x k y l
+passes-first k y l e = rw (e, require-true k) (sym (done-then (require y l)))
 
 -- ---- the decision
 

@@ -8,7 +8,7 @@ ghost use Rattle.tree.specs.RowAt.{row-at};
 ghost use Rattle.tree.specs.TreeBytes.{Has-row, Whole, Path-text, Whichever};
 ghost use Rattle.walks.specs.RowWalk.{outcome};
 ghost use Rattle.attributes.specs.declared.Deed.the-variants.{Write, Chmod};
-ghost use Rattle.attributes.specs.Checks.{gives, tests, passed, may-do-at};
+ghost use Rattle.attributes.specs.Checks.{both, gives, tests, passed, may-do-at};
 use crate::Deed;
 use accounts::Account;
 use accounts::Gid;
@@ -30,6 +30,33 @@ fn judged(passes: bool, cause: Cause, row: usize, above: usize) -> Walked
         return Walked::To { row, above };
     }
     Walked::Refused(cause)
+}
+
+// The same by two tests, the first of which that fails tells its cause.
+fn judged_twice(
+    first: bool,
+    cause: Cause,
+    second: bool,
+    other: Cause,
+    row: usize,
+    above: usize,
+) -> Walked
+    ensures { λ r. ⌜ outcome r ≡ passed (both first cause second other) row above ⌝ }
+{
+    if !first {
+        return Walked::Refused(cause);
+    }
+    judged(second, other, row, above)
+}
+
+// Whether a kind is a file's.
+fn is_file(kind: Kind) -> bool
+    ensures { λ r. ⌜ r ≡ not (is-directory kind) ⌝ }
+{
+    match kind {
+        Kind::File => true,
+        Kind::Directory => false,
+    }
 }
 
 // Whether a kind allows a mode: set-gid on directories only.
@@ -63,15 +90,9 @@ fn test_write(tree: &[u8], account: Account, row: usize, above: usize) -> Walked
     requires { ⌜ Has-row (now tree) row ⌝ }
     ensures { λ r. ⌜ outcome r ≡ passed (tests account Write (row-at (now (tree .entry)) row .here)) row above ⌝ }
 {
-    match kind_at(tree, row) {
-        Kind::File => judged(
-            may_at(tree, row, account, Right::W),
-            Cause::Access,
-            row,
-            above,
-        ),
-        Kind::Directory => Walked::Refused(Cause::WrongKind),
-    }
+    let file = is_file(kind_at(tree, row));
+    let may = may_at(tree, row, account, Right::W);
+    judged_twice(file, Cause::WrongKind, may, Cause::Access, row, above)
 }
 
 // A mode that the kind allows, by the owner or root.
@@ -79,10 +100,9 @@ fn test_chmod(tree: &[u8], account: Account, row: usize, above: usize, mode: u16
     requires { ⌜ Has-row (now tree) row ⌝ }
     ensures { λ r. ⌜ outcome r ≡ passed (tests account (Chmod mode) (row-at (now (tree .entry)) row .here)) row above ⌝ }
 {
-    if !fits_mode(kind_at(tree, row), mode) {
-        return Walked::Refused(Cause::WrongKind);
-    }
-    judged(owns_at(tree, row, account), Cause::Reserved, row, above)
+    let fits = fits_mode(kind_at(tree, row), mode);
+    let owns = owns_at(tree, row, account);
+    judged_twice(fits, Cause::WrongKind, owns, Cause::Reserved, row, above)
 }
 
 // The tests of the deed.

@@ -24,9 +24,8 @@ fn give_content(tree: &[u8], row: usize, answer: &mut [u8]) -> usize
     ensures { λ r. ⌜ Answers (row-at (now (tree .entry)) row .here .content) (now (answer .entry)) r (now (answer .exit)) ⌝ }
 {
     let content = content_at(tree, row);
-    let n = content.len();
-    buffers::write(answer, 0, content, n);
-    n
+    buffers::write(answer, 0, content, content.len());
+    content.len()
 }
 
 // Writes the text of a place over the answer, and tells how many bytes it takes.
