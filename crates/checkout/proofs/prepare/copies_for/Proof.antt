@@ -1,0 +1,100 @@
+-- `checkout::prepare::copies_for` meets its contract: the copies are those of the checkout, and each answer is what the steps make of them.
+use mathlib.Core.Path.{_∙_}
+use native.Mathlib.Omega.{arith}
+use denote.Ref.{now}
+use Rattle.checkout.specs.CheckoutJobLaws.{job-row, job-text, job-name, job-low, checkout-job, copies-few, copies-too-deep, copies-too-many, copies-ready}
+use borrow.Author.Needs.{needs}
+use Rattle.checkout.proofs.prepare.copies_for.Statement.{statement}
+use Rattle.checkout.proofs.prepare.copies_for.Tie as tie
+
+new-group-requires : tie.Need-new-group-requires
+new-group-requires c κs = job-row (c .before .before .before .before .before .pre .0)
+
+last-name-requires : tie.Need-last-name-requires
+last-name-requires c κs = job-text (c .before .before .before .before .before .before .pre .0)
+
+copy-entry-requires : tie.Need-copy-entry-requires
+copy-entry-requires c κs =
+    let s = c .before .before .before .before .before .before .before .before in
+    let j = s .pre .0 in
+    let g = c .before .before .new-group in
+    let name = c .before .last-name in
+    (checkout-job j (g .result) (g .ensures), (s .pre .1, (job-low j, job-name j (now (name .result)) (name .ensures))))
+
+deepest-copy-requires : tie.Need-deepest-copy-requires
+deepest-copy-requires c κs =
+    let s = c .before .before .before .before .before .before .before .before .before .before .before .before in
+    let a = s .args in
+    let m = c .before .before .before .copy-entry in
+    let name = c .before .before .before .before .before .last-name in
+    let g = c .before .before .before .before .before .before .new-group in
+    let j = s .pre .0 in
+    (m .kept .1 .1 .1 .1 .1 .1 .1 .0 ∙ s .pre .1, copies-few j (g .result) (g .ensures) (now (a .out)) (m .last .1 .1 .1 .1 .1 .1 .1 .0) (m .result) (now (name .result)) (name .ensures) (s .pre .1) (m .ensures))
+
+same-length : tie.Need-same-length
+same-length c = search needs
+
+returns : tie.Need-returns
+returns c j =
+    let s = c .before .before .before .before .before .before .before .before .before .before .before .before .before .before in
+    let a = s .args in
+    let m = c .before .before .before .before .before .copy-entry in
+    let name = c .before .before .before .before .before .before .before .last-name in
+    let g = c .before .before .before .before .before .before .before .before .new-group in
+    copies-too-deep j (g .result) (g .ensures) (now (a .out)) (m .last .1 .1 .1 .1 .1 .1 .1 .0) (m .result) (now (name .result)) (name .ensures) (s .pre .1) (m .ensures) (c .before .deepest-copy .result) (c .before .deepest-copy .ensures) (omega arith)
+
+count-requires : tie.Need-count-requires
+count-requires c κs = job-row (c .before .before .before .before .before .before .before .before .before .before .before .before .before .before .pre .0) .wide
+
+add-if2 : tie.Need-add-if2
+add-if2 c =
+    let s = c .before .before .before .before .before .before .before .before .before .before .before .before .before .before .before in
+    let a = s .args in
+    let m = c .before .before .before .before .before .before .copy-entry in
+    let name = c .before .before .before .before .before .before .before .before .last-name in
+    let g = c .before .before .before .before .before .before .before .before .before .new-group in
+    let j = s .pre .0 in
+    omega (arith, copies-few j (g .result) (g .ensures) (now (a .out)) (m .last .1 .1 .1 .1 .1 .1 .1 .0) (m .result) (now (name .result)) (name .ensures) (s .pre .1) (m .ensures), c .count .ensures, j .found .tree .sized .few-rows)
+
+same-length-2 : tie.Need-same-length-2
+same-length-2 c = search needs
+
+returns-2 : tie.Need-returns-2
+returns-2 c j =
+    let s = c .before .before .before .before .before .before .before .before .before .before .before .before .before .before .before .before in
+    let a = s .args in
+    let m = c .before .before .before .before .before .before .before .copy-entry in
+    let name = c .before .before .before .before .before .before .before .before .before .last-name in
+    let g = c .before .before .before .before .before .before .before .before .before .before .new-group in
+    let d = c .before .before .before .deepest-copy in
+    copies-too-many j (g .result) (g .ensures) (now (a .out)) (m .last .1 .1 .1 .1 .1 .1 .1 .0) (m .result) (now (name .result)) (name .ensures) (s .pre .1) (m .ensures) (d .result) (d .ensures) (omega arith) (c .before .count .result) (c .before .count .ensures) (omega arith)
+
+same-length-3 : tie.Need-same-length-3
+same-length-3 c = search needs
+
+returns-3 : tie.Need-returns-3
+returns-3 c j =
+    let s = c .before .before .before .before .before .before .before .before .before .before .before .before .before .before .before .before in
+    let a = s .args in
+    let m = c .before .before .before .before .before .before .before .copy-entry in
+    let name = c .before .before .before .before .before .before .before .before .before .last-name in
+    let g = c .before .before .before .before .before .before .before .before .before .before .new-group in
+    let d = c .before .before .before .deepest-copy in
+    copies-ready j (g .result) (g .ensures) (now (a .out)) (m .last .1 .1 .1 .1 .1 .1 .1 .0) (m .result) (now (name .result)) (name .ensures) (s .pre .1) (m .ensures) (d .result) (d .ensures) (omega arith) (c .before .count .result) (c .before .count .ensures) (omega arith) (m .kept .1 .1 .1 .1 .1 .1 .1 .0 ∙ s .pre .1)
+
+pub copies-for-spec : {M : Type 1} → statement M
+copies-for-spec =
+    tie.close
+    (tie.spec
+    new-group-requires
+    last-name-requires
+    copy-entry-requires
+    deepest-copy-requires
+    same-length
+    returns
+    count-requires
+    add-if2
+    same-length-2
+    returns-2
+    same-length-3
+    returns-3)

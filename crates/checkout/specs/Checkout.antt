@@ -1,0 +1,99 @@
+-- `co` on a tree's bytes: its steps behind the session, what is known when its copies are made, and what is said of them.
+use mathlib.Core.Path.{_≡_}
+use mathlib.Core.List.{List}
+use mathlib.Core.Option.{none, some}
+use Prim.Native.Nat.{ℕ, suc, _+_}
+use lib.Dec.{leb}
+use lib.ListN as L
+use Rattle.buffers.specs.Text.{Text}
+use Rattle.accounts.specs.declared.Account.{Account}
+use Rattle.accounts.specs.declared.Caller.{Caller}
+use Rattle.syntax.specs.Path.{Path, Entry-path, parent, last, depth, path, entry-path, entry-location, most-names}
+use Rattle.tree.specs.declared.Cause.the-variants.{Access, Full, TooDeep}
+use Rattle.tree.specs.Result.{Result, refused, done, _>>=_, _>>_, require, Outcome}
+use Rattle.tree.specs.Forest.{Place, update, put, size, height}
+use Rattle.tree.specs.Node.{Node}
+use Rattle.tree.specs.Walk.{by-modes, walk, room}
+use Rattle.tree.specs.Encoding.{encode-tree}
+use Rattle.tree.specs.TreeBytes.{Wide, Insertable, Encodes, At}
+use Rattle.walks.specs.RowWalk.{Spot}
+use Rattle.walks.specs.WalkBytes.{spot-of}
+use Rattle.edits.specs.Changes.{rows-put}
+use Rattle.gaps.specs.GapsLaws.{Standing}
+use Rattle.copying.specs.declared.Copier.{Copier}
+use Rattle.copying.specs.Copying.{copy}
+use Rattle.copying.specs.CopyRows.{read-by}
+use Rattle.shell.specs.Steps.{fit}
+use Rattle.checkout.specs.declared.Copies.{Copies}
+use Rattle.checkout.specs.declared.Copies.the-variants.{Ready, Refused}
+
+-- ---- the steps
+
+-- the account's walk to an entry: not readable 5
+unfoldable pub readable-walk : Account → Place Node → Entry-path → Result (Place Node)
+readable-walk a t e = do
+  filed ← walk (by-modes a) t (entry-location e)
+  require (by-modes a .readable (filed .here)) Access
+  done filed
+
+-- as the rows where it leads
+unfoldable pub entry-spot : Account → Place Node → Entry-path → Result Spot
+entry-spot a t e = readable-walk a t e >>= λ filed. done (spot-of t (entry-location e))
+
+-- copies judged and put in at d: one too deep 19, too many 10
+unfoldable pub put-copies : Caller → Place Node → Path → Place Node → Result (Outcome (Place Node))
+put-copies c t d copies = do
+  require (leb (depth d + height (copies .below)) most-names) TooDeep
+  require (fit c 0 t (suc (size (copies .below)))) Full
+  done (record { text = none; state = update (parent d) (put (last d) copies) t })
+
+-- the steps of `co` once the session's account is known, which reads
+unfoldable pub co-steps : Copier → Place Node → Entry-path → Path → Result (Outcome (Place Node))
+co-steps w t e d = do
+  directory ← room (by-modes (w .caller .account)) t d
+  filed ← readable-walk (w .reader) t e
+  put-copies (w .caller) t d (copy (w .caller) (read-by w) (directory .here) e filed)
+
+-- ---- texts
+
+-- a text that reads as an entry path
+abbrev pub Entry-text : Text → Type 0
+Entry-text s = (e : Entry-path) × (entry-path s ≡ some e)
+
+-- for whatever tree the bytes are, and whatever entry path the text reads as
+abbrev pub Whichever-entry : List ℕ → Text → (Place Node → Entry-path → Type 0) → Type 0
+Whichever-entry b s P = (t : Place Node) (e : Entry-path) → Encodes b t → entry-path s ≡ some e → P t e
+
+-- and whatever path another text reads as
+abbrev pub Whichever-two : List ℕ → Text → Text → (Place Node → Entry-path → Path → Type 0) → Type 0
+Whichever-two b entry to P = Whichever-entry b entry (λ t e. (d : Path) → path to ≡ some d → P t e d)
+
+-- ---- the copies
+
+-- a checkout whose first checks have passed: there is room for the copies, and the account came to the entry
+pub record Checkout (w : Copier) (b : List ℕ) (entry to : Text) (row at k filed : ℕ) : Type 0 where
+  pub top : Place Node
+  pub source : Entry-path
+  pub target : Path
+  pub place : Place Node
+  pub reads-entry : entry-path entry ≡ some source
+  pub reads : path to ≡ some target
+  pub stands : Standing b top target (w .caller .account) row at k
+  pub found : At b top (entry-location source) filed place
+
+-- its copies
+unfoldable pub checkout-copies : {w : Copier} {b : List ℕ} {entry to : Text} {row at k filed : ℕ} → Checkout w b entry to row at k filed → Place Node
+checkout-copies {w} j = copy (w .caller) (read-by w) (j .stands .directory .here) (j .source) (j .place)
+
+-- n rows in z behind its first two bytes that, put in at the index, make of the bytes b the tree that the steps come to
+pub record Ready-for (steps : Result (Outcome (Place Node))) (b z : List ℕ) (at n : ℕ) : Type 0 where
+  pub insertable : Insertable b at n
+  pub wide : Wide z
+  pub tree : Place Node
+  pub come : steps ≡ done (record { text = none; state = tree })
+  pub make : rows-put b at n (L.drop 2 z) ≡ encode-tree tree
+
+-- copies answered as ready are such rows, and a refusal is that of the steps
+unfoldable pub Prepared : Result (Outcome (Place Node)) → List ℕ → List ℕ → Copies → Type 0
+Prepared steps b z (Ready at n) = Ready-for steps b z at n
+Prepared steps b z (Refused why) = steps ≡ refused why

@@ -1,0 +1,185 @@
+-- The steps of `co` as the code's answers tell them, one after the other.
+--
+-- In order: the account's walk (walk-refused-entry to entry-not); the parts of the command (co-no-room to co-goes-on); the copies judged
+-- (put-too-deep to put-done), and ready (prepared-ready to ready-follows).
+use mathlib.Core.Path.{_≡_, refl, sym, _∙_, ap}
+use mathlib.Core.List.{List}
+use mathlib.Core.Option.{none, some}
+use mathlib.Core.Bool.{Bool, true, false}
+use Prim.Native.Nat.{ℕ, suc, _+_, _≤_, _<_}
+use native.Mathlib.Omega.{arith}
+use lib.Dec.{leb}
+use lib.ListN as L
+use borrow.Author.Tests.{le-leb, lt-leb}
+use Rattle.buffers.specs.Text.{Text}
+use Rattle.accounts.specs.declared.Account.{Account}
+use Rattle.accounts.specs.declared.Caller.{Caller}
+use Rattle.syntax.specs.Path.{Path, Entry-path, parent, last, depth, entry-path, entry-location, most-names}
+use Rattle.syntax.specs.PathLaws.{entry-reads}
+use Rattle.tree.specs.declared.Cause.{Cause}
+use Rattle.tree.specs.declared.Cause.the-variants.{Access, Full, TooDeep}
+use Rattle.tree.specs.Result.{Result, refused, done, _>>=_, _>>_, require, Outcome}
+use Rattle.tree.specs.ResultLaws.{bind-done, then-done, done-then, refused-then, done-bind, refused-bind, require-true, require-false}
+use Rattle.tree.specs.Forest.{Place, update, put, place-at, size, height}
+use Rattle.tree.specs.Node.{Node}
+use Rattle.tree.specs.Walk.{by-modes, walk, room}
+use Rattle.tree.specs.UpdateLaws.{walked-at}
+use Rattle.tree.specs.WellFormed.{nodes}
+use Rattle.tree.specs.WellFormedLaws.{most-nodes-is}
+use Rattle.tree.specs.Encoding.{encode-tree}
+use Rattle.tree.specs.RowAt.{row-at, all-rows}
+use Rattle.tree.specs.TreeBytes.{Has-row, Encodes}
+use Rattle.tree.specs.TreeBytesLaws.{at-used, at-here}
+use Rattle.edits.specs.Changes.{rows-put}
+use Rattle.walks.specs.declared.Walked.{Walked}
+use Rattle.walks.specs.declared.Walked.the-variants as Walks
+use Rattle.walks.specs.RowWalk.{walk-in, outcome}
+use Rattle.walks.specs.RowWalkLaws.{outcome-refused, outcome-at}
+use Rattle.walks.specs.WalkBytes.{spot-of, Came}
+use Rattle.walks.specs.WalkBytesLaws.{came-to, came-not, walk-to, walk-not}
+use Rattle.copying.specs.declared.Copier.{Copier}
+use Rattle.copying.specs.Copying.{copy}
+use Rattle.copying.specs.CopyRows.{read-by}
+use Rattle.shell.specs.declared.Answer.the-variants.{Done}
+use Rattle.shell.specs.Steps.{fit}
+use Rattle.shell.specs.CommandBytes.{Follows-silently}
+use Rattle.shell.specs.CommandBytesLaws.{silence-follows}
+use Rattle.checkout.specs.declared.Copies.{Copies}
+use Rattle.checkout.specs.declared.Copies.the-variants as answers
+use Rattle.checkout.specs.Checkout.{readable-walk, entry-spot, put-copies, co-steps, Ready-for, Prepared}
+
+-- ---- one answer after the other
+
+module _ (a : Account) (t : Place Node) (e : Entry-path) where
+  -- the walk to an entry is refused
+  pub walk-refused-entry : {k : Cause} → walk (by-modes a) t (entry-location e) ≡ refused k → readable-walk a t e ≡ refused k
+  unfolding readable-walk
+  walk-refused-entry w = rw (w, refused-bind)
+
+  module _ {d : Place Node} (w : walk (by-modes a) t (entry-location e) ≡ done d) where
+    -- the entry may not be read
+    pub entry-unreadable : by-modes a .readable (d .here) ≡ false → readable-walk a t e ≡ refused Access
+    unfolding readable-walk
+    entry-unreadable h = rw (w, done-bind, h, require-false, refused-then)
+
+    -- the entry may be read
+    pub entry-readable : by-modes a .readable (d .here) ≡ true → readable-walk a t e ≡ done d
+    unfolding readable-walk
+    entry-readable h = rw (w, done-bind, h, require-true, done-then)
+
+  -- it leads to the entry
+  readable-leads : (d : Place Node) → readable-walk a t e ≡ done d → place-at t (entry-location e) ≡ some d
+  unfolding readable-walk
+  readable-leads d h =
+      let i = bind-done (walk (by-modes a) t (entry-location e)) (λ x. require (by-modes a .readable (x .here)) Access >> done x) h in
+      let k = then-done (require (by-modes a .readable (i .0 .here)) Access) (done (i .0)) (i .2) in
+      let q : i .0 ≡ d = cc (k .1) in
+      walked-at t (by-modes a) (entry-location e) d (i .1 ∙ ap done q)
+
+-- what the code's walk along an entry's text tells
+module _ {b : List ℕ} {t : Place Node} (tree : Encodes b t) (a : Account) (s : Text) {e : Entry-path} (reads : entry-path s ≡ some e) {r : Walked}
+    (w : outcome r ≡ walk-in a (all-rows b) s) where
+  -- that it is refused
+  pub entry-told-not : {k : Cause} → r ≡ Walks.Refused k → outcome (Walks.Refused k) ≡ entry-spot a t e
+  unfolding entry-spot
+  entry-told-not {k} h = rw (walk-refused-entry a t e (walk-not tree a s (entry-reads s e reads) w h), refused-bind) (outcome-refused k)
+
+  module _ {row above : ℕ} (h : r ≡ Walks.To row above) where
+    came : Came b t (entry-location e) (walk (by-modes a) t (entry-location e)) row above
+    came = walk-to tree a s (entry-reads s e reads) w h
+
+    -- a row of the tree
+    pub entry-told-row : Has-row b row
+    entry-told-row = let u = at-used (came .at) in record { wide = u .sized .wide; low = omega (arith, u .used, u .sized .few-rows) }
+
+    module _ {v : Bool} (read : v ≡ by-modes a .readable (row-at b row .here)) where
+      at-entry : by-modes a .readable (came .place .here) ≡ v
+      at-entry = ap (λ (x : Node). by-modes a .readable x) (sym (at-here (came .at))) ∙ sym read
+
+      -- of an entry that may not be read
+      pub entry-told-shut : v ≡ false → outcome (Walks.Refused Access) ≡ entry-spot a t e
+      unfolding entry-spot
+      entry-told-shut f = rw (entry-unreadable a t e (came .walked) (at-entry ∙ f), refused-bind) (outcome-refused Access)
+
+      -- and of one that may
+      pub entry-told-open : v ≡ true → outcome (Walks.To row above) ≡ entry-spot a t e
+      unfolding entry-spot spot-of
+      entry-told-open f = rw (entry-readable a t e (came .walked) (at-entry ∙ f), done-bind, ← came .at .row, ← came .over-at .row) (outcome-at row above)
+
+module _ {b : List ℕ} {t : Place Node} (tree : Encodes b t) (a : Account) (e : Entry-path) {r : Walked} (same : outcome r ≡ entry-spot a t e) where
+  -- an answer that tells a row came to the entry
+  pub entry-came : {row above : ℕ} → r ≡ Walks.To row above → Came b t (entry-location e) (readable-walk a t e) row above
+  unfolding entry-spot
+  entry-came = came-to tree (readable-walk a t e) (entry-location e) same (readable-leads a t e)
+
+  -- one that tells a refusal tells why it did not
+  pub entry-not : {k : Cause} → r ≡ Walks.Refused k → readable-walk a t e ≡ refused k
+  unfolding entry-spot
+  entry-not = came-not tree (readable-walk a t e) (entry-location e) same
+
+module _ (w : Copier) (t : Place Node) (e : Entry-path) (d : Path) where
+  -- there is no room
+  pub co-no-room : {k : Cause} → room (by-modes (w .caller .account)) t d ≡ refused k → co-steps w t e d ≡ refused k
+  unfolding co-steps
+  co-no-room h = rw (h, refused-bind)
+
+  module _ {f : Place Node} (h : room (by-modes (w .caller .account)) t d ≡ done f) where
+    -- the account does not come to the entry
+    pub co-no-entry : {k : Cause} → readable-walk (w .reader) t e ≡ refused k → co-steps w t e d ≡ refused k
+    unfolding co-steps
+    co-no-entry g = rw (h, done-bind, g, refused-bind)
+
+    -- it does
+    pub co-goes-on : {x : Place Node} → readable-walk (w .reader) t e ≡ done x
+        → co-steps w t e d ≡ put-copies (w .caller) t d (copy (w .caller) (read-by w) (f .here) e x)
+    unfolding co-steps
+    co-goes-on g = rw (h, done-bind, g, done-bind)
+
+module _ (c : Caller) (t : Place Node) (d : Path) (x : Place Node) where
+  -- some copy lies too deep
+  pub put-too-deep : 6 < depth d + height (x .below) → put-copies c t d x ≡ refused TooDeep
+  unfolding put-copies most-names
+  put-too-deep h = rw (lt-leb (depth d + height (x .below)) 6 h, require-false, refused-then)
+
+  module _ (low : depth d + height (x .below) ≤ 6) where
+    -- there are too many
+    pub put-too-many : 256 < nodes t + suc (size (x .below)) → put-copies c t d x ≡ refused Full
+    unfolding put-copies most-names fit
+    put-too-many h =
+        rw (le-leb (depth d + height (x .below)) 6 low, require-true, done-then)
+        (rw (most-nodes-is, lt-leb (nodes t + 0 + suc (size (x .below))) 256 (omega (arith, h)), require-false, refused-then))
+
+    -- they are put in
+    pub put-done : nodes t + suc (size (x .below)) ≤ 256 → put-copies c t d x ≡ done (record { text = none; state = update (parent d) (put (last d) x) t })
+    unfolding put-copies most-names fit
+    put-done h =
+        rw (le-leb (depth d + height (x .below)) 6 low, require-true, done-then)
+        (rw (most-nodes-is, le-leb (nodes t + 0 + suc (size (x .below))) 256 (omega (arith, h)), require-true, done-then))
+
+-- ---- copies that are ready
+
+module _ {steps : Result (Outcome (Place Node))} (b z : List ℕ) where
+  -- copies are answered
+  pub prepared-ready : {at n : ℕ} → Ready-for steps b z at n → Prepared steps b z (answers.Ready at n)
+  unfolding Prepared
+  prepared-ready h = h
+
+  -- or a refusal
+  pub prepared-not : {k : Cause} → steps ≡ refused k → Prepared steps b z (answers.Refused k)
+  unfolding Prepared
+  prepared-not h = h
+
+  module _ {r : Copies} (p : Prepared steps b z r) where
+    -- what was answered, then
+    pub ready-of : {at n : ℕ} → r ≡ answers.Ready at n → Ready-for steps b z at n
+    unfolding Prepared
+    ready-of e = rw e at p
+
+    pub refused-of : {k : Cause} → r ≡ answers.Refused k → steps ≡ refused k
+    unfolding Prepared
+    refused-of e = rw e at p
+
+-- copies that are ready, put in, follow the steps
+pub ready-follows : {steps : Result (Outcome (Place Node))} {b z : List ℕ} {at n : ℕ} (b′ : List ℕ) → Ready-for steps b z at n → b′ ≡ rows-put b at n (L.drop 2 z)
+    → Follows-silently steps b Done b′
+ready-follows {b = b} b′ h e = silence-follows b b′ (h .come) (e ∙ h .make)
