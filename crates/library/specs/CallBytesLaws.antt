@@ -6,12 +6,15 @@ use mathlib.Core.Path.{_≡_, refl, sym, _∙_, ap}
 use mathlib.Core.List.{List, _++_}
 use mathlib.Core.Option.{none, some}
 use mathlib.Core.Bool.{true, false}
-use Prim.Native.Nat.{ℕ, _≤_, _<_}
+use Prim.Native.Nat.{ℕ, _-_, _≤_, _<_}
 use native.Mathlib.Omega.{arith}
 use borrow.Author.Tests.{le-leb, lt-leb, eq-eqb, ne-eqb}
-use lib.ListN.{length, drop, getElem?}
+use lib.ListN.{length, take, drop, getElem?, length-drop}
+use lib.Seq.{take-all}
 use Rattle.buffers.specs.Text.{Text}
 use Rattle.syntax.specs.Form.{is-some}
+use Rattle.syntax.specs.FormLaws.{the-some}
+use Rattle.arguments.specs.KindsLaws.{is-none}
 use Rattle.setup.specs.Setup.{Setup, accepted, wrong-line, setup}
 use Rattle.tree.specs.declared.Cause.{Cause}
 use Rattle.tree.specs.declared.Cause.the-variants.{Missing, Unsound, ShortAnswer}
@@ -20,6 +23,7 @@ use Rattle.tree.specs.ResultLaws.{present-of, present-none, done-bind, refused-
 use Rattle.tree.specs.Forest.{Place}
 use Rattle.tree.specs.Node.{Node}
 use Rattle.tree.specs.Encoding.{encode-tree}
+use Rattle.tree.specs.TreeBytes.{Encodes}
 use Rattle.shell.specs.declared.Answer.{Answer}
 use Rattle.shell.specs.declared.Answer.the-variants.{Done, Refused, WrongLine}
 use Rattle.shell.specs.declared.Answer.the-variants
@@ -27,12 +31,14 @@ use Rattle.shell.specs.Replies.{reply, after, answer-of, written}
 use Rattle.shell.specs.CommandBytes.{tree-after, Follows}
 use Rattle.store.specs.State.{Sessions, Store, State, state-of}
 use Rattle.store.specs.Initial.{initial-store}
-use Rattle.store.specs.StoreBytes.{store-width, header-bytes, encode, decode}
+use Rattle.store.specs.StoreBytes.{header-width, store-width, header-bytes, encode, decode}
+use Rattle.store.specs.StoreBytesLaws.{decode-length}
+use Rattle.store.specs.DecodeLaws.{tree-read}
 use Rattle.machine.specs.Acting.{on-tree-steps}
 use Rattle.machine.specs.Runs.{least-room}
 use Rattle.machine.specs.RunsLaws.{least-room-is}
 use Rattle.listing.specs.Listing.{listing}
-use Rattle.calls.specs.Calls.{set-up, setup-call, called, encoded, on-state, listing-on, listing-result, listing-call}
+use Rattle.calls.specs.Calls.{set-up, setup-call, Called, called, encoded, on-state, listing-on, listing-result, listing-call}
 use Rattle.library.specs.CallBytes.{set-up-as, called-as}
 
 -- ---- setup
@@ -98,6 +104,35 @@ module _ (b a : List ℕ) (n : ℕ) (s : State) where
   line-called x m a′ e l q = rw (e, present-of, done-bind) (λ i. called-as (the-variants.Text (l i)) b (q i))
 
   -- past the last there is none
-  pub no-line : getElem? (listing (s .store .tree)) n ≡ none → listing-on b n s ≡ refused Missing
+  pub no-listed-line : getElem? (listing (s .store .tree)) n ≡ none → listing-on b n s ≡ refused Missing
   unfolding listing-on
-  no-line e = rw (e, present-none, refused-bind)
+  no-listed-line e = rw (e, present-none, refused-bind)
+
+-- ---- a listing
+
+module _ (b a : List ℕ) (n : ℕ) where
+  pub listing-short : length a < 4096 → called-as (Refused ShortAnswer) b a ≡ listing-call b n a
+  unfolding listing-call listing-result
+  listing-short l = refused-call b a (short-call b a (listing-on b n) l)
+
+  pub listing-unsound : 4096 ≤ length a → is-some (decode b) ≡ false → called-as (Refused Unsound) b a ≡ listing-call b n a
+  unfolding listing-call listing-result
+  listing-unsound l e = refused-call b a (unsound-call b a (listing-on b n) l (is-none (decode b) e))
+
+  -- of the state that the bytes are read as
+  pub listing-sound : {x : Called} → 4096 ≤ length a → is-some (decode b) ≡ true
+      → ((s : State) → decode b ≡ some s → x ≡ called b a (listing-on b n s)) → x ≡ listing-call b n a
+  unfolding listing-call listing-result
+  listing-sound l e k =
+      let s = the-some (decode b) e in
+      k (s .0) (s .1) ∙ ap (called b a) (sym (sound-call b a (listing-on b n) (s .0) l (s .1)))
+
+-- the tree of a sound store, as a part that ends with the store
+pub tree-part : (b : List ℕ) (s : State) → decode b ≡ some s → Encodes (take (length b - 6142) (drop 6142 b)) (s .store .tree)
+unfolding header-width
+tree-part b s e = rw (take-all (length b - 6142) (drop 6142 b) (omega (arith, length-drop 6142 b))) (tree-read b s e)
+
+-- a sound store has room for its header
+pub store-reaches : (b : List ℕ) → is-some (decode b) ≡ true → 6142 ≤ length b
+unfolding store-width
+store-reaches b e = let s = the-some (decode b) e in omega (arith, decode-length b (s .0) (s .1))
