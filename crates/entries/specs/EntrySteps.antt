@@ -2,7 +2,7 @@
 -- accounts in place of the session. Then where the code finds their nodes among the rows, and what the code of a command promises.
 use mathlib.Core.Path.{_≡_}
 use mathlib.Core.List.{List}
-use mathlib.Core.Option.{none, some}
+use mathlib.Core.Option.{some}
 use mathlib.Core.Bool.{Bool, false, not}
 use Prim.Native.Nat.{ℕ, suc}
 use lib.Dec.{eqb}

@@ -39,7 +39,8 @@ readable-file : (a : Account) (n : Node) → is-directory (n .kind) ≡ false �
 readable-file a n f = readable-by-modes a n ∙ rw f (case (allows a R n) (λ t. rw t) (λ t. rw t))
 
 -- the account's walk to the tag's entry is that to a file with r
-original-is : (u : Setup) (s : Store) (c : Caller) (z : Bounded-role) (e : Entry-path) → original store u s c z e ≡ file-walk (service (u .pairs) z) R (s .tree) (entry-location e)
+original-is : (u : Setup) (s : Store) (c : Caller) (z : Bounded-role) (e : Entry-path)
+    → original store u s c z e ≡ file-walk (service (u .pairs) z) R (s .tree) (entry-location e)
 unfolding original file-walk file-tests below-rep in-rep entry-location
 original-is u s c z e =
     let a = service (u .pairs) z in
@@ -127,7 +128,8 @@ module _ (u : Setup) (s : Store) (c : Caller) (z : Bounded-role) (e : session st
 -- ---- in a session
 
 -- what steps come to that end in a change
-module _ {A : Type 0} {S : Result (Outcome (Place Node))} (steps : Result A) (f : A → Place Node) (is : S ≡ (steps >>= λ l. done (record { text = none; state = f l }))) where
+module _ {A : Type 0} {S : Result (Outcome (Place Node))} (steps : Result A) (f : A → Place Node)
+    (is : S ≡ (steps >>= λ l. done (record { text = none; state = f l }))) where
   pub comes-to : {x : A} → steps ≡ done x → S ≡ done (record { text = none; state = f x })
   comes-to {x} e = is ∙ rw (e, done-bind)
 

@@ -1,37 +1,36 @@
--- What the code of the commands on entries goes by: tests at a row are those at its place, rows that were found are those of the nodes
--- that the steps lead to, and each change of the bytes is that of the tree.
+-- What the code of `commit` and `up` goes by: tests at a row are those at its place, rows that were found are those of the nodes that the
+-- steps lead to, and each change of the bytes is that of the tree.
 --
 -- In order:
 --   a step that was refused, and tests before an answer: refused-first, tests-then;
---   the walk to a file: file-came, file-refused, file-to, file-not;
---   from a working file to its entry: has-tag, tag-path, entry-came, entry-refused, entry-untagged;
---   both: link-came, link-refused, links-not, links-to, and what a link is: Link-facts to linked;
---   `commit`: commit-came, commit-refused, commit-parts; `del`: del-came, del-refused, del-to, del-not;
---   the changes: commit-law, up-law, del-law.
+--   the walk to a file: file-came to file-not;
+--   from a working file to its entry: has-tag to entry-refused;
+--   both: link-came, link-refused, links-not, links-to, and what a link is: Link-facts to linked-above;
+--   `commit`: commit-came to revision-below;
+--   the changes: commit-law, up-law.
 use mathlib.Core.Path.{_≡_, refl, sym, _∙_, ap}
 use mathlib.Core.List.{List, [], _∷_}
 use mathlib.Core.Option.{Option, none, some}
 use mathlib.Core.Bool.{true, false, not}
-use Prim.Native.Nat.{ℕ, suc, _+_, _<_}
+use Prim.Native.Nat.{ℕ, suc, _<_}
 use native.Mathlib.Omega.{arith}
-use lib.Dec.{eqb, leb}
+use lib.Dec.{eqb}
 use lib.ListN.{length}
 use borrow.Author.Tests.{not-true, eqb-false, leb-true, le-leb}
 use Rattle.buffers.specs.Fields.{two-bytes}
 use Rattle.accounts.specs.declared.Account.{Account}
 use Rattle.accounts.specs.declared.Right.{Right}
 use Rattle.accounts.specs.declared.Right.the-variants.{R, W}
-use Rattle.syntax.specs.Path.{Path, _▹_, Entry-path, parent, in-rep, entry-location, path}
+use Rattle.syntax.specs.Path.{Path, parent, in-rep, entry-location, path}
 use Rattle.syntax.specs.PathLaws.{entry-reads}
-use Rattle.syntax.specs.FormLaws.{no-answer, answered}
 use Rattle.tree.specs.declared.Cause.{Cause}
-use Rattle.tree.specs.declared.Cause.the-variants.{Access, WrongKind, NotEmpty, Stale, Untagged, RevisionsSpent}
+use Rattle.tree.specs.declared.Cause.the-variants.{Access, WrongKind, Stale, Untagged, RevisionsSpent}
 use Rattle.tree.specs.Layout.{revision-offset, tag-revision-offset, content-offset}
 use Rattle.tree.specs.Result.{Result, refused, done, _>>=_, _>>_, require, present}
-use Rattle.tree.specs.ResultLaws.{not-done, present-some, present-of, present-none, required, bind-done, then-done, done-then, done-bind, refused-bind, then-bind}
-use Rattle.tree.specs.Forest.{Place, is-empty, update, place-at, alter, drop, size}
+use Rattle.tree.specs.ResultLaws.{not-done, present-some, present-of, present-none, required, bind-done, then-done, done-bind, refused-bind, then-bind}
+use Rattle.tree.specs.Forest.{Place, update, alter}
 use Rattle.tree.specs.Node.{is-directory, Tag, Node, allows, set-revision, set-tag, set-content}
-use Rattle.tree.specs.NodeLaws.{last-revision-is, node-ranges, node-of-revision, node-of-tag, node-of-content, kind-of-set-revision, kind-of-set-tag, kind-of-set-content}
+use Rattle.tree.specs.NodeLaws.{node-ranges, node-of-revision, node-of-tag, node-of-content, kind-of-set-revision, kind-of-set-tag, kind-of-set-content}
 use Rattle.tree.specs.JudgeLaws.{set-revision-is, set-tag-is, set-content-is}
 use Rattle.tree.specs.Walk.{by-modes, walk}
 use Rattle.tree.specs.StepLaws.{walked}
@@ -41,8 +40,8 @@ use Rattle.tree.specs.UpdateLaws.{by-option, walked-at}
 use Rattle.tree.specs.AlterLaws.{alter-twice, alter-alike, altered-at, kept-part}
 use Rattle.tree.specs.RowPlaces.{index-of}
 use Rattle.tree.specs.Encoding.{encode-tree}
-use Rattle.tree.specs.RowAt.{row-at, all-rows, tag-text-at, tag-number-at}
-use Rattle.tree.specs.TreeBytes.{Has-row, Encodes, At, Whole, Path-text}
+use Rattle.tree.specs.RowAt.{row-at, tag-text-at, tag-number-at}
+use Rattle.tree.specs.TreeBytes.{Has-row, Encodes, At, Path-text}
 use Rattle.tree.specs.TreeBytesLaws.{at-used, at-here}
 use Rattle.tree.specs.TagBytesLaws.{tag-reads, tag-written, tag-blank}
 use Rattle.edits.specs.Changes.{field-put, content-field}
@@ -136,7 +135,8 @@ module _ (account : Account) (t : Place Node) (p : Path) (d : Place Node) {g : T
       let rest : Tag → Result Link = λ h. file-walk account R t (entry-location (h .path)) >>= λ x. done (record { path = p; found = d; tag = h; filed = x }) in
       ap (λ (o : Option Tag). present o Untagged >>= rest) e ∙ ap (λ (o : Result Tag). o >>= rest) (present-of g Untagged) ∙ done-bind g rest
 
-  pub link-on-done : {x : Place Node} → file-walk account R t (entry-location (g .path)) ≡ done x → link-on account t p d ≡ done (record { path = p; found = d; tag = g; filed = x })
+  pub link-on-done : {x : Place Node} → file-walk account R t (entry-location (g .path)) ≡ done x
+      → link-on account t p d ≡ done (record { path = p; found = d; tag = g; filed = x })
   link-on-done w = link-on-goes ∙ rw (w, done-bind)
 
   pub link-on-refused : {k : Cause} → file-walk account R t (entry-location (g .path)) ≡ refused k → link-on account t p d ≡ refused k
@@ -179,7 +179,8 @@ module _ {b : List ℕ} {t : Place Node} {p : Path} {i : ℕ} {d : Place Node} (
       pub entry-refused : {k : Cause} → r ≡ the-variants.Refused k → refused k ≡ rows-from t (link-on account t p d)
       entry-refused {k} e =
           let g = has-tag n in
-          let on = link-on-refused account t p d (g .1) (file-not account R t (entry-location (g .0 .path)) (a .tree) (o (entry-location (g .0 .path)) (tag-located (g .0) (g .1))) e) in
+          let q = entry-location (g .0 .path) in
+          let on = link-on-refused account t p d (g .1) (file-not account R t q (a .tree) (o q (tag-located (g .0) (g .1))) e) in
           sym (ap (λ (x : Result Link). x >>= λ y. done (link-rows t y)) on ∙ refused-bind k (λ y. done (link-rows t y)))
 
 -- ---- both
@@ -217,7 +218,8 @@ pub record Link-facts (person account : Account) (t : Place Node) (w : Path) (l 
   pub filed : walk (by-modes account) t (entry-location (l .tag .path)) ≡ done (l .filed)
   pub original-plain : is-directory (l .filed .here .kind) ≡ false
 
-pub link-facts : (person account : Account) (right : Right) (t : Place Node) (w : Path) {l : Link} → link person right account t w ≡ done l → Link-facts person account t w l
+pub link-facts : (person account : Account) (right : Right) (t : Place Node) (w : Path) {l : Link}
+    → link person right account t w ≡ done l → Link-facts person account t w l
 unfolding link link-on
 link-facts person account right t w {l} e =
     let x = bind-done (file-walk person right t w) (λ d. link-on account t w d) e in
@@ -244,7 +246,11 @@ module _ {person account : Account} {b : List ℕ} {t : Place Node} {w : Path} {
   linked = record {
     file = record { tree = tree; there = rw (f .path) (walked-at t (by-modes person) w (l .found) (f .found)); row = sym (ap (λ (x : Link-rows). x .working) rows) };
     tagged = f .tagged;
-    original = record { tree = tree; there = walked-at t (by-modes account) (entry-location (l .tag .path)) (l .filed) (f .filed); row = sym (ap (λ (x : Link-rows). x .entry) rows) };
+    original = record {
+      tree = tree;
+      there = walked-at t (by-modes account) (entry-location (l .tag .path)) (l .filed) (f .filed);
+      row = sym (ap (λ (x : Link-rows). x .entry) rows);
+    };
     plain = f .plain;
     original-plain = f .original-plain;
   }
@@ -281,7 +287,8 @@ module _ (person account : Account) (t : Place Node) (w : Path) where
   commit-refused {k} e = rw (e, refused-bind) (sym (refused-bind k (λ (x : Link). done (link-rows t x))))
 
   -- where they pass, the nodes are linked and the entry's revision is not the last
-  pub commit-parts : {l : Link} → commit-link person account t w ≡ done l → (link person R account t w ≡ done l) × (eqb (l .filed .here .revision) last-revision ≡ false)
+  pub commit-parts : {l : Link} → commit-link person account t w ≡ done l
+      → (link person R account t w ≡ done l) × (eqb (l .filed .here .revision) last-revision ≡ false)
   unfolding commit-link commit-tests
   commit-parts {l} e =
       let tests : Link → Place Node → Result (Unit {0}) = λ y v. commit-tests account (v .here) (y .tag .revision) (y .filed .here .revision) in
@@ -325,9 +332,11 @@ module _ {b : List ℕ} {t : Place Node} {l : Link} {i k : ℕ} (x : Linked b t 
       ∙ alter-alike t q (l .filed) (λ z. set-revision next (set-content c z)) (next-node c) (x .original .there) (ap (λ (v : ℕ). set-revision v (set-content c y)) n) in
       let e₂ = h₂ ∙ revision-law (k₁ .at) next ∙ ap encode-tree one in
       let raised = node-of-revision (suc (y .revision)) (set-content c y) filled (le-leb (suc (y .revision)) last-revision (omega (arith, low))) in
-      let k₂ = altered-at (x .file) (next-node c) (x .original .there) raised (kind-of-set-revision (suc (y .revision)) (set-content c y) ∙ kind-of-set-content c y) e₂ in
+      let kind = kind-of-set-revision (suc (y .revision)) (set-content c y) ∙ kind-of-set-content c y in
+      let k₂ = altered-at (x .file) (next-node c) (x .original .there) raised kind e₂ in
       let f = l .found .here in
-      let kept = kept-part k₂ (λ z. z .tag) (ap (λ (z : Node). z .tag) (set-revision-is (set-content c f) (suc (f .revision))) ∙ ap (λ (z : Node). z .tag) (set-content-is f c)) in
+      let kept = kept-part k₂ (λ z. z .tag)
+      (ap (λ (z : Node). z .tag) (set-revision-is (set-content c f) (suc (f .revision))) ∙ ap (λ (z : Node). z .tag) (set-content-is f c)) in
       h₃ ∙ tag-revision-law (k₂ .at) (l .tag) next (kept ∙ x .tagged)
       ∙ ap (λ (v : ℕ). encode-tree (tagged (l .path) (l .tag .path) v (update q (alter (next-node c)) t))) n
 

@@ -1,20 +1,19 @@
 -- What the code of `del` goes by: tests at a row are those at its place, and the row taken out is the entry's.
 use mathlib.Core.Path.{_≡_, sym, _∙_, ap}
 use mathlib.Core.List.{List}
-use mathlib.Core.Option.{some}
 use mathlib.Core.Bool.{Bool, true, not}
-use Prim.Native.Nat.{ℕ, suc, _+_}
+use Prim.Native.Nat.{ℕ, suc}
 use native.Mathlib.Omega.{arith}
 use Rattle.buffers.specs.Cases.{case}
 use Rattle.accounts.specs.declared.Account.{Account}
 use Rattle.accounts.specs.declared.Right.the-variants.{W}
-use Rattle.syntax.specs.Path.{Path, _▹_, Entry-path, parent, in-rep, entry-location}
+use Rattle.syntax.specs.Path.{Entry-path, parent, in-rep, entry-location}
 use Rattle.syntax.specs.FormLaws.{answered}
 use Rattle.tree.specs.declared.Cause.{Cause}
 use Rattle.tree.specs.declared.Cause.the-variants.{Access, NotEmpty}
 use Rattle.tree.specs.Result.{Result, refused, done, _>>=_, _>>_, require}
 use Rattle.tree.specs.ResultLaws.{required, bind-done, then-done, done-bind, refused-bind}
-use Rattle.tree.specs.Forest.{Forest, Place, is-empty, leaf, size}
+use Rattle.tree.specs.Forest.{Forest, Place, is-empty, size}
 use Rattle.tree.specs.ForestLaws.{empty-is-nil}
 use Rattle.tree.specs.PlaceLaws.{leaf-below, leaf-size}
 use Rattle.tree.specs.Node.{Node, allows}
@@ -24,7 +23,7 @@ use Rattle.tree.specs.UpdateLaws.{walked-at}
 use Rattle.tree.specs.RowPlaces.{index-of}
 use Rattle.tree.specs.Encoding.{encode-tree}
 use Rattle.tree.specs.RowAt.{row-at, all-rows}
-use Rattle.tree.specs.TreeBytes.{Stretch, Encodes, At}
+use Rattle.tree.specs.TreeBytes.{Stretch, Encodes}
 use Rattle.tree.specs.TreeBytesLaws.{at-within, at-here}
 use Rattle.edits.specs.Changes.{rows-taken}
 use Rattle.edits.specs.EditLaws.{take-law}

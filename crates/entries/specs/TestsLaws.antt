@@ -43,7 +43,8 @@ module _ {A : Type 0} (x : A) (a : Account) where
     unfolding commit-tests
     commit-stale e f = simp (e, f, require-true, done-then, require-false, refused-then)
 
-    pub commit-spent : allows a W above ≡ true → eqb given v ≡ true → eqb v last-revision ≡ true → refused RevisionsSpent ≡ passing (commit-tests a above given v) x
+    pub commit-spent : allows a W above ≡ true → eqb given v ≡ true → eqb v last-revision ≡ true
+        → refused RevisionsSpent ≡ passing (commit-tests a above given v) x
     unfolding commit-tests
     commit-spent e f g = simp (e, f, g, require-true, done-then, require-false, refused-then)
 

@@ -87,8 +87,8 @@ fn bring_up(tree: &mut [u8], working: usize, entry: usize)
     requires { ⌜ Some-link (now tree) working entry ⌝ }
     ensures { λ _. ⌜ ((t : Place Node) (l : Link) → Linked (now (tree .entry)) t l working entry → now (tree .exit) ≡ encode-tree (after-up t l)) ⌝ }
 {
-    let revision = revision_at(tree, entry);
-    set_tag_revision(tree, working, revision);
+    let current = revision_at(tree, entry);
+    set_tag_revision(tree, working, current);
     copy_content(tree, entry, working);
 }
 

@@ -25,3 +25,4 @@ pub mod MachinePrivacyLaws
 pub mod Theorems
 pub mod Compute
 pub mod Acting
+pub mod ActingLaws

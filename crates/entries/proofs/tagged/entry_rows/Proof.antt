@@ -1,7 +1,6 @@
 -- `entries::tagged::entry_rows` meets its contract: an empty text is no tag, and any other reads as the entry's path.
-use mathlib.Core.Path.{_≡_, sym, ap, _∙_}
+use mathlib.Core.Path.{sym, ap, _∙_}
 use lib.ListN.{length}
-use denote.Ref.{now}
 use Rattle.syntax.specs.Path.{path}
 use Rattle.entries.specs.LinkLaws.{at-has-row, tag-path, entry-untagged, entry-came, entry-refused}
 use Rattle.entries.specs.EntrySteps.{links-told}
