@@ -16,7 +16,7 @@ returns : tie.Need-returns
 returns c = λ s b e.
     let a = now (c .before .before .before .before .args .answer) in
     let n = c .before .before .before .before .args .n in
-    refused-call b a (no-listed-line b a n s (no-line (s .store .tree) n (omega (arith, encoded-count e, c .before .before .count .ensures, c .if1 .taken))))
+    refused-call b a (no-listed-line b a n s (no-line (s .store .tree) n (omega (arith, encoded-count e, c .before .count .ensures, c .if1 .taken))))
 
 write-line-requires : tie.Need-write-line-requires
 write-line-requires c κs = search needs

@@ -27,19 +27,26 @@ sub-line-of : tie.Need-sub-line-of
 sub-line-of c = store-reaches (now (c .before .before .before .before .before .args .store)) (answers-true (c .before .holds-store .ensures) (c .if2 .left))
 
 part-line-of-start : tie.Need-part-line-of-start
-part-line-of-start c = ?
+part-line-of-start c = store-reaches (now (c .before .before .before .before .before .args .store)) (answers-true (c .before .holds-store .ensures) (c .if2 .left))
 
 part-line-of-end : tie.Need-part-line-of-end
 part-line-of-end c = search needs
 
 line-of-requires : tie.Need-line-of-requires
-line-of-requires c κs = ?
+line-of-requires c κs =
+    let b = now (c .before .before .before .before .before .before .before .args .store) in
+    let s = the-some (decode b) (answers-true (c .before .before .before .holds-store .ensures) (c .before .before .if2 .left)) in
+    ((s .0 .store .tree, tree-part b (s .0) (s .1)), omega arith)
 
 same-length : tie.Need-same-length
 same-length c = search needs
 
 returns-3 : tie.Need-returns-3
-returns-3 c = ?
+returns-3 c =
+    let d = c .before .before .before .before .before .before .before .before .before .before .args in
+    let b = now (d .store) in
+    listing-sound b (now (d .answer)) (d .n) (omega arith) (answers-true (c .before .before .before .before .before .before .holds-store .ensures) (c .before .before .before .before .before .if2 .left))
+    (λ s e. c .before .before .line-of .ensures s b (tree-part b s e))
 
 pub listing-spec : {M : Type 1} → statement M
 listing-spec =
