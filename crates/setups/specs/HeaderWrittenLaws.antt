@@ -90,14 +90,14 @@ unfolding table-bytes
 table-bytes-map w most f g l = rw (length-map l g, all-bytes-map f g l)
 
 -- before the turn of index k the values below k stand one after another from a place on, and nothing else has changed
-pub record Written {A : Type 0} (f : A → List ℕ) (w at : ℕ) (l : List A) (n : ℕ) (s b : List ℕ) (k : ℕ) : Type 0 where
+pub record Values-written {A : Type 0} (f : A → List ℕ) (w at : ℕ) (l : List A) (n : ℕ) (s b : List ℕ) (k : ℕ) : Type 0 where
   pub le : k ≤ n
   pub len : length b ≡ length s
   pub long : length (all-bytes f (take k l)) ≡ w * k
   pub so-far : b ≡ paste s at (all-bytes f (take k l)) (w * k)
 
 module _ {A : Type 0} (f : A → List ℕ) (w at : ℕ) (l : List A) (n : ℕ) (s : List ℕ) where
-  pub none-written : Written f w at l n s s 0
+  pub none-written : Values-written f w at l n s s 0
   unfolding all-bytes
   none-written = record {
     le = omega arith;
@@ -115,8 +115,8 @@ module _ {A : Type 0} (f : A → List ℕ) (w at : ℕ) (l : List A) (n : ℕ) (
       ∙ ap (λ (r : List ℕ). all-bytes f (take k l) ++ r) (append-nil (f (getD l k d)))
 
   -- a turn writes one more
-  pub one-written : (b c : List ℕ) (k p : ℕ) (d : A) → Written f w at l n s b k → k < n → k < length l → length (f (getD l k d)) ≡ w →
-      p ≡ at + w * k → at + w * k + w ≤ length s → length c ≡ length b → c ≡ paste b p (f (getD l k d)) w → Written f w at l n s c (k + 1)
+  pub one-written : (b c : List ℕ) (k p : ℕ) (d : A) → Values-written f w at l n s b k → k < n → k < length l → length (f (getD l k d)) ≡ w →
+      p ≡ at + w * k → at + w * k + w ≤ length s → length c ≡ length b → c ≡ paste b p (f (getD l k d)) w → Values-written f w at l n s c (k + 1)
   one-written b c k p d v h i x q fits e g =
       let z : w * (k + 1) ≡ w * k + w = ap (λ (j : ℕ). w * j) (add-one k) ∙ omega (arith, mul-suc w k) in
       let m = one-more k d i in
@@ -130,12 +130,12 @@ module _ {A : Type 0} (f : A → List ℕ) (w at : ℕ) (l : List A) (n : ℕ) (
       }
 
   -- at last all that were to be
-  pub all-written : (b : List ℕ) (k : ℕ) → Written f w at l n s b k → n ≤ k → b ≡ paste s at (all-bytes f (take n l)) (w * n)
+  pub all-written : (b : List ℕ) (k : ℕ) → Values-written f w at l n s b k → n ≤ k → b ≡ paste s at (all-bytes f (take n l)) (w * n)
   all-written b k v h = let e : k ≡ n = omega (arith, v .le) in v .so-far ∙ ap (λ (j : ℕ). paste s at (all-bytes f (take j l)) (w * j)) e
 
 -- a table: the number, the values behind it, and zeros behind them
 pub table-written : {A : Type 0} (f : A → List ℕ) (w most at : ℕ) (l : List A) (n : ℕ) (s b : List ℕ) (k z m p : ℕ) →
-    Written f w (at + 1) l n (set s at n) b k → n ≤ k → n ≤ length l → (most - n) * w ≡ z → 1 + w * n + z ≡ m → at + m ≤ length s → p ≡ at + 1 + w * n →
+    Values-written f w (at + 1) l n (set s at n) b k → n ≤ k → n ≤ length l → (most - n) * w ≡ z → 1 + w * n + z ≡ m → at + m ≤ length s → p ≡ at + 1 + w * n →
     paste b p (replicate z 0) z ≡ paste s at (table-bytes w most f (take n l)) m
 unfolding table-bytes
 table-written f w most at l n s b k z m p v h i e g fits q =

@@ -47,15 +47,15 @@ slot-read x y z h k =
     rw e (rw (le-leb 1 x low-bound, lt-ltb n 65536 (omega arith), even, low, high, eq-eqb x x refl, eq-eqb y y refl, eq-eqb z z refl) (and-true _)))
 
 -- a session's byte is written as it is read
-role-read : (n : ℕ) (small : Bool) (e : ltb n 8 ≡ small) → eqb (session-byte (bounded-by n small e)) (suc n) ≡ small
+bounded-read : (n : ℕ) (small : Bool) (e : ltb n 8 ≡ small) → eqb (session-byte (bounded-by n small e)) (suc n) ≡ small
 unfolding bounded-by session-byte
-role-read n true e = eq-eqb (suc n) (suc n) refl
-role-read n false e = ne-eqb 0 (suc n) (λ z. omega arith)
+bounded-read n true e = eq-eqb (suc n) (suc n) refl
+bounded-read n false e = ne-eqb 0 (suc n) (λ z. omega arith)
 
 session-read : (s : ℕ) → same-text (session-byte (session-of s) ∷ []) (s ∷ []) ≡ leb s 8
 unfolding same-text session-of bounded
 session-read zero = unfold session-byte in refl
-session-read (suc n) = and-true _ ∙ role-read n (ltb n 8) refl
+session-read (suc n) = and-true _ ∙ bounded-read n (ltb n 8) refl
 
 -- a pair's bytes are
 pair-read : (s j : ℕ) → let x = s ∷ (j ∷ []) in (is-pair (pair-of x) && same-text (pair-bytes (pair-of x)) x) ≡ (ltb s j && ltb j 8)
@@ -118,22 +118,22 @@ zeros-last n i b h = ap (same-text (replicate n 0)) (sym (take-all n (drop i b) 
 
 -- ---- tests in another order
 
-shuffled : (r ps ts tz ln pp tp zp lm pg tg zg zu : Bool) →
+parts-shuffled : (r ps ts tz ln pp tp zp lm pg tg zg zu : Bool) →
     (((r && ps) && ((ln && pp) && (lm && pg))) && (ts && (tz && (tp && (zp && (tg && (zg && zu)))))))
     ≡ (((r && (ps && ts)) && tz) && ((ln && ((pp && tp) && zp)) && ((lm && ((pg && tg) && zg)) && zu)))
-shuffled false ps ts tz ln pp tp zp lm pg tg zg zu = refl
-shuffled true false ts tz ln pp tp zp lm pg tg zg zu = refl
-shuffled true true false tz ln pp tp zp lm pg tg zg zu = and-false ((ln && pp) && (lm && pg))
-shuffled true true true false ln pp tp zp lm pg tg zg zu = and-false ((ln && pp) && (lm && pg))
-shuffled true true true true false pp tp zp lm pg tg zg zu = refl
-shuffled true true true true true false tp zp lm pg tg zg zu = refl
-shuffled true true true true true true false zp lm pg tg zg zu = and-false (lm && pg)
-shuffled true true true true true true true false lm pg tg zg zu = and-false (lm && pg)
-shuffled true true true true true true true true false pg tg zg zu = refl
-shuffled true true true true true true true true true false tg zg zu = refl
-shuffled true true true true true true true true true true false zg zu = refl
-shuffled true true true true true true true true true true true false zu = refl
-shuffled true true true true true true true true true true true true zu = refl
+parts-shuffled false ps ts tz ln pp tp zp lm pg tg zg zu = refl
+parts-shuffled true false ts tz ln pp tp zp lm pg tg zg zu = refl
+parts-shuffled true true false tz ln pp tp zp lm pg tg zg zu = and-false ((ln && pp) && (lm && pg))
+parts-shuffled true true true false ln pp tp zp lm pg tg zg zu = and-false ((ln && pp) && (lm && pg))
+parts-shuffled true true true true false pp tp zp lm pg tg zg zu = refl
+parts-shuffled true true true true true false tp zp lm pg tg zg zu = refl
+parts-shuffled true true true true true true false zp lm pg tg zg zu = and-false (lm && pg)
+parts-shuffled true true true true true true true false lm pg tg zg zu = and-false (lm && pg)
+parts-shuffled true true true true true true true true false pg tg zg zu = refl
+parts-shuffled true true true true true true true true true false tg zg zu = refl
+parts-shuffled true true true true true true true true true true false zg zu = refl
+parts-shuffled true true true true true true true true true true true false zu = refl
+parts-shuffled true true true true true true true true true true true true zu = refl
 
 -- ---- the parts
 
@@ -197,9 +197,9 @@ module _ (b : List ℕ) (wide : Header-wide b) (small : (k : ℕ) → getD b k 0
   u = setup-of b
 
   -- account 0 is no person's
-  root-is : not (is-some (getD (u .persons) 0 none)) ≡ eqb (getD b 0 0) 0
+  account-0-is : not (is-some (getD (u .persons) 0 none)) ≡ eqb (getD b 0 0) 0
   unfolding person
-  root-is = ap not (named-is 0) ∙ Bool·not-not (eqb (getD b 0 0) 0)
+  account-0-is = ap not (named-is 0) ∙ Bool·not-not (eqb (getD b 0 0) 0)
 
   slots-are : (every is-slot (u .persons) && slots-same) ≡ passes-from (is-slot-at b) 0 16
   unfolding setup-of accounts
@@ -250,7 +250,7 @@ module _ (b : List ℕ) (wide : Header-wide b) (small : (k : ℕ) → getD b k 0
   unfolding is-setup accounts most-pairs most-grants
   setup-is =
       let sixteen : length (u .persons) ≡ 16 = unfold setup-of in length-all-from 3 slot-of 16 b in
-      rw (eq-eqb (length (u .persons)) 16 sixteen, root-is, pair-number, grant-number)
+      rw (eq-eqb (length (u .persons)) 16 sixteen, account-0-is, pair-number, grant-number)
 
   -- the bytes of what is read, with a name for the zeros at their end
   header-with : (R : List ℕ) → R ≡ replicate 5700 0 → header-bytes u (sessions-of b)
@@ -302,7 +302,7 @@ module _ (b : List ℕ) (wide : Header-wide b) (small : (k : ℕ) → getD b k 0
       (λ p. case (leb m 32)
       (λ g. sym (setup
       ∙ ap (λ (t : Bool). ((eqb (getD b 0 0) 0 && every is-slot (u .persons)) && ((leb n 28 && every is-pair (u .pairs)) && (leb m 32 && every (is-grant u) (u .grants)))) && t) (same-header (replicate 5700 0) refl (leb-true n 28 p) (leb-true m 32 g))
-      ∙ shuffled (eqb (getD b 0 0) 0) (every is-slot (u .persons)) slots-same sessions-same (leb n 28) (every is-pair (u .pairs)) pairs-same pairs-zero (leb m 32) (every (is-grant u) (u .grants)) grants-same grants-zero (zeros-at 442 5700 b)
+      ∙ parts-shuffled (eqb (getD b 0 0) 0) (every is-slot (u .persons)) slots-same sessions-same (leb n 28) (every is-pair (u .pairs)) pairs-same pairs-zero (leb m 32) (every (is-grant u) (u .grants)) grants-same grants-zero (zeros-at 442 5700 b)
       ∙ rw (slots-are, sessions-are, pairs-are (leb-true n 28 p), grants-are (leb-true m 32 g))))
       (λ g. simp (g, and-false) (sym (setup ∙ simp (g, and-false)))))
       (λ p. simp (p, and-false) (sym (setup ∙ simp (p, and-false))))

@@ -61,9 +61,10 @@ unfolding passes-from
 passes-same f g i zero h = refl
 passes-same f g i (suc n) h = ap₂ _&&_ (h i (omega arith)) (passes-same f g (suc i) n (λ k l. h k (omega arith)))
 
-regroup : (a b c : Bool) → (a && (b && c)) ≡ ((a && b) && c)
-regroup true b c = refl
-regroup false b c = refl
+-- three tests, grouped the other way
+three-tests : (a b c : Bool) → (a && (b && c)) ≡ ((a && b) && c)
+three-tests true b c = refl
+three-tests false b c = refl
 
 -- the bytes of the value of an index, of values of a width from a place on
 abbrev pub stretch : ℕ → ℕ → List ℕ → ℕ → List ℕ
@@ -71,13 +72,13 @@ stretch w o b k = take w (drop (o + w * k) b)
 
 -- such values one after another
 module _ {A : Type 0} (w o : ℕ) (b : List ℕ) (from : List ℕ → A) where
-  next : (i : ℕ) → drop w (drop (o + w * i) b) ≡ drop (o + w * suc i) b
-  next i = let q : o + w * i + w ≡ o + w * suc i = omega (arith, mul-suc w i) in drop-drop w (o + w * i) b ∙ ap (λ (k : ℕ). drop k b) q
+  next-stretch : (i : ℕ) → drop w (drop (o + w * i) b) ≡ drop (o + w * suc i) b
+  next-stretch i = let q : o + w * i + w ≡ o + w * suc i = omega (arith, mul-suc w i) in drop-drop w (o + w * i) b ∙ ap (λ (k : ℕ). drop k b) q
 
   every-passes : (test : A → Bool) (i n : ℕ) → every test (all-from w from n (drop (o + w * i) b)) ≡ passes-from (λ k. test (from (stretch w o b k))) i n
   unfolding every all-from passes-from
   every-passes test i zero = refl
-  every-passes test i (suc n) = rw (next i) (ap (λ (t : Bool). test (from (stretch w o b i)) && t) (every-passes test (suc i) n))
+  every-passes test i (suc n) = rw (next-stretch i) (ap (λ (t : Bool). test (from (stretch w o b i)) && t) (every-passes test (suc i) n))
 
   -- all pass a test just if each does
   pub all-pass : (test : A → Bool) (n : ℕ) → every test (all-from w from n (drop o b)) ≡ passes-from (λ k. test (from (stretch w o b k))) 0 n
@@ -98,11 +99,11 @@ module _ {A : Type 0} (w o : ℕ) (b : List ℕ) (from : List ℕ → A) where
         let q : o + w * suc i + w * n ≡ o + w * i + w * suc n = omega arith in
         let q′ : o + w * i + w ≡ o + w * suc i = omega arith in
         let l : length a ≡ w = long (stretch w o b i) (length-take-le w (drop (o + w * i) b) (omega (arith, length-drop (o + w * i) b))) in
-        rw (next i, append-assoc a (all-bytes to (all-from w from n (drop (o + w * suc i) b))) R)
+        rw (next-stretch i, append-assoc a (all-bytes to (all-from w from n (drop (o + w * suc i) b))) R)
         (same-part (o + w * i) w a rest b l room
         ∙ ap (λ (t : Bool). same-text a (stretch w o b i) && t)
         (ap (λ (k : ℕ). same-text rest (drop k b)) q′ ∙ same-passes (suc i) n (omega arith) ∙ ap (λ (k : ℕ). passes-from (λ k. same-text (to (from (stretch w o b k))) (stretch w o b k)) (suc i) n && same-text R (drop k b)) q)
-        ∙ regroup (same-text a (stretch w o b i)) _ _)
+        ∙ three-tests (same-text a (stretch w o b i)) _ _)
 
     -- they are written as they are read just if each is, and what follows is the same
     pub all-same : (n m : ℕ) → o + w * n ≡ m → m ≤ length b →

@@ -9,12 +9,12 @@ use denote.Ref.{now}
 use Rattle.setup.specs.Setup.{most-grants}
 use Rattle.setup.specs.Reader.{grant-value, no-grant}
 use Rattle.store.specs.StoreBytes.{grant-bytes}
-use Rattle.setups.specs.HeaderWrittenLaws.{grant-wide, table-bytes-map, Written, none-written, one-written, table-written}
+use Rattle.setups.specs.HeaderWrittenLaws.{grant-wide, table-bytes-map, Values-written, none-written, one-written, table-written}
 use Rattle.setups.proofs.header_parts.write_grants.Statement.{statement}
 use Rattle.setups.proofs.header_parts.write_grants.Tie as tie
 
 abbrev Inv-loop : tie.InvT-loop
-Inv-loop header₀ text n grants k₀ header k = Written (λ g. grant-bytes (grant-value text g)) 10 122 grants n header₀ header k
+Inv-loop header₀ text n grants k₀ header k = Values-written (λ g. grant-bytes (grant-value text g)) 10 122 grants n header₀ header k
 
 abbrev μ-loop : tie.MeasureT-loop
 μ-loop header₀ text n grants k₀ header k = n - k

@@ -11,13 +11,13 @@ use Rattle.setup.specs.Setup.{is-slot}
 use Rattle.setup.specs.Reader.{slot-value}
 use Rattle.setup.specs.ReaderLaws.{no-slot}
 use Rattle.store.specs.StoreBytes.{slot-bytes}
-use Rattle.setups.specs.HeaderWrittenLaws.{slot-wide, all-bytes-map, Written, none-written, one-written, all-written}
+use Rattle.setups.specs.HeaderWrittenLaws.{slot-wide, all-bytes-map, Values-written, none-written, one-written, all-written}
 use Rattle.setups.specs.WritableLaws.{image-passes}
 use Rattle.setups.proofs.header_parts.write_slots.Statement.{statement}
 use Rattle.setups.proofs.header_parts.write_slots.Tie as tie
 
 abbrev Inv-loop : tie.InvT-loop
-Inv-loop header₀ persons k₀ header k = Written (λ p. slot-bytes (slot-value p)) 3 0 persons 16 header₀ header k
+Inv-loop header₀ persons k₀ header k = Values-written (λ p. slot-bytes (slot-value p)) 3 0 persons 16 header₀ header k
 
 abbrev μ-loop : tie.MeasureT-loop
 μ-loop header₀ persons k₀ header k = 16 - k
