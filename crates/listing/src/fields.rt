@@ -38,7 +38,7 @@ fn write_decimal_field(answer: &mut [u8], at: usize, n: u16) -> usize
     ensures { λ r. ⌜ Wrote-most 6 (comma ∷ decimal-text n) (now (answer .entry)) at (now (answer .exit)) r ⌝ }
 {
     answer[at] = b',';
-    write_decimal(answer, at + 1, n)
+    write_decimal(answer, at + 1, n as usize)
 }
 
 // Writes a mode behind a comma.

@@ -1,9 +1,14 @@
 // What the program decides, as functions on lent slices: where the setup and each command line end in what has been read of the
 // input, and what is printed for an answer.
 mod input;
+mod replies;
 
 pub use input::next_line;
 pub use input::setup_end;
+pub use replies::is_done;
+pub use replies::is_missing;
+pub use replies::write_listed;
+pub use replies::write_reply;
 
 // Where the setup ends in what has been read: behind the byte 10 of its first line `end`, or not in it.
 pub enum SetupEnd {

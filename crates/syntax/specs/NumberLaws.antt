@@ -5,10 +5,11 @@ use mathlib.Core.Option.{some}
 use mathlib.Core.Bool.{true, _&&_, _||_}
 use Prim.Native.Nat.{ℕ, zero, suc, _+_, _-_, _*_, _/_, _%_, _^_, _≤_, _<_}
 use native.Mathlib.Nat.{pow-succ'}
+use native.Mathlib.Numerals.{add-one}
 use native.Mathlib.Omega.{arith}
 use borrow.Author.Tests.{eqb-true, eqb-false, ne-eqb, ltb-true, ltb-false, lt-ltb, le-ltb, leb-true, le-leb, not-true}
 use lib.Dec.{eqb, leb, ltb}
-use lib.ListN.{length}
+use lib.ListN.{length, length-append}
 use Rattle.buffers.specs.Cases.{case, and-both, contra}
 use Rattle.buffers.specs.Text.{Text, every}
 use Rattle.syntax.specs.Number.{digit, value-after, no-leading-zero, decimal, mode-digits, mode, set-gid, is-mode, octal, digits-before, decimal-text, mode-text}
@@ -176,6 +177,11 @@ decimal-last n h =
     more-digits n n [] h
     ∙ same-digits n (suc (n / 10)) (n / 10) ((48 + n % 10) ∷ []) (omega arith) (omega arith)
     ∙ digits-apart (suc (n / 10)) (n / 10) ((48 + n % 10) ∷ [])
+
+-- so it has one digit more
+pub decimal-longer : (n : ℕ) → 10 ≤ n → length (decimal-text n) ≡ suc (length (decimal-text (n / 10)))
+decimal-longer n h =
+    ap length (decimal-last n h) ∙ length-append (decimal-text (n / 10)) ((48 + n % 10) ∷ []) ∙ add-one (length (decimal-text (n / 10)))
 
 -- ---- modes
 

@@ -8,7 +8,7 @@ use lib.Seq.{paste}
 use Rattle.buffers.specs.Over.{Wrote}
 use Rattle.buffers.specs.OverLaws.{over-paste, wrote-byte, wrote-both}
 use Rattle.syntax.specs.Number.{decimal-text, mode-text}
-use Rattle.syntax.specs.NumberLaws.{decimal-digit, decimal-last, decimal-length}
+use Rattle.syntax.specs.NumberLaws.{decimal-digit, decimal-last, decimal-longer, decimal-length}
 
 module _ (n : ℕ) (b : List ℕ) (at : ℕ) where
   -- one digit
@@ -24,9 +24,9 @@ module _ (n : ℕ) (b : List ℕ) (at : ℕ) where
   pub wrote-decimal-ends : (c : List ℕ) (r : ℕ) → n < 65536 → Wrote (decimal-text n) b at c r → r ≤ at + 5
   wrote-decimal-ends c r h v = omega (arith, v .ends, decimal-length 4 n (omega arith))
 
-  -- so there are four before the last
-  pub before-last-ends : (c : List ℕ) (r : ℕ) → n < 65536 → Wrote (decimal-text (n / 10)) b at c r → r ≤ at + 4
-  before-last-ends c r h v = omega (arith, v .ends, decimal-length 3 (n / 10) (omega arith))
+  -- where there is room for all digits, the last has a place behind the others
+  pub before-last-ends : (c : List ℕ) (r : ℕ) → 10 ≤ n → at + length (decimal-text n) ≤ length b → Wrote (decimal-text (n / 10)) b at c r → r < length b
+  before-last-ends c r h l v = omega (arith, v .ends, decimal-longer n h)
 
   -- four octal digits
   pub wrote-mode : (c : List ℕ) → c ≡ paste b at ((48 + n / 512) ∷ (48 + n / 64 % 8) ∷ (48 + n / 8 % 8) ∷ (48 + n % 8) ∷ []) 4

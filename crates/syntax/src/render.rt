@@ -6,8 +6,8 @@ ghost use Rattle.syntax.specs.Number.{decimal-text, mode-text};
 use buffers::write_four;
 
 // Writes a number as decimal digits without leading zeros: all digits but the last, then the last behind them.
-pub fn write_decimal(b: &mut [u8], at: usize, n: u16) -> usize
-    requires { ⌜ at + 5 ≤ length (now b) ⌝ }
+pub fn write_decimal(b: &mut [u8], at: usize, n: usize) -> usize
+    requires { ⌜ at + length (decimal-text n) ≤ length (now b) ⌝ }
     ensures { λ r. ⌜ Wrote (decimal-text n) (now (b .entry)) at (now (b .exit)) r ⌝ }
 {
     if n < 10 {

@@ -6,6 +6,7 @@ use lib.ListN.{set, length-set}
 use denote.Ref.{now}
 use Rattle.buffers.specs.OverLaws.{wrote-byte, wrote-both}
 use Rattle.syntax.specs.Pieces.{comma}
+use Rattle.syntax.specs.NumberLaws.{decimal-length}
 use Rattle.syntax.specs.RenderLaws.{wrote-decimal-ends}
 use borrow.Author.Needs.{needs}
 use Rattle.listing.proofs.fields.write_decimal_field.Statement.{statement}
@@ -18,7 +19,7 @@ add-write-decimal : tie.Need-add-write-decimal
 add-write-decimal c = search needs
 
 write-decimal-requires : tie.Need-write-decimal-requires
-write-decimal-requires c κs = simp length-set (omega arith)
+write-decimal-requires c κs = simp length-set (omega (arith, decimal-length 4 (c .before .before .args .n) (omega arith)))
 
 same-length : tie.Need-same-length
 same-length c = c .before .before .write-decimal .kept .0 ∙ simp length-set
