@@ -1,5 +1,5 @@
 -- A checkout whose first checks have passed: what its copies ask for, and what is made of them once they are written.
-use mathlib.Core.Path.{_≡_, sym, _∙_, ap, refl}
+use mathlib.Core.Path.{_≡_, sym, _∙_, ap}
 use mathlib.Core.List.{List, _++_}
 use mathlib.Core.Option.{some}
 use Prim.Native.Nat.{ℕ, suc, _+_, _*_, _≤_, _<_}
@@ -13,11 +13,10 @@ use Rattle.syntax.specs.Path.{Path, Entry-path, parent, last, depth, path, entr
 use Rattle.syntax.specs.PathLaws.{name-length, parent-depth}
 use Rattle.syntax.specs.Parts.{last-slash}
 use Rattle.tree.specs.declared.Cause.the-variants.{Full, TooDeep}
-use Rattle.accounts.specs.declared.Caller.{Caller}
-use Rattle.tree.specs.declared.Kind.{Kind}
 use Rattle.tree.specs.Layout.{row-width, row-start, most-rows, name-width}
 use Rattle.tree.specs.Forest.{Place, update, put, size, height}
 use Rattle.tree.specs.Node.{Node, new-group, new-node}
+use Rattle.tree.specs.NodeLaws.{new-node-group}
 use Rattle.tree.specs.WellFormed.{nodes}
 use Rattle.tree.specs.RowPlaces.{place-rows, lesser}
 use Rattle.tree.specs.RowPlacesLaws.{length-place-rows}
@@ -41,11 +40,6 @@ use Rattle.checkout.specs.declared.Copies.{Copies}
 use Rattle.checkout.specs.declared.Copies.the-variants as answers
 use Rattle.checkout.specs.Checkout.{readable-walk, put-copies, co-steps, Checkout, checkout-copies, Ready-for, Prepared}
 use Rattle.checkout.specs.CheckoutLaws.{co-goes-on, put-too-deep, put-too-many, put-done, prepared-ready, prepared-not}
-
--- the group of a new node
-new-node-group : (c : Caller) (parent : Node) (kind : Kind) (mode : ℕ) → new-node c parent kind mode .group ≡ new-group c parent
-unfolding new-node
-new-node-group c parent kind mode = refl
 
 -- the first checks have passed
 module _ (w : Copier) (entry to : Text) {b : List ℕ} {t : Place Node} {e : Entry-path} {d : Path} {row at k filed above : ℕ} (reads-entry : entry-path entry ≡ some e)

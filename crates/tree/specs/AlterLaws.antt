@@ -10,7 +10,7 @@ use mathlib.Core.Path.{_≡_, refl, sym, _∙_, ap}
 use mathlib.Core.List.{List, [], _∷_}
 use mathlib.Core.Option.{Option, none, some, Option·map}
 use mathlib.Core.Bool.{true, false, cond}
-use Prim.Native.Nat.{ℕ, suc, _+_}
+use Prim.Native.Nat.{ℕ, suc}
 use Rattle.buffers.specs.Cases.{case}
 use Rattle.buffers.specs.Text.{same-text, precedes}
 use Rattle.buffers.specs.TextLaws.{same-text-sound}
@@ -21,7 +21,7 @@ use Rattle.syntax.specs.FormLaws.{no-answer, answered}
 use Rattle.tree.specs.Forest.{Forest, nil, node, Place, get, insert, at, under, update, place-at, alter, put, size, map-forest, map-place}
 use Rattle.tree.specs.ForestLaws.{get-map, size-map, under-map, at-map, at-at, at-twice, differ-sym}
 use Rattle.tree.specs.Node.{Node}
-use Rattle.tree.specs.WellFormed.{nodes, is-node, is-tree}
+use Rattle.tree.specs.WellFormed.{nodes, is-node}
 use Rattle.tree.specs.UpdateLaws.{by-option, update-same, update-none}
 use Rattle.tree.specs.ChangeLaws.{alter-at}
 use Rattle.tree.specs.OtherPathLaws.{none-below}
@@ -30,7 +30,7 @@ use Rattle.tree.specs.HoldsLaws.{holds-altered, holds-alter, place-map}
 use Rattle.tree.specs.RowPlaces.{ahead, children-of, index-of, lesser}
 use Rattle.tree.specs.RowPlacesLaws.{update-at}
 use Rattle.tree.specs.Encoding.{encode-tree}
-use Rattle.tree.specs.TreeBytes.{Encodes, At}
+use Rattle.tree.specs.TreeBytes.{At}
 use Rattle.tree.specs.TreeBytesLaws.{encodes}
 
 -- ---- changes at one path

@@ -205,6 +205,11 @@ pub kind-of-set-content : (c : Text) (n : Node) → set-content c n .kind ≡ n 
 unfolding set-content
 kind-of-set-content c n = refl
 
+-- the group of a new node
+pub new-node-group : (c : Caller) (parent : Node) (kind : Kind) (mode : ℕ) → new-node c parent kind mode .group ≡ new-group c parent
+unfolding new-node
+new-node-group c parent kind mode = refl
+
 -- its group is the parent's with set-gid there, else the caller's primary one
 pub group-given : (c : Caller) (parent : Node) → set-gid (parent .mode) ≡ true → new-group c parent ≡ parent .group
 unfolding new-group

@@ -1,14 +1,13 @@
 -- The tag of a place as its row tells it: its path is what the tag's text reads as, and its revision the number behind it.
 use mathlib.Core.Path.{_≡_, sym, _∙_, ap}
 use mathlib.Core.List.{List, []}
-use mathlib.Core.Option.{Option, none, some}
+use mathlib.Core.Option.{none, some}
 use Prim.Native.Nat.{ℕ}
 use Rattle.syntax.specs.Form.{_>>=_}
 use Rattle.syntax.specs.FormLaws.{no-answer, both-read, answered}
 use Rattle.syntax.specs.Path.{Path, Entry-path, entry-path}
 use Rattle.tree.specs.Forest.{Place}
 use Rattle.tree.specs.Node.{Tag, Node}
-use Rattle.tree.specs.Rows.{Row}
 use Rattle.tree.specs.Encoding.{tag-of, row-bytes, read-row}
 use Rattle.tree.specs.RowBytesLaws.{no-entry, untagged-text}
 use Rattle.tree.specs.RowAt.{row-bytes-at, row-at, tag-text-at, tag-number-at}
