@@ -1,0 +1,92 @@
+-- `patterns::setup_phase::read_setup` meets its contract: the window stays in the buffer, which keeps its length, and the turns fall.
+use mathlib.Core.Path.{_≡_, refl}
+use mathlib.Core.List.{List}
+use Prim.Native.Nat.{ℕ}
+use native.Mathlib.Omega.{arith}
+use lib.ListN.{length}
+use borrow.Author.Needs.{needs}
+use Rattle.patterns.specs.Held.{Held}
+use Rattle.patterns.specs.declared.Window.{Window}
+use Rattle.patterns.proofs.setup_phase.read_setup.Statement.{statement}
+use Rattle.patterns.proofs.setup_phase.read_setup.Tie as tie
+use Rattle.patterns.proofs.setup_phase.read_setup.Reads as reads
+use Rattle.patterns.proofs.setup_phase.read_setup.Lts as lts
+use Rattle.patterns.proofs.setup_phase.seek_end.Reads as seek-end-reads
+
+record Seeking (buffer₀ buffer : List ℕ) (w : Window) : Type 0 where
+  buffers : length buffer ≡ length buffer₀
+  held : Held w (length buffer)
+
+abbrev Inv-loop : tie.InvT-loop
+Inv-loop buffer₀ w₀ turns₀ buffer w turns = Seeking buffer₀ buffer w
+
+abbrev μ-loop : tie.MeasureT-loop
+μ-loop buffer₀ w₀ turns₀ buffer w turns = turns
+
+loop-holds : tie.Need-loop-holds Inv-loop μ-loop
+loop-holds c = record { buffers = refl; held = record { wide = c .before .pre; ordered = omega arith; within = omega arith } }
+
+sub-turns : tie.Need-sub-turns Inv-loop μ-loop
+sub-turns c = search needs
+
+seek-end-requires : tie.Need-seek-end-requires Inv-loop μ-loop
+seek-end-requires c κs = c .before .before .loop .inv .held
+
+enum-known-next : tie.Need-enum-known-next Inv-loop μ-loop
+enum-known-next c = search needs
+
+loop-less : tie.Need-loop-less Inv-loop μ-loop
+loop-less c = search needs
+
+loop-again : tie.Need-loop-again Inv-loop μ-loop
+loop-again c =
+    let w = c .before .before .before .before .before .seek-end in
+    record {
+      buffers = omega (arith, w .kept .0, c .before .before .before .before .before .before .before .before .loop .inv .buffers);
+      held = rw (c .before .next .given .1) at (w .ensures);
+    }
+
+enum-known-rest : tie.Need-enum-known-rest Inv-loop μ-loop
+enum-known-rest c = search needs
+
+same-length : tie.Need-same-length Inv-loop μ-loop
+same-length c = search needs
+
+returns : tie.Need-returns Inv-loop μ-loop
+returns c = rw (c .before .rest .given .1) at (c .before .before .before .before .before .seek-end .ensures)
+
+enum-told : tie.Need-enum-told Inv-loop μ-loop
+enum-told c = search needs
+
+same-length-2 : tie.Need-same-length-2 Inv-loop μ-loop
+same-length-2 c = search needs
+
+returns-2 : tie.Need-returns-2 Inv-loop μ-loop
+returns-2 c = tt
+
+same-length-3 : tie.Need-same-length-3 Inv-loop μ-loop
+same-length-3 c = search needs
+
+returns-3 : tie.Need-returns-3 Inv-loop μ-loop
+returns-3 c = tt
+
+pub read-setup-spec : {M : Type 1} → statement M
+read-setup-spec =
+    tie.close
+    (tie.spec
+    Inv-loop
+    μ-loop
+    loop-holds
+    sub-turns
+    seek-end-requires
+    enum-known-next
+    loop-less
+    loop-again
+    enum-known-rest
+    same-length
+    returns
+    enum-told
+    same-length-2
+    returns-2
+    same-length-3
+    returns-3)

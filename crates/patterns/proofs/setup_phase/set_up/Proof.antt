@@ -1,0 +1,60 @@
+-- `patterns::setup_phase::set_up` meets its contract: the setup is a part of the buffer, and what is printed stands in its own.
+use mathlib.Core.Path.{sym}
+use denote.Ref.{now}
+use native.Mathlib.Omega.{arith}
+use lib.Seq.{length-take-le}
+use Rattle.printing.specs.PrintedLaws.{printed-fits}
+use borrow.Author.Needs.{needs}
+use Rattle.patterns.proofs.setup_phase.set_up.Statement.{statement}
+use Rattle.patterns.proofs.setup_phase.set_up.Tie as tie
+use Rattle.patterns.proofs.setup_phase.set_up.Reads as reads
+use Rattle.patterns.proofs.setup_phase.set_up.Lts as lts
+use Rattle.patterns.proofs.library.setup.Reads as setup-reads
+use Rattle.patterns.proofs.streams.print.Reads as print-reads
+use Rattle.printing.proofs.is_done.Reads as is-done-reads
+use Rattle.printing.proofs.write_reply.Reads as write-reply-reads
+
+slice-aggregate-setup : tie.Need-slice-aggregate-setup
+slice-aggregate-setup c = let a = c .before .before .before .before .before .before .args in sym (length-take-le (a .w .from) (now (a .buffer)) (omega arith))
+
+setup-requires : tie.Need-setup-requires
+setup-requires c κs = search needs
+
+is-done-requires : tie.Need-is-done-requires
+is-done-requires c κs = search needs
+
+same-length : tie.Need-same-length
+same-length c = search needs
+
+returns : tie.Need-returns
+returns c = search needs
+
+write-reply-requires : tie.Need-write-reply-requires
+write-reply-requires c κs = search needs
+
+print-requires : tie.Need-print-requires
+print-requires c κs = printed-fits (c .before .before .before .write-reply .ensures)
+
+same-length-2 : tie.Need-same-length-2
+same-length-2 c = search needs
+
+same-length-3 : tie.Need-same-length-3
+same-length-3 c = search needs
+
+returns-2 : tie.Need-returns-2
+returns-2 c = search needs
+
+pub set-up-spec : {M : Type 1} → statement M
+set-up-spec =
+    tie.close
+    (tie.spec
+    slice-aggregate-setup
+    setup-requires
+    is-done-requires
+    same-length
+    returns
+    write-reply-requires
+    print-requires
+    same-length-2
+    same-length-3
+    returns-2)
