@@ -40,12 +40,16 @@ file-tests a right n = do
   require (not (is-directory (n .kind))) WrongKind
   require (allows a right n) Access
 
--- the walk to a file
-unfoldable pub file-walk : Account → Right → Place Node → Path → Result (Place Node)
-file-walk a right t p = do
+-- the walk to a node that passes tests
+unfoldable pub judged-walk : Account → (Node → Result (Unit {0})) → Place Node → Path → Result (Place Node)
+judged-walk a tests t p = do
   d ← walk (by-modes a) t p
-  file-tests a right (d .here)
+  tests (d .here)
   done d
+
+-- the walk to a file
+abbrev pub file-walk : Account → Right → Place Node → Path → Result (Place Node)
+file-walk a right = judged-walk a (file-tests a right)
 
 -- a working file at its path, its tag, and the entry that the tag leads to
 pub record Link : Type 0 where

@@ -32,7 +32,7 @@ use Rattle.machine.specs.Machine.{Working, session, working-file, original, run
 use Rattle.machine.specs.StoreMachine.{store}
 use Rattle.machine.specs.Acting.{Acting, on-tree-steps}
 use Rattle.entries.specs.LinkLaws.{link-on-missing, link-on-done, link-on-refused}
-use Rattle.entries.specs.EntrySteps.{file-tests, file-walk, link, commit-tests, commit-link, del-tests, del-walk, after-commit, after-up, after-del}
+use Rattle.entries.specs.EntrySteps.{file-tests, judged-walk, file-walk, link, commit-tests, commit-link, del-tests, del-walk, after-commit, after-up, after-del}
 
 -- a file is readable with r
 readable-file : (a : Account) (n : Node) → is-directory (n .kind) ≡ false → by-modes a .readable n ≡ allows a R n
@@ -41,7 +41,7 @@ readable-file a n f = readable-by-modes a n ∙ rw f (case (allows a R n) (λ t.
 -- the account's walk to the tag's entry is that to a file with r
 original-is : (u : Setup) (s : Store) (c : Caller) (z : Bounded-role) (e : Entry-path)
     → original store u s c z e ≡ file-walk (service (u .pairs) z) R (s .tree) (entry-location e)
-unfolding original file-walk file-tests below-rep in-rep entry-location
+unfolding original judged-walk file-tests below-rep in-rep entry-location
 original-is u s c z e =
     let a = service (u .pairs) z in
     by-result (walk (by-modes a) (s .tree) (in-rep (e .folder) ▹ e .name))
@@ -54,7 +54,7 @@ original-is u s c z e =
 module _ (u : Setup) (s : Store) (c : Caller) where
   working-then : {A : Type 0} (right : Right) (w : Path) (f : Working → Result A) → (working-file store u s c right w >>= f)
       ≡ (file-walk (c .account) right (s .tree) w >>= λ d. present (d .here .tag) Untagged >>= λ g. f (record { node = d .here; tag = g }))
-  unfolding working-file file-walk file-tests
+  unfolding working-file judged-walk file-tests
   working-then right w f =
       by-result (walk (by-modes (c .account)) (s .tree) w)
       (λ k q. simp (q, refused-bind))

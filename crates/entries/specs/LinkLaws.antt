@@ -3,7 +3,7 @@
 --
 -- In order:
 --   a step that was refused, and tests before an answer: refused-first, tests-then;
---   the walk to a file: file-came to file-not;
+--   the walk to a node that passes tests, as to a file: judged-came to file-walked;
 --   from a working file to its entry: has-tag to entry-refused;
 --   both: link-came, link-refused, links-not, links-to, and what a link is: Link-facts to linked-above;
 --   `commit`: commit-came to revision-below;
@@ -56,7 +56,7 @@ use Rattle.machine.specs.Machine.{tagged}
 use Rattle.machine.specs.StoreMachine.{next-node}
 use Rattle.entries.specs.declared.Links.{Links}
 use Rattle.entries.specs.declared.Links.the-variants.{To, Refused}
-use Rattle.entries.specs.EntrySteps.{file-tests, file-walk, Link, link-on, link, commit-tests, commit-link, after-commit, after-up, Link-rows, link-rows, three-rows, rows-from, spot-from, passing, links-told, Linked}
+use Rattle.entries.specs.EntrySteps.{file-tests, judged-walk, file-walk, Link, link-on, link, commit-tests, commit-link, after-commit, after-up, Link-rows, link-rows, three-rows, rows-from, spot-from, passing, links-told, Linked}
 
 -- ---- steps and tests
 
@@ -75,45 +75,52 @@ module _ {b : List ℕ} {t : Place Node} {p : Path} {i : ℕ} {d : Place Node} (
   pub at-has-row : Has-row b i
   at-has-row = let u = at-used a in record { wide = u .sized .wide; low = omega (arith, u .used, u .sized .few-rows) }
 
-  at-node : is-node (d .here) ≡ true
+  pub at-node : is-node (d .here) ≡ true
   at-node = place-node d (place-below t p d (tree-parts t (a .tree .whole) .whole) (a .there))
 
 -- a row has room where the length stays
 pub has-still : {b b′ : List ℕ} {i : ℕ} → Has-row b i → length b′ ≡ length b → Has-row b′ i
 has-still h e = record { wide = e ∙ h .wide; low = h .low }
 
--- ---- the walk to a file
+-- ---- the walk to a node that passes tests
 
-module _ (a : Account) (right : Right) (t : Place Node) (p : Path) where
-  -- the tests at the row that a walk came to are those of the file's walk
-  pub file-came : {b : List ℕ} {row above : ℕ} {x : Result Spot} → Came b t p (walk (by-modes a) t p) row above
-      → x ≡ passing (file-tests a right (row-at b row .here)) (spot row above) → x ≡ spot-from t p (file-walk a right t p)
-  unfolding file-walk spot-of
-  file-came c o =
-      o ∙ rw (at-here (c .at), c .at .row, c .over-at .row, c .walked, done-bind (c .place) (λ (d : Place Node). file-tests a right (d .here) >> done d))
-      (tests-then (file-tests a right (c .place .here)) (c .place) (λ d. spot (index-of t p) (index-of t (parent p))))
+module _ (a : Account) (tests : Node → Result (Unit {0})) (t : Place Node) (p : Path) where
+  -- the tests at the row that a walk came to are those of the judged walk
+  pub judged-came : {b : List ℕ} {row above : ℕ} {x : Result Spot} → Came b t p (walk (by-modes a) t p) row above
+      → x ≡ passing (tests (row-at b row .here)) (spot row above) → x ≡ spot-from t p (judged-walk a tests t p)
+  unfolding judged-walk spot-of
+  judged-came c o =
+      o ∙ rw (at-here (c .at), c .at .row, c .over-at .row, c .walked, done-bind (c .place) (λ (d : Place Node). tests (d .here) >> done d))
+      (tests-then (tests (c .place .here)) (c .place) (λ d. spot (index-of t p) (index-of t (parent p))))
 
-  pub file-refused : {k : Cause} → walk (by-modes a) t p ≡ refused k → refused k ≡ spot-from t p (file-walk a right t p)
-  unfolding file-walk
-  file-refused {k} e = rw (e, refused-bind k (λ (d : Place Node). file-tests a right (d .here) >> done d), refused-bind k (λ (d : Place Node). done (spot-of t p)))
+  pub judged-refused : {k : Cause} → walk (by-modes a) t p ≡ refused k → refused k ≡ spot-from t p (judged-walk a tests t p)
+  unfolding judged-walk
+  judged-refused {k} e = rw (e, refused-bind k (λ (d : Place Node). tests (d .here) >> done d), refused-bind k (λ (d : Place Node). done (spot-of t p)))
 
-  -- what it leads to is a file where the walk leads
-  file-walked : {d : Place Node} → file-walk a right t p ≡ done d → (walk (by-modes a) t p ≡ done d) × (is-directory (d .here .kind) ≡ false)
-  unfolding file-walk file-tests
-  file-walked {d} e =
-      let w = bind-done (walk (by-modes a) t p) (λ x. file-tests a right (x .here) >> done x) e in
-      let x = w .0 in
-      let v = then-done (file-tests a right (x .here)) (done x) (w .2) in
-      let i = then-done (require (not (is-directory (x .here .kind))) WrongKind) (require (allows a right (x .here)) Access) (v .0) in
-      let q : d ≡ x = cc (v .1) in
-      rw q (w .1, not-true (is-directory (x .here .kind)) (required (not (is-directory (x .here .kind))) WrongKind (i .0)))
+  -- it leads where the walk leads, and the tests pass there
+  judged-walked : {d : Place Node} → judged-walk a tests t p ≡ done d → (walk (by-modes a) t p ≡ done d) × (tests (d .here) ≡ done tt)
+  unfolding judged-walk
+  judged-walked {d} e =
+      let w = bind-done (walk (by-modes a) t p) (λ x. tests (x .here) >> done x) e in
+      let v = then-done (tests (w .0 .here)) (done (w .0)) (w .2) in
+      let q : d ≡ w .0 = cc (v .1) in
+      rw q (w .1, v .0)
 
-  module _ {b : List ℕ} (tree : Encodes b t) {r : Walked} (o : outcome r ≡ spot-from t p (file-walk a right t p)) where
-    pub file-to : {row above : ℕ} → r ≡ the-variants.To row above → Came b t p (file-walk a right t p) row above
-    file-to e = came-to tree (file-walk a right t p) p o (λ d w. walked-at t (by-modes a) p d (file-walked w .0)) e
+  module _ {b : List ℕ} (tree : Encodes b t) {r : Walked} (o : outcome r ≡ spot-from t p (judged-walk a tests t p)) where
+    pub judged-to : {row above : ℕ} → r ≡ the-variants.To row above → Came b t p (judged-walk a tests t p) row above
+    judged-to e = came-to tree (judged-walk a tests t p) p o (λ d w. walked-at t (by-modes a) p d (judged-walked w .0)) e
 
-    pub file-not : {k : Cause} → r ≡ the-variants.Refused k → file-walk a right t p ≡ refused k
-    file-not e = came-not tree (file-walk a right t p) p o e
+    pub judged-not : {k : Cause} → r ≡ the-variants.Refused k → judged-walk a tests t p ≡ refused k
+    judged-not e = came-not tree (judged-walk a tests t p) p o e
+
+-- that to a file leads to a file
+file-walked : (a : Account) (right : Right) (t : Place Node) (p : Path) {d : Place Node} → file-walk a right t p ≡ done d
+    → (walk (by-modes a) t p ≡ done d) × (is-directory (d .here .kind) ≡ false)
+unfolding file-tests
+file-walked a right t p {d} e =
+    let w = judged-walked a (file-tests a right) t p e in
+    let i = then-done (require (not (is-directory (d .here .kind))) WrongKind) (require (allows a right (d .here)) Access) (w .1) in
+    (w .0, not-true (is-directory (d .here .kind)) (required (not (is-directory (d .here .kind))) WrongKind (i .0)))
 
 -- ---- from a working file to its entry
 
@@ -170,7 +177,7 @@ module _ {b : List ℕ} {t : Place Node} {p : Path} {i : ℕ} {d : Place Node} (
       unfolding links-told link-rows
       entry-came {row} {above} e =
           let g = has-tag n in
-          let c = file-to account R t (entry-location (g .0 .path)) (a .tree) (o (entry-location (g .0 .path)) (tag-located (g .0) (g .1))) e in
+          let c = judged-to account (file-tests account R) t (entry-location (g .0 .path)) (a .tree) (o (entry-location (g .0 .path)) (tag-located (g .0) (g .1))) e in
           let l : Link = record { path = p; found = d; tag = g .0; filed = c .place } in
           let on = link-on-done account t p d (g .1) (c .walked) in
           let rows : links-told (To i row above) ≡ done (link-rows t l) = λ j. done (record { working = a .row j; entry = c .at .row j; above = c .over-at .row j }) in
@@ -180,7 +187,7 @@ module _ {b : List ℕ} {t : Place Node} {p : Path} {i : ℕ} {d : Place Node} (
       entry-refused {k} e =
           let g = has-tag n in
           let q = entry-location (g .0 .path) in
-          let on = link-on-refused account t p d (g .1) (file-not account R t q (a .tree) (o q (tag-located (g .0) (g .1))) e) in
+          let on = link-on-refused account t p d (g .1) (judged-not account (file-tests account R) t q (a .tree) (o q (tag-located (g .0) (g .1))) e) in
           sym (ap (λ (x : Result Link). x >>= λ y. done (link-rows t y)) on ∙ refused-bind k (λ y. done (link-rows t y)))
 
 -- ---- both

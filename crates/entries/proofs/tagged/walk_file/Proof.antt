@@ -3,7 +3,8 @@ use mathlib.Core.Path.{_∙_}
 use denote.Ref.{now}
 use Rattle.walks.specs.RowWalkLaws.{outcome-refused}
 use Rattle.walks.specs.WalkBytesLaws.{walk-to, walk-not}
-use Rattle.entries.specs.LinkLaws.{at-has-row, file-came, file-refused}
+use Rattle.entries.specs.LinkLaws.{at-has-row, judged-came, judged-refused}
+use Rattle.entries.specs.EntrySteps.{file-tests}
 use borrow.Author.Needs.{needs}
 use Rattle.entries.proofs.tagged.walk_file.Statement.{statement}
 use Rattle.entries.proofs.tagged.walk_file.Tie as tie
@@ -33,14 +34,14 @@ enum-known-cause c = search needs
 -- src/tagged.rt:38:1
 returns : tie.Need-returns
 returns c = let a = c .before .before .before .before .before .before .before .args in
-    λ t p tree e. file-came (a .account) (a .right) t p
+    λ t p tree e. judged-came (a .account) (file-tests (a .account) (a .right)) t p
     (walk-to tree (a .account) (now (a .path)) e (c .before .before .before .before .walk .ensures) (c .before .before .row .given .1)) (c .judge-file .ensures)
 
 -- src/tagged.rt:38:1
 returns-2 : tie.Need-returns-2
 returns-2 c = let a = c .before .before .before .before .before .before .args in
     let k = c .before .cause .given in
-    λ t p tree e. outcome-refused (k .0 .0) ∙ file-refused (a .account) (a .right) t p (walk-not tree (a .account) (now (a .path)) e (c .before .before .before .walk .ensures) (k .1))
+    λ t p tree e. outcome-refused (k .0 .0) ∙ judged-refused (a .account) (file-tests (a .account) (a .right)) t p (walk-not tree (a .account) (now (a .path)) e (c .before .before .before .walk .ensures) (k .1))
 
 pub walk-file-spec : {M : Type 1} → statement M
 walk-file-spec =

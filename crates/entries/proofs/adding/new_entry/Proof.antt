@@ -1,0 +1,19 @@
+-- `entries::adding::new_entry` meets its contract: owner and group are counted from 16 by role, and the mode goes by the kind.
+use Rattle.accounts.specs.Service.{service-uid, service-gid}
+use Rattle.entries.specs.AddSteps.{fresh-entry}
+use borrow.Author.Needs.{needs}
+use Rattle.entries.proofs.adding.new_entry.Statement.{statement}
+use Rattle.entries.proofs.adding.new_entry.Tie as tie
+
+add-number : tie.Need-add-number
+add-number c = search needs
+
+entry-mode-requires : tie.Need-entry-mode-requires
+entry-mode-requires c κs = search needs
+
+returns : tie.Need-returns
+unfolding fresh-entry service-uid service-gid
+returns c = rw (c .entry-mode .ensures)
+
+pub new-entry-spec : {M : Type 1} → statement M
+new-entry-spec = tie.close (tie.spec add-number entry-mode-requires returns)
