@@ -24,20 +24,20 @@ use Rattle.attributes.specs.declared.Deed.{Deed}
 use Rattle.attributes.specs.declared.Deed.the-variants.{Read, Write, Chmod, Chgrp, Chown}
 
 -- two tests, the first of which that fails tells its cause
-abbrev pub both : Bool → Cause → Bool → Cause → Result (Unit {0})
-both first cause second other = do
+abbrev pub two-tests : Bool → Cause → Bool → Cause → Result (Unit {0})
+two-tests first cause second other = do
   require first cause
   require second other
 
 -- root may give any group, an owner any of the own groups
-unfoldable pub gives : Account → Gid → Node → Bool
-gives a group n = is-root (a .uid) || (same-uid (a .uid) (n .owner) && member group (a .groups))
+unfoldable pub may-give : Account → Gid → Node → Bool
+may-give a group n = is-root (a .uid) || (same-uid (a .uid) (n .owner) && member group (a .groups))
 
 unfoldable pub tests : Account → Deed → Node → Result (Unit {0})
 tests a Read n = require (allows a R n) Access
-tests a Write n = both (not (is-directory (n .kind))) WrongKind (allows a W n) Access
-tests a (Chmod mode) n = both (is-directory (n .kind) || not (set-gid mode)) WrongKind (owns a n) Reserved
-tests a (Chgrp group) n = require (gives a group n) Reserved
+tests a Write n = two-tests (not (is-directory (n .kind))) WrongKind (allows a W n) Access
+tests a (Chmod mode) n = two-tests (is-directory (n .kind) || not (set-gid mode)) WrongKind (owns a n) Reserved
+tests a (Chgrp group) n = require (may-give a group n) Reserved
 tests a Chown n = require (is-root (a .uid)) Reserved
 
 -- the place at a path, if the account may come there and do the deed

@@ -53,7 +53,7 @@ use Rattle.shell.specs.CommandBytes.{Follows, Follows-silently}
 use Rattle.shell.specs.CommandBytesLaws.{refusal-follows, silence-follows, text-follows}
 use Rattle.attributes.specs.declared.Deed.{Deed}
 use Rattle.attributes.specs.declared.Deed.the-variants.{Read, Write, Chmod, Chgrp, Chown}
-use Rattle.attributes.specs.Checks.{both, gives, tests, may-do, passed, may-do-at, row-text}
+use Rattle.attributes.specs.Checks.{two-tests, may-give, tests, may-do, passed, may-do-at, row-text}
 
 -- ---- the steps by the checks
 
@@ -101,7 +101,7 @@ module _ (c : Caller) (n : ℕ) (t : Place Node) (p : Path) where
       ∙ after-tests (c .account) (Chmod mode) t p (λ d. done (changed t p (set-mode mode)))
 
   pub chgrp-checked : (group : Gid) → run-chgrp c n t p group ≡ (may-do (c .account) (Chgrp group) t p >>= λ d. done (changed t p (set-group group)))
-  unfolding run-chgrp tests gives
+  unfolding run-chgrp tests may-give
   chgrp-checked group = after-tests (c .account) (Chgrp group) t p (λ d. done (changed t p (set-group group)))
 
   pub chown-checked : (owner : Uid) → run-chown c n t p owner ≡ (may-do (c .account) Chown t p >>= λ d. done (changed t p (set-owner owner)))
@@ -118,11 +118,11 @@ pub fails : {x : Bool} (k : Cause) (row above : ℕ) → x ≡ false → outcome
 fails k row above e = rw (e, require-false k, refused-then k (done (spot row above))) (outcome-refused k)
 
 -- so does the first of two that fails
-pub fails-first : {x : Bool} (k : Cause) (y : Bool) (l : Cause) (row above : ℕ) → x ≡ false → outcome (Refused k) ≡ passed (both x k y l) row above
+pub fails-first : {x : Bool} (k : Cause) (y : Bool) (l : Cause) (row above : ℕ) → x ≡ false → outcome (Refused k) ≡ passed (two-tests x k y l) row above
 fails-first k y l row above e = fails k row above e ∙ rw (e, require-false k, refused-then k (require y l))
 
 -- and after one that passes the second
-pub passes-first : {x : Bool} (k : Cause) (y : Bool) (l : Cause) → x ≡ true → require y l ≡ both x k y l
+pub passes-first : {x : Bool} (k : Cause) (y : Bool) (l : Cause) → x ≡ true → require y l ≡ two-tests x k y l
 passes-first k y l e = rw (e, require-true k) (sym (done-then (require y l)))
 
 -- ---- the decision

@@ -8,7 +8,7 @@ ghost use Rattle.tree.specs.RowAt.{row-at};
 ghost use Rattle.tree.specs.TreeBytes.{Has-row, Whole, Path-text, Whichever};
 ghost use Rattle.walks.specs.RowWalk.{outcome};
 ghost use Rattle.attributes.specs.declared.Deed.the-variants.{Write, Chmod};
-ghost use Rattle.attributes.specs.Checks.{both, gives, tests, passed, may-do-at};
+ghost use Rattle.attributes.specs.Checks.{two-tests, may-give, tests, passed, may-do-at};
 use crate::Deed;
 use accounts::Account;
 use accounts::Gid;
@@ -41,7 +41,7 @@ fn judged_twice(
     row: usize,
     above: usize,
 ) -> Walked
-    ensures { λ r. ⌜ outcome r ≡ passed (both first cause second other) row above ⌝ }
+    ensures { λ r. ⌜ outcome r ≡ passed (two-tests first cause second other) row above ⌝ }
 {
     if !first {
         return Walked::Refused(cause);
@@ -72,7 +72,7 @@ fn fits_mode(kind: Kind, mode: u16) -> bool
 // Whether the account may give the place a group: root any, the owner one of the own.
 fn may_give(tree: &[u8], row: usize, account: Account, group: Gid) -> bool
     requires { ⌜ Has-row (now tree) row ⌝ }
-    ensures { λ r. ⌜ r ≡ gives account group (row-at (now (tree .entry)) row .here) ⌝ }
+    ensures { λ r. ⌜ r ≡ may-give account group (row-at (now (tree .entry)) row .here) ⌝ }
 {
     let uid = account.uid;
     let groups = account.groups;

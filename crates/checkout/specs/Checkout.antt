@@ -56,17 +56,13 @@ co-steps w t e d = do
 
 -- ---- texts
 
--- a text that reads as an entry path
-abbrev pub Entry-text : Text → Type 0
-Entry-text s = (e : Entry-path) × (entry-path s ≡ some e)
-
 -- for whatever tree the bytes are, and whatever entry path the text reads as
 abbrev pub Whichever-entry : List ℕ → Text → (Place Node → Entry-path → Type 0) → Type 0
 Whichever-entry b s P = (t : Place Node) (e : Entry-path) → Encodes b t → entry-path s ≡ some e → P t e
 
 -- and whatever path another text reads as
-abbrev pub Whichever-two : List ℕ → Text → Text → (Place Node → Entry-path → Path → Type 0) → Type 0
-Whichever-two b entry to P = Whichever-entry b entry (λ t e. (d : Path) → path to ≡ some d → P t e d)
+abbrev pub Whichever-copy : List ℕ → Text → Text → (Place Node → Entry-path → Path → Type 0) → Type 0
+Whichever-copy b entry to P = Whichever-entry b entry (λ t e. (d : Path) → path to ≡ some d → P t e d)
 
 -- ---- the copies
 

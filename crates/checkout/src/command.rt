@@ -1,11 +1,11 @@
 // The command `co` on a tree's bytes: the copies are made in a buffer, and then put in.
 ghost use mathlib.Core.Path.{_≡_};
 ghost use lib.ListN.{drop};
-ghost use Rattle.tree.specs.TreeBytes.{Whole, Wide, Insertable, Path-text};
+ghost use Rattle.tree.specs.TreeBytes.{Whole, Wide, Insertable, Path-text, Entry-path-text};
 ghost use Rattle.edits.specs.Changes.{rows-put};
 ghost use Rattle.shell.specs.CommandBytes.{Follows-silently};
 ghost use Rattle.checkout.specs.CheckedOut.{Checked-out};
-ghost use Rattle.checkout.specs.Checkout.{co-steps, Entry-text, Whichever-two};
+ghost use Rattle.checkout.specs.Checkout.{co-steps, Whichever-copy};
 use crate::Copies;
 use crate::prepare::prepare;
 use accounts::Account;
@@ -30,10 +30,10 @@ fn put_copies(tree: &mut [u8], at: usize, n: usize, out: &[u8])
 // The command by a buffer for the copies.
 fn co_by(tree: &mut [u8], who: Copier, entry: &[u8], to: &[u8], out: &mut [u8]) -> Answer
     requires { ⌜ Whole (now tree) ⌝ }
-    requires { ⌜ Entry-text (now entry) ⌝ }
+    requires { ⌜ Entry-path-text (now entry) ⌝ }
     requires { ⌜ Path-text (now to) ⌝ }
     requires { ⌜ Wide (now out) ⌝ }
-    ensures { λ r. ⌜ Whichever-two (now (tree .entry)) (now (entry .entry)) (now (to .entry))
+    ensures { λ r. ⌜ Whichever-copy (now (tree .entry)) (now (entry .entry)) (now (to .entry))
         (λ t e d. Follows-silently (co-steps who t e d) (now (tree .entry)) r (now (tree .exit))) ⌝ }
 {
     match prepare(tree, who, entry, to, out) {
@@ -48,7 +48,7 @@ fn co_by(tree: &mut [u8], who: Copier, entry: &[u8], to: &[u8], out: &mut [u8]) 
 // `co` of a caller whose session's account is `account`: copies the entry, with all that may be read below it, to the path `to`.
 pub fn co(tree: &mut [u8], caller: Caller, account: Account, entry: &[u8], to: &[u8]) -> Answer
     requires { ⌜ Whole (now tree) ⌝ }
-    requires { ⌜ Entry-text (now entry) ⌝ }
+    requires { ⌜ Entry-path-text (now entry) ⌝ }
     requires { ⌜ Path-text (now to) ⌝ }
     ensures { λ r. ⌜ Checked-out (now (tree .entry)) caller account (now (entry .entry)) (now (to .entry)) r (now (tree .exit)) ⌝ }
 {

@@ -1,8 +1,8 @@
 // The decision of `co`: the room for the copies, the entry, and the copies made in a buffer and judged there. The tree stays as it is.
 ghost use mathlib.Core.Path.{_≡_};
-ghost use Rattle.tree.specs.TreeBytes.{Whole, Wide, Path-text};
+ghost use Rattle.tree.specs.TreeBytes.{Whole, Wide, Path-text, Entry-path-text};
 ghost use Rattle.walks.specs.RowWalk.{outcome};
-ghost use Rattle.checkout.specs.Checkout.{entry-spot, put-copies, co-steps, Entry-text, Whichever-entry, Whichever-two, Checkout, checkout-copies, Prepared};
+ghost use Rattle.checkout.specs.Checkout.{entry-spot, put-copies, co-steps, Whichever-entry, Whichever-copy, Checkout, checkout-copies, Prepared};
 use crate::Copies;
 use accounts::Account;
 use copying::Copier;
@@ -27,7 +27,7 @@ const MOST_NODES: usize = 256;
 // The account's walk to an entry, which it must be able to read.
 fn readable_entry(tree: &[u8], account: Account, entry: &[u8]) -> Walked
     requires { ⌜ Whole (now tree) ⌝ }
-    requires { ⌜ Entry-text (now entry) ⌝ }
+    requires { ⌜ Entry-path-text (now entry) ⌝ }
     ensures { λ r. ⌜ Whichever-entry (now (tree .entry)) (now (entry .entry)) (λ t e. outcome r ≡ entry-spot account t e) ⌝ }
 {
     match walk(tree, account, entry) {
@@ -73,10 +73,10 @@ fn copies_for(
 // The person's part, then the account's, then the copies.
 pub fn prepare(tree: &[u8], who: Copier, entry: &[u8], to: &[u8], out: &mut [u8]) -> Copies
     requires { ⌜ Whole (now tree) ⌝ }
-    requires { ⌜ Entry-text (now entry) ⌝ }
+    requires { ⌜ Entry-path-text (now entry) ⌝ }
     requires { ⌜ Path-text (now to) ⌝ }
     requires { ⌜ Wide (now out) ⌝ }
-    ensures { λ r. ⌜ Whichever-two (now (tree .entry)) (now (entry .entry)) (now (to .entry))
+    ensures { λ r. ⌜ Whichever-copy (now (tree .entry)) (now (entry .entry)) (now (to .entry))
         (λ t e d. Prepared (co-steps who t e d) (now (tree .entry)) (now (out .exit)) r) ⌝ }
 {
     let caller = who.caller;

@@ -132,12 +132,8 @@ unfoldable pub link-rows : Place Node → Link → Link-rows
 link-rows t l = let p = entry-location (l .tag .path) in three-rows (index-of t (l .path)) (index-of t p) (index-of t (parent p))
 
 -- the rows of what steps come to
-abbrev pub rows-from : Place Node → Result Link → Result Link-rows
-rows-from t steps = steps >>= λ l. done (link-rows t l)
-
--- and of the place at a path that steps come to
-abbrev pub spot-from : Place Node → Path → Result (Place Node) → Result Spot
-spot-from t p steps = steps >>= λ d. done (spot-of t p)
+abbrev pub link-rows-from : Place Node → Result Link → Result Link-rows
+link-rows-from t steps = steps >>= λ l. done (link-rows t l)
 
 -- what is answered where tests pass
 abbrev pub passing : {A : Type 0} → Result (Unit {0}) → A → Result A
@@ -159,14 +155,6 @@ pub record Linked (b : List ℕ) (t : Place Node) (l : Link) (working entry : �
 -- the rows are linked, in whatever tree
 abbrev pub Some-link : List ℕ → ℕ → ℕ → Type 0
 Some-link b working entry = (t : Place Node) × (l : Link) × Linked b t l working entry
-
--- the row is that of some place
-abbrev pub Some-place : List ℕ → ℕ → Type 0
-Some-place b i = (t : Place Node) × (p : Path) × (d : Place Node) × At b t p i d
-
--- a text that reads as an entry path
-abbrev pub Entry-path-text : Text → Type 0
-Entry-path-text s = (e : Entry-path) × (entry-path s ≡ some e)
 
 -- ---- promises
 

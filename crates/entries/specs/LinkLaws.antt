@@ -50,13 +50,13 @@ use Rattle.copying.specs.CopyRowLaws.{row-held}
 use Rattle.walks.specs.declared.Walked.{Walked}
 use Rattle.walks.specs.declared.Walked.the-variants
 use Rattle.walks.specs.RowWalk.{Spot, spot, outcome}
-use Rattle.walks.specs.WalkBytes.{spot-of, Came}
+use Rattle.walks.specs.WalkBytes.{spot-of, Came, spot-from}
 use Rattle.walks.specs.WalkBytesLaws.{by-result, came-to, came-not}
 use Rattle.machine.specs.Machine.{tagged}
 use Rattle.machine.specs.StoreMachine.{next-node}
 use Rattle.entries.specs.declared.Links.{Links}
 use Rattle.entries.specs.declared.Links.the-variants.{To, Refused}
-use Rattle.entries.specs.EntrySteps.{file-tests, judged-walk, file-walk, Link, link-on, link, commit-tests, commit-link, after-commit, after-up, Link-rows, link-rows, three-rows, rows-from, spot-from, passing, links-told, Linked}
+use Rattle.entries.specs.EntrySteps.{file-tests, judged-walk, file-walk, Link, link-on, link, commit-tests, commit-link, after-commit, after-up, Link-rows, link-rows, three-rows, link-rows-from, passing, links-told, Linked}
 
 -- ---- steps and tests
 
@@ -165,15 +165,15 @@ module _ {b : List ℕ} {t : Place Node} {p : Path} {i : ℕ} {d : Place Node} (
 
   module _ (account : Account) where
     -- nothing at the row is no tag
-    pub entry-untagged : length (tag-text-at b i) ≡ 0 → refused Untagged ≡ rows-from t (link-on account t p d)
+    pub entry-untagged : length (tag-text-at b i) ≡ 0 → refused Untagged ≡ link-rows-from t (link-on account t p d)
     entry-untagged z =
         let none-there : d .here .tag ≡ none = by-option (d .here .tag) (λ e. e) (λ g e. absurd (tag-written a g e (no-bytes (tag-text-at b i) z))) in
-        sym (ap (rows-from t) (link-on-missing account t p d none-there) ∙ refused-bind Untagged (λ (l : Link). done (link-rows t l)))
+        sym (ap (link-rows-from t) (link-on-missing account t p d none-there) ∙ refused-bind Untagged (λ (l : Link). done (link-rows t l)))
 
     module _ (n : length (tag-text-at b i) ≡ 0 → ⊥) {r : Walked}
         (o : (q : Path) → path (tag-text-at b i) ≡ some q → outcome r ≡ spot-from t q (file-walk account R t q)) where
       -- the entry's row
-      pub entry-came : {row above : ℕ} → r ≡ the-variants.To row above → links-told (To i row above) ≡ rows-from t (link-on account t p d)
+      pub entry-came : {row above : ℕ} → r ≡ the-variants.To row above → links-told (To i row above) ≡ link-rows-from t (link-on account t p d)
       unfolding links-told link-rows
       entry-came {row} {above} e =
           let g = has-tag n in
@@ -183,7 +183,7 @@ module _ {b : List ℕ} {t : Place Node} {p : Path} {i : ℕ} {d : Place Node} (
           let rows : links-told (To i row above) ≡ done (link-rows t l) = λ j. done (record { working = a .row j; entry = c .at .row j; above = c .over-at .row j }) in
           rows ∙ sym (ap (λ (x : Result Link). x >>= λ y. done (link-rows t y)) on ∙ done-bind l (λ y. done (link-rows t y)))
 
-      pub entry-refused : {k : Cause} → r ≡ the-variants.Refused k → refused k ≡ rows-from t (link-on account t p d)
+      pub entry-refused : {k : Cause} → r ≡ the-variants.Refused k → refused k ≡ link-rows-from t (link-on account t p d)
       entry-refused {k} e =
           let g = has-tag n in
           let q = entry-location (g .0 .path) in
@@ -195,16 +195,16 @@ module _ {b : List ℕ} {t : Place Node} {p : Path} {i : ℕ} {d : Place Node} (
 module _ (person account : Account) (right : Right) (t : Place Node) (w : Path) where
   -- from the working file's row on
   pub link-came : {b : List ℕ} {row above : ℕ} {x : Result Link-rows} (c : Came b t w (file-walk person right t w) row above)
-      → x ≡ rows-from t (link-on account t w (c .place)) → x ≡ rows-from t (link person right account t w)
+      → x ≡ link-rows-from t (link-on account t w (c .place)) → x ≡ link-rows-from t (link person right account t w)
   unfolding link
   link-came c o = o ∙ rw (c .walked, done-bind (c .place) (λ d. link-on account t w d))
 
-  pub link-refused : {k : Cause} → file-walk person right t w ≡ refused k → refused k ≡ rows-from t (link person right account t w)
+  pub link-refused : {k : Cause} → file-walk person right t w ≡ refused k → refused k ≡ link-rows-from t (link person right account t w)
   unfolding link
   link-refused {k} e = rw (e, refused-bind k (λ d. link-on account t w d), refused-bind k (λ l. done (link-rows t l)))
 
 -- what an answer says of the steps to a link
-module _ (t : Place Node) (steps : Result Link) {r : Links} (o : links-told r ≡ rows-from t steps) where
+module _ (t : Place Node) (steps : Result Link) {r : Links} (o : links-told r ≡ link-rows-from t steps) where
   pub links-not : {k : Cause} → r ≡ Refused k → steps ≡ refused k
   unfolding links-told
   links-not e = refused-first steps (link-rows t) (sym o ∙ ap links-told e)
@@ -277,7 +277,7 @@ module _ (person account : Account) (t : Place Node) (w : Path) where
   pub commit-came : {b : List ℕ} {l : Link} {i k a : ℕ} {x : Result Link-rows} → Encodes b t → link person R account t w ≡ done l
       → link-rows t l ≡ three-rows i k a
       → x ≡ passing (commit-tests account (row-at b a .here) (tag-number-at b i) (row-at b k .here .revision)) (three-rows i k a)
-      → x ≡ rows-from t (commit-link person account t w)
+      → x ≡ link-rows-from t (commit-link person account t w)
   unfolding commit-link
   commit-came {b} {l} {i} {k} {a} tree e rows o =
       let f = link-facts person account R t w e in
@@ -289,7 +289,7 @@ module _ (person account : Account) (t : Place Node) (w : Path) where
       o ∙ rw (at-here (above .2), at-here (x .original), tag-reads (x .file) (l .tag) (x .tagged) .1)
       (ap (λ (y : Link-rows). tests >> done y) (sym rows) ∙ tests-then tests l (link-rows t) ∙ ap (λ (y : Result Link). y >>= λ z. done (link-rows t z)) (sym goes))
 
-  pub commit-refused : {k : Cause} → link person R account t w ≡ refused k → refused k ≡ rows-from t (commit-link person account t w)
+  pub commit-refused : {k : Cause} → link person R account t w ≡ refused k → refused k ≡ link-rows-from t (commit-link person account t w)
   unfolding commit-link
   commit-refused {k} e = rw (e, refused-bind) (sym (refused-bind k (λ (x : Link). done (link-rows t x))))
 

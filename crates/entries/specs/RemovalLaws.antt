@@ -32,9 +32,9 @@ use Rattle.walks.specs.declared.Walked.the-variants.{To, Refused}
 use Rattle.walks.specs.RowBelow.{has-children-in}
 use Rattle.walks.specs.RowBelowLaws.{at-has-children}
 use Rattle.walks.specs.RowWalk.{Spot, spot, outcome}
-use Rattle.walks.specs.WalkBytes.{spot-of, Came}
+use Rattle.walks.specs.WalkBytes.{spot-of, Came, spot-from}
 use Rattle.walks.specs.WalkBytesLaws.{came-to, came-not}
-use Rattle.entries.specs.EntrySteps.{del-tests, del-walk, after-del, spot-from, passing}
+use Rattle.entries.specs.EntrySteps.{del-tests, del-walk, after-del, passing}
 use Rattle.entries.specs.LinkLaws.{tests-then}
 
 not-not : (x : Bool) → not (not x) ≡ x

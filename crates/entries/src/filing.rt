@@ -11,7 +11,7 @@ ghost use Rattle.tree.specs.WellFormed.{last-revision};
 ghost use Rattle.tree.specs.TreeBytes.{Has-row, Whole, Path-text, Whichever};
 ghost use Rattle.machine.specs.Machine.{run-commit, run-up};
 ghost use Rattle.machine.specs.StoreMachine.{store};
-ghost use Rattle.entries.specs.EntrySteps.{commit-tests, commit-link, after-commit, after-up, three-rows, rows-from, passing, links-told, Link, Linked, Some-link, In-session};
+ghost use Rattle.entries.specs.EntrySteps.{commit-tests, commit-link, after-commit, after-up, three-rows, link-rows-from, passing, links-told, Link, Linked, Some-link, In-session};
 use crate::Links;
 use crate::tagged::linked_rows;
 use accounts::Account;
@@ -58,7 +58,7 @@ fn judge_commit(tree: &[u8], account: Account, working: usize, entry: usize, abo
 fn commit_rows(tree: &[u8], person: Account, account: Account, working: &[u8]) -> Links
     requires { ⌜ Whole (now tree) ⌝ }
     requires { ⌜ Path-text (now working) ⌝ }
-    ensures { λ r. ⌜ Whichever (now (tree .entry)) (now (working .entry)) (λ t w. links-told r ≡ rows-from t (commit-link person account t w)) ⌝ }
+    ensures { λ r. ⌜ Whichever (now (tree .entry)) (now (working .entry)) (λ t w. links-told r ≡ link-rows-from t (commit-link person account t w)) ⌝ }
 {
     match linked_rows(tree, person, Right::R, account, working) {
         Links::To {

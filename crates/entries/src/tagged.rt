@@ -4,9 +4,10 @@ ghost use Rattle.syntax.specs.Path.{Path};
 ghost use Rattle.tree.specs.Forest.{Place};
 ghost use Rattle.tree.specs.Node.{Node};
 ghost use Rattle.tree.specs.RowAt.{row-at};
-ghost use Rattle.tree.specs.TreeBytes.{Has-row, Whole, Path-text, Whichever, At};
+ghost use Rattle.tree.specs.TreeBytes.{Has-row, Whole, Path-text, Whichever, At, Some-place};
 ghost use Rattle.walks.specs.RowWalk.{spot, outcome};
-ghost use Rattle.entries.specs.EntrySteps.{file-tests, file-walk, link-on, link, rows-from, spot-from, passing, links-told, Some-place};
+ghost use Rattle.walks.specs.WalkBytes.{spot-from};
+ghost use Rattle.entries.specs.EntrySteps.{file-tests, file-walk, link-on, link, link-rows-from, passing, links-told};
 use crate::Links;
 use accounts::Account;
 use accounts::Right;
@@ -49,7 +50,7 @@ fn walk_file(tree: &[u8], account: Account, right: Right, path: &[u8]) -> Walked
 // From a working file to the entry that its tag leads to.
 fn entry_rows(tree: &[u8], account: Account, working: usize) -> Links
     requires { ⌜ Some-place (now tree) working ⌝ }
-    ensures { λ r. ⌜ ((t : Place Node) (p : Path) (d : Place Node) → At (now (tree .entry)) t p working d → links-told r ≡ rows-from t (link-on account t p d)) ⌝ }
+    ensures { λ r. ⌜ ((t : Place Node) (p : Path) (d : Place Node) → At (now (tree .entry)) t p working d → links-told r ≡ link-rows-from t (link-on account t p d)) ⌝ }
 {
     let path = tag_path_at(tree, working);
     if path.len() == 0 {
@@ -75,7 +76,7 @@ pub fn linked_rows(
 ) -> Links
     requires { ⌜ Whole (now tree) ⌝ }
     requires { ⌜ Path-text (now working) ⌝ }
-    ensures { λ r. ⌜ Whichever (now (tree .entry)) (now (working .entry)) (λ t w. links-told r ≡ rows-from t (link person right account t w)) ⌝ }
+    ensures { λ r. ⌜ Whichever (now (tree .entry)) (now (working .entry)) (λ t w. links-told r ≡ link-rows-from t (link person right account t w)) ⌝ }
 {
     match walk_file(tree, person, right, working) {
         Walked::To { row, above: _ } => entry_rows(tree, account, row),

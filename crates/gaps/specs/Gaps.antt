@@ -38,10 +38,6 @@ unfoldable pub gap-told : Room → Result Gap
 gap-told (the-variants.At row at depth) = done (gap row at depth)
 gap-told (the-variants.Refused cause) = refused cause
 
--- a row of some place of a tree
-abbrev pub Some-place : List ℕ → ℕ → Type 0
-Some-place b i = (t : Place Node) × (q : Path) × (d : Place Node) × At b t q i d
-
 -- the checks in the directory d at the path q: 6 if the name is used, w 5
 unfoldable pub gap-below : Account → Place Node → Path → Name → Place Node → Result Gap
 gap-below a t q n d = do

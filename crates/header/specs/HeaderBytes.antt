@@ -20,7 +20,7 @@ use Rattle.tree.specs.declared.Cause.the-variants.{UnknownCaller}
 use Rattle.tree.specs.Result.{Result, refused, done, _>>=_, Outcome}
 use Rattle.shell.specs.declared.Answer.{Answer}
 use Rattle.shell.specs.Replies.{reply, answer-of, written}
-use Rattle.store.specs.HeaderLayout.{pairs-offset, pair-width, grants-offset, grant-width, password-offset, password-width, spare-offset, spare-width}
+use Rattle.store.specs.HeaderLayout.{pairs-offset, pair-width, grants-offset, grant-width, password-offset, password-width, spare-offset, spare-width, pair-start, grant-start}
 use Rattle.store.specs.State.{Sessions}
 use Rattle.store.specs.StoreBytes.{header-bytes}
 use Rattle.store.specs.Callers.{granted}
@@ -63,13 +63,6 @@ Bounded-session s = (o : Option Bounded-role) × (s ≡ session-held o)
 -- the bytes before and after an account's session is replaced
 abbrev pub Session-put : List ℕ → Uid → Session → List ℕ → Type 0
 Session-put b uid session b′ = Whose b (λ u z. (o : Option Bounded-role) → session ≡ session-held o → b′ ≡ header-bytes u (set z (uid .0) o))
-
--- where the pair and the grant of an index begin
-abbrev pub pair-start : ℕ → ℕ
-pair-start i = pairs-offset + 1 + pair-width * i
-
-abbrev pub grant-start : ℕ → ℕ
-grant-start i = grants-offset + 1 + grant-width * i
 
 -- the pair of an index
 abbrev pub pair-at : List ℕ → ℕ → Pair

@@ -18,11 +18,11 @@ use Rattle.accounts.specs.declared.Pair.{Pair}
 use Rattle.accounts.specs.Dominance.{Bounded-role}
 use Rattle.setup.specs.Setup.{Grant, Setup, accounts, person}
 use Rattle.setup.specs.SetupLaws.{apart}
-use Rattle.store.specs.HeaderLayout.{slot-width, sessions-offset, pairs-offset, pair-width, grants-offset, grant-width}
+use Rattle.store.specs.HeaderLayout.{slot-width, sessions-offset, pairs-offset, pair-width, grants-offset, grant-width, pair-start, grant-start}
 use Rattle.store.specs.State.{Sessions}
 use Rattle.store.specs.StoreBytes.{header-width, slot-of, session-byte, pair-of, grant-of, header-bytes, setup-of}
 use Rattle.store.specs.HeaderLaws.{length-header, setup-of-header, session-in-header, header-with-session}
-use Rattle.header.specs.HeaderBytes.{Wide-header, Heads, Headed, pair-start, grant-start, pair-at, grant-in}
+use Rattle.header.specs.HeaderBytes.{Wide-header, Heads, Headed, pair-at, grant-in}
 
 -- ---- the value of n bytes from o on
 

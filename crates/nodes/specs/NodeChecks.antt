@@ -29,10 +29,6 @@ Whichever-two b s u P = (t : Place Node) (p q : Path) → Encodes b t → path s
 abbrev pub spot-after : ℕ → ℕ → Result (Place Node) → Result Spot
 spot-after row above w = w >>= λ d. done (spot row above)
 
--- those of the place at a path and of the directory above it
-abbrev pub spot-from : Place Node → Path → Result (Place Node) → Result Spot
-spot-from t p w = w >>= λ d. done (spot-of t p)
-
 -- an account's checks in the tree t
 module _ (a : Account) (t : Place Node) where
   -- `create`, `mkdir`: the directory that the node is made in

@@ -36,14 +36,14 @@ use Rattle.walks.specs.declared.Walked.{Walked}
 use Rattle.walks.specs.declared.Walked.the-variants.{To, Refused}
 use Rattle.walks.specs.RowWalk.{Spot, outcome}
 use Rattle.walks.specs.RowWalkLaws.{outcome-at, outcome-refused}
-use Rattle.walks.specs.WalkBytes.{spot-of, Came}
+use Rattle.walks.specs.WalkBytes.{spot-of, Came, spot-from}
 use Rattle.walks.specs.WalkBytesLaws.{came-to}
 use Rattle.gaps.specs.declared.Room.{Room}
 use Rattle.gaps.specs.declared.Room.the-variants
 use Rattle.gaps.specs.Gaps.{gap-of, gap-from, gap-told}
 use Rattle.gaps.specs.GapsLaws.{told-refused, told-gap, Standing, room-to}
 use Rattle.shell.specs.Steps.{fit, run-create, run-rm, run-mv}
-use Rattle.nodes.specs.NodeChecks.{spot-after, spot-from, may-create, may-remove, may-move, entry-to, removal}
+use Rattle.nodes.specs.NodeChecks.{spot-after, may-create, may-remove, may-move, entry-to, removal}
 
 -- ---- the steps are the checks, and then the change
 

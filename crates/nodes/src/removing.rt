@@ -6,7 +6,8 @@ ghost use Rattle.tree.specs.TreeBytes.{Has-row, Used, Whole, Path-text, Whichev
 ghost use Rattle.walks.specs.RowWalk.{outcome};
 ghost use Rattle.shell.specs.Steps.{run-rm};
 ghost use Rattle.shell.specs.CommandBytes.{Follows-silently};
-ghost use Rattle.nodes.specs.NodeChecks.{spot-from, may-remove, Judged-removal};
+ghost use Rattle.walks.specs.WalkBytes.{spot-from};
+ghost use Rattle.nodes.specs.NodeChecks.{may-remove, Judged-removal};
 use crate::paths::is_reserved;
 use accounts::Account;
 use accounts::Caller;

@@ -7,6 +7,7 @@ pub use input::next_line;
 pub use input::setup_end;
 pub use replies::is_done;
 pub use replies::is_missing;
+pub use replies::number;
 pub use replies::write_listed;
 pub use replies::write_reply;
 

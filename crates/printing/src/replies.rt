@@ -19,7 +19,7 @@ use syntax::write_decimal;
 use tree::Cause;
 
 // Document 01's number of a cause.
-fn number(cause: Cause) -> u8
+pub fn number(cause: Cause) -> u8
     ensures { λ r. ⌜ r ≡ number-of cause ⌝ }
 {
     match cause {

@@ -7,7 +7,7 @@ use lib.Dec.{eqb, leb, ltb}
 use lib.ListN.{length, getD}
 use Rattle.buffers.specs.Fields.{text-at, zeros-at, is-filled}
 use Rattle.syntax.specs.Path.{is-name}
-use Rattle.store.specs.HeaderLayout.{slot-width, sessions-offset, pairs-offset, pair-width, grants-offset, grant-width, password-offset, password-width, spare-offset, spare-width}
+use Rattle.store.specs.HeaderLayout.{slot-width, sessions-offset, pairs-offset, pair-width, grants-offset, grant-width, password-offset, password-width, spare-offset, spare-width, pair-start, grant-start}
 
 -- as many bytes as a header has
 abbrev pub Header-wide : List ℕ → Type 0
@@ -21,12 +21,6 @@ passes-from test i (suc m) = test i && passes-from test (suc i) m
 -- where the slot, the pair and the grant of an index stand
 abbrev pub slot-start : ℕ → ℕ
 slot-start k = slot-width * k
-
-abbrev pub pair-start : ℕ → ℕ
-pair-start k = pairs-offset + 1 + pair-width * k
-
-abbrev pub grant-start : ℕ → ℕ
-grant-start k = grants-offset + 1 + grant-width * k
 
 -- a slot is zeros, or a person's primary group and further groups in range
 unfoldable pub is-slot-at : List ℕ → ℕ → Bool

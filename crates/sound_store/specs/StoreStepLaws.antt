@@ -14,7 +14,8 @@ use Rattle.soundness.specs.RowTestLaws.{length-text-at}
 use Rattle.tree.specs.Encoding.{decode-tree}
 use Rattle.store.specs.StoreBytes.{header-width, store-width, is-header, decode}
 use Rattle.store.specs.DecodeLaws.{decode-in-parts}
-use Rattle.sound_store.specs.HeaderTests.{Header-wide, passes-from, slot-start, pair-start, grant-start, is-slot-at, has-slots, is-session-at, is-pair-at, has-pairs, named-at, is-password-at, is-grant-at, has-grants, has-sessions, header-test}
+use Rattle.store.specs.HeaderLayout.{pair-start, grant-start}
+use Rattle.sound_store.specs.HeaderTests.{Header-wide, passes-from, slot-start, is-slot-at, has-slots, is-session-at, is-pair-at, has-pairs, named-at, is-password-at, is-grant-at, has-grants, has-sessions, header-test}
 
 module _ (b : List ℕ) (k : ℕ) where
   -- a slot that is no person's

@@ -1,5 +1,5 @@
 -- Where the parts of a store stand, and how wide they are; src/layout.rt has the same numbers for the code.
-use Prim.Native.Nat.{ℕ}
+use Prim.Native.Nat.{ℕ, _+_, _*_}
 
 -- an account's slot: its primary group, its further groups in two bytes
 abbrev pub slot-width : ℕ
@@ -35,3 +35,10 @@ spare-offset = 442
 
 abbrev pub spare-width : ℕ
 spare-width = 5700
+
+-- where the pair and the grant of an index begin
+abbrev pub pair-start : ℕ → ℕ
+pair-start i = pairs-offset + 1 + pair-width * i
+
+abbrev pub grant-start : ℕ → ℕ
+grant-start i = grants-offset + 1 + grant-width * i

@@ -7,7 +7,7 @@ use mathlib.Core.Bool.{true}
 use Prim.Native.Nat.{ℕ, _+_, _≤_, _<_}
 use lib.ListN.{length}
 use Rattle.buffers.specs.Text.{Text}
-use Rattle.syntax.specs.Path.{Path, path}
+use Rattle.syntax.specs.Path.{Path, Entry-path, path, entry-path}
 use Rattle.tree.specs.Layout.{most-rows, tree-width}
 use Rattle.tree.specs.Forest.{Place, place-at}
 use Rattle.tree.specs.Node.{Node}
@@ -71,3 +71,11 @@ pub record At (b : List ℕ) (t : Place Node) (p : Path) (i : ℕ) (d : Place No
   pub tree : Encodes b t
   pub there : place-at t p ≡ some d
   pub row : i ≡ index-of t p
+
+-- a row of some place of a tree
+abbrev pub Some-place : List ℕ → ℕ → Type 0
+Some-place b i = (t : Place Node) × (q : Path) × (d : Place Node) × At b t q i d
+
+-- a text that reads as an entry path
+abbrev pub Entry-path-text : Text → Type 0
+Entry-path-text s = (e : Entry-path) × (entry-path s ≡ some e)

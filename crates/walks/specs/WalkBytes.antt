@@ -3,7 +3,7 @@ use mathlib.Core.Path.{_≡_}
 use mathlib.Core.List.{List}
 use Prim.Native.Nat.{ℕ}
 use Rattle.syntax.specs.Path.{Path, parent}
-use Rattle.tree.specs.Result.{Result, done}
+use Rattle.tree.specs.Result.{Result, done, _>>=_}
 use Rattle.tree.specs.Forest.{Place}
 use Rattle.tree.specs.Node.{Node}
 use Rattle.tree.specs.RowPlaces.{index-of}
@@ -13,6 +13,10 @@ use Rattle.walks.specs.RowWalk.{Spot, spot}
 -- the rows of a place and of the directory above it
 unfoldable pub spot-of : {A : Type 0} → Place A → Path → Spot
 spot-of t p = spot (index-of t p) (index-of t (parent p))
+
+-- the rows of the place at a path that steps come to
+abbrev pub spot-from : Place Node → Path → Result (Place Node) → Result Spot
+spot-from t p steps = steps >>= λ d. done (spot-of t p)
 
 -- the walk w in the tree t led to the place at p, which has the row, and the directory over it the row above
 pub record Came (b : List ℕ) (t : Place Node) (p : Path) (w : Result (Place Node)) (row above : ℕ) : Type 0 where

@@ -1,7 +1,7 @@
 -- `attributes::checks::may_give` meets its contract: root, then the owner, then the group.
 use mathlib.Core.Path.{sym, _∙_}
 use Rattle.buffers.specs.Cases.{answers-false, answers-true}
-use Rattle.attributes.specs.Checks.{gives}
+use Rattle.attributes.specs.Checks.{may-give}
 use borrow.Author.Needs.{needs}
 use Rattle.attributes.proofs.checks.may_give.Statement.{statement}
 use Rattle.attributes.proofs.checks.may_give.Tie as tie
@@ -10,7 +10,7 @@ is-root-requires : tie.Need-is-root-requires
 is-root-requires c κs = search needs
 
 returns : tie.Need-returns
-unfolding gives
+unfolding may-give
 returns c = rw (sym (c .before .is-root .ensures) ∙ c .if1 .taken)
 
 owner-at-requires : tie.Need-owner-at-requires
@@ -20,7 +20,7 @@ is-requires : tie.Need-is-requires
 is-requires c κs = search needs
 
 returns-2 : tie.Need-returns-2
-unfolding gives
+unfolding may-give
 returns-2 c =
     let not-root = sym (c .before .before .before .before .is-root .ensures) ∙ c .before .before .before .if1 .left in
     rw (not-root, ← c .before .before .owner-at .ensures, answers-false (c .before .is .ensures) (c .if2 .taken))
@@ -29,7 +29,7 @@ has-requires : tie.Need-has-requires
 has-requires c κs = search needs
 
 returns-3 : tie.Need-returns-3
-unfolding gives
+unfolding may-give
 returns-3 c =
     let not-root = sym (c .before .before .before .before .before .is-root .ensures) ∙ c .before .before .before .before .if1 .left in
     rw (not-root, ← c .before .before .before .owner-at .ensures, answers-true (c .before .before .is .ensures) (c .before .if2 .left)) (c .has .ensures)
