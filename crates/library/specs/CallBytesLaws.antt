@@ -1,7 +1,7 @@
 -- What the calls are where the code answers: at each refusal before a command, and where a command or a listing was carried out.
 --
 -- In order: setup (unset-elsewhere, unset-wrong, set-done); before a command or a listing (short-call, unsound-call, sound-call); a command
--- carried out on the tree (tree-called) and a line of the listing written (line-called).
+-- carried out (carried-call) and a line of the listing written (line-called).
 use mathlib.Core.Path.{_≡_, refl, sym, _∙_, ap}
 use mathlib.Core.List.{List, _++_}
 use mathlib.Core.Option.{none, some}
@@ -20,25 +20,21 @@ use Rattle.tree.specs.declared.Cause.{Cause}
 use Rattle.tree.specs.declared.Cause.the-variants.{Missing, Unsound, ShortAnswer}
 use Rattle.tree.specs.Result.{Result, refused, done, _>>=_, _>>_, require, present, Outcome}
 use Rattle.tree.specs.ResultLaws.{present-of, present-none, done-bind, refused-bind, done-then, refused-then, require-true, require-false}
-use Rattle.tree.specs.Forest.{Place}
-use Rattle.tree.specs.Node.{Node}
-use Rattle.tree.specs.Encoding.{encode-tree}
 use Rattle.tree.specs.TreeBytes.{Encodes}
 use Rattle.shell.specs.declared.Answer.{Answer}
 use Rattle.shell.specs.declared.Answer.the-variants.{Done, Refused, WrongLine}
 use Rattle.shell.specs.declared.Answer.the-variants
 use Rattle.shell.specs.Replies.{reply, after, answer-of, written}
-use Rattle.shell.specs.CommandBytes.{tree-after, Follows}
-use Rattle.store.specs.State.{Sessions, Store, State, state-of}
+use Rattle.store.specs.State.{Store, State, state-of}
 use Rattle.store.specs.Initial.{initial-store}
-use Rattle.store.specs.StoreBytes.{header-width, store-width, header-bytes, encode, decode}
+use Rattle.store.specs.StoreBytes.{header-width, store-width, encode, decode}
 use Rattle.store.specs.StoreBytesLaws.{decode-length}
 use Rattle.store.specs.DecodeLaws.{tree-read}
-use Rattle.machine.specs.Acting.{on-tree-steps}
 use Rattle.machine.specs.Runs.{least-room}
 use Rattle.machine.specs.RunsLaws.{least-room-is}
 use Rattle.listing.specs.Listing.{listing}
 use Rattle.calls.specs.Calls.{set-up, setup-call, Called, called, encoded, on-state, listing-on, listing-result, listing-call}
+use Rattle.runner.specs.Runner.{store-after, Carries}
 use Rattle.library.specs.CallBytes.{set-up-as, called-as}
 
 -- ---- setup
@@ -86,15 +82,12 @@ module _ (b a : List ℕ) where
 
 -- ---- carried out
 
-module _ (u : Setup) (z : Sessions) (H b a : List ℕ) (heads : H ≡ header-bytes u z) where
-  -- a command that leaves the sessions and follows its steps on the tree
-  pub tree-called : (steps : Result (Outcome Store)) → ((o : Outcome Store) → steps ≡ done o → o .state .sessions ≡ z) → (r : Answer) (b′ a′ : List ℕ)
-      → Follows (on-tree-steps steps) b a r b′ a′ → called-as r (H ++ b′) a′ ≡ called (H ++ b) a (steps >>= λ o. done (encoded u o))
-  unfolding called reply after answer-of written on-tree-steps tree-after encoded encode _>>=_
-  tree-called (refused k) keeps r b′ a′ f = λ i. called-as (f .tells i) (H ++ f .tree i) (f .text i)
-  tree-called (done o) keeps r b′ a′ f =
-      let q : H ≡ header-bytes u (o .state .sessions) = heads ∙ ap (header-bytes u) (sym (keeps o refl)) in
-      λ i. called-as (f .tells i) (q i ++ f .tree i) (f .text i)
+-- a command that was carried out on the store
+pub carried-call : (u : Setup) (b a : List ℕ) (steps : Result (Outcome Store)) {r : Answer} {b′ a′ : List ℕ} → Carries u steps b a r b′ a′
+    → called-as r b′ a′ ≡ called b a (steps >>= λ o. done (encoded u o))
+unfolding called reply after answer-of written store-after encoded _>>=_
+carried-call u b a (refused k) f = λ i. called-as (f .tells i) (f .store i) (f .text i)
+carried-call u b a (done o) f = λ i. called-as (f .tells i) (f .store i) (f .text i)
 
 module _ (b a : List ℕ) (n : ℕ) (s : State) where
   -- a line of the listing in front of the answer buffer

@@ -1,3 +1,4 @@
 pub mod CallBytes
 pub mod CallBytesLaws
-pub mod LineLaws
+pub mod CallerBytes
+pub mod RunLaws

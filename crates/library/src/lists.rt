@@ -7,15 +7,13 @@ ghost use Rattle.tree.specs.TreeBytes.{Encodes, Whole};
 ghost use Rattle.store.specs.State.{State};
 ghost use Rattle.calls.specs.Calls.{called, listing-on, listing-call};
 ghost use Rattle.library.specs.CallBytes.{called-as};
+use crate::LEAST_ROOM;
 use listing::write_line;
 use shell::Answer;
 use sound_store::holds_store;
 use store::HEADER;
 use tree::Cause;
 use tree::count;
-
-// An answer buffer has at least so many bytes.
-const LEAST_ROOM: usize = 4096;
 
 // Line n of a tree's listing, or none past the last.
 fn line_of(tree: &[u8], n: usize, answer: &mut [u8]) -> Answer

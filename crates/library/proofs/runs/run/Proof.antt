@@ -1,0 +1,89 @@
+-- `library::runs::run` meets its contract: the answer buffer's length, then the store, then the line's form, then who calls decide.
+use mathlib.Core.Path.{sym, _∙_, ap}
+use native.Mathlib.Omega.{arith}
+use denote.Ref.{now}
+use Rattle.buffers.specs.Cases.{answers-false, answers-true}
+use Rattle.syntax.specs.FormLaws.{the-some}
+use Rattle.commands.specs.Parsed.{parsed}
+use Rattle.commands.specs.ParsedLaws.{parsed-none, parsed-line}
+use Rattle.store.specs.StoreBytes.{decode}
+use Rattle.runner.specs.RunnerLaws.{read-stored}
+use Rattle.library.specs.RunLaws.{run-short, run-unsound, run-unformed, run-carried}
+use borrow.Author.Needs.{needs}
+use Rattle.library.proofs.runs.run.Statement.{statement}
+use Rattle.library.proofs.runs.run.Tie as tie
+
+returns : tie.Need-returns
+returns c =
+    let a = c .before .before .before .before .args in
+    run-short (now (a .store)) (now (a .answer)) (now (a .line)) (omega (arith, c .if1 .taken))
+
+holds-store-requires : tie.Need-holds-store-requires
+holds-store-requires c κs = search needs
+
+same-length : tie.Need-same-length
+same-length c = search needs
+
+returns-2 : tie.Need-returns-2
+returns-2 c =
+    let a = c .before .before .before .before .before .before .before .args in
+    run-unsound (now (a .store)) (now (a .answer)) (now (a .line)) (omega (arith, c .before .before .before .if1 .left))
+    (answers-false (c .before .holds-store .ensures) (c .if2 .taken))
+
+parse-requires : tie.Need-parse-requires
+parse-requires c κs = search needs
+
+enum-told : tie.Need-enum-told
+enum-told c = search needs
+
+enum-known-caller : tie.Need-enum-known-caller
+enum-known-caller c = search needs
+
+by-caller-requires : tie.Need-by-caller-requires
+by-caller-requires c κs =
+    let a = c .before .before .before .before .before .before .before .before .before .before .before .before .before .args in
+    let s = the-some (decode (now (a .store))) (answers-true (c .before .before .before .before .before .before .before .holds-store .ensures) (c .before .before .before .before .before .before .if2 .left)) in
+    let l = parsed-line (now (a .line)) _ _ (ap (parsed (now (a .line))) (sym (c .before .before .before .caller .given .1)) ∙ c .before .before .before .before .before .parse .ensures) in
+    ((s .0, read-stored _ (s .0) (s .1)), ((l .0, record { means = l .1; in-range = l .3; temp = ? }), omega (arith, c .before .before .before .before .before .before .before .before .before .if1 .left)))
+
+same-length-2 : tie.Need-same-length-2
+same-length-2 c = search needs
+
+returns-3 : tie.Need-returns-3
+returns-3 c =
+    let a = c .before .before .before .before .before .before .before .before .before .before .args in
+    let s = the-some (decode (now (a .store))) (answers-true (c .before .before .before .before .holds-store .ensures) (c .before .before .before .if2 .left)) in
+    let n = parsed-none (now (a .line)) (ap (parsed (now (a .line))) (sym (c .enum-told .given .1)) ∙ c .before .before .parse .ensures) in
+    run-unformed (now (a .store)) (now (a .answer)) (now (a .line)) (s .0) (omega (arith, c .before .before .before .before .before .before .if1 .left)) (s .1) n
+
+same-length-3 : tie.Need-same-length-3
+same-length-3 c = search needs
+
+same-length-4 : tie.Need-same-length-4
+same-length-4 c = search needs
+
+returns-4 : tie.Need-returns-4
+returns-4 c =
+    let a = c .before .before .before .before .before .before .before .before .before .before .before .before .before .before .before .before .before .before .args in
+    let s = the-some (decode (now (a .store))) (answers-true (c .before .before .before .before .before .before .before .before .before .before .before .before .holds-store .ensures) (c .before .before .before .before .before .before .before .before .before .before .before .if2 .left)) in
+    let l = parsed-line (now (a .line)) _ _ (ap (parsed (now (a .line))) (sym (c .before .before .before .before .before .before .before .before .caller .given .1)) ∙ c .before .before .before .before .before .before .before .before .before .before .parse .ensures) in
+    run-carried (now (a .store)) (now (a .answer)) (now (a .line)) (s .0) (omega (arith, c .before .before .before .before .before .before .before .before .before .before .before .before .before .before .if1 .left)) (s .1) _ (l .0) (l .2)
+    (c .before .before .before .before .by-caller .ensures (s .0) (l .0) (read-stored _ (s .0) (s .1)) (record { means = l .1; in-range = l .3; temp = ? }))
+
+pub run-spec : {M : Type 1} → statement M
+run-spec =
+    tie.close
+    (tie.spec
+    returns
+    holds-store-requires
+    same-length
+    returns-2
+    parse-requires
+    enum-told
+    enum-known-caller
+    by-caller-requires
+    same-length-2
+    returns-3
+    same-length-3
+    same-length-4
+    returns-4)

@@ -1,0 +1,43 @@
+-- `runner::commands_by::in_shell` meets its contract: the tree is lent, and the header stays before what is left of it.
+use denote.Ref.{now}
+use Rattle.runner.specs.RunnerLaws.{long-enough, lent-whole, shell-carries}
+use borrow.Author.Needs.{needs}
+use Rattle.runner.proofs.commands_by.in_shell.Statement.{statement}
+use Rattle.runner.proofs.commands_by.in_shell.Tie as tie
+
+sub-shell-command : tie.Need-sub-shell-command
+sub-shell-command c = long-enough (c .before .before .before .pre .0)
+
+part-shell-command-start : tie.Need-part-shell-command-start
+part-shell-command-start c = long-enough (c .before .before .before .pre .0)
+
+part-shell-command-end : tie.Need-part-shell-command-end
+part-shell-command-end c = search needs
+
+shell-command-requires : tie.Need-shell-command-requires
+shell-command-requires c κs = let s = c .before .before .before .before .before in (lent-whole (s .pre .0), (s .pre .1 .0, s .pre .1 .1))
+
+same-length : tie.Need-same-length
+same-length c = search needs
+
+same-length-2 : tie.Need-same-length-2
+same-length-2 c = search needs
+
+returns : tie.Need-returns
+returns c s k h m =
+    let a = c .before .before .before .before .before .before .before .before .before .before .args in
+    let l = c .before .before .before .before .shell-command in
+    shell-carries h (a .caller) k (now (a .answer)) (l .last .1 .1 .1 .1 .0) (l .result) (l .last .0)
+    (λ e. l .ensures (s .store .tree) k e m)
+
+pub in-shell-spec : {M : Type 1} → statement M
+in-shell-spec =
+    tie.close
+    (tie.spec
+    sub-shell-command
+    part-shell-command-start
+    part-shell-command-end
+    shell-command-requires
+    same-length
+    same-length-2
+    returns)

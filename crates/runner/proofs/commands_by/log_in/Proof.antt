@@ -1,0 +1,45 @@
+-- `runner::commands_by::log_in` meets its contract: the header is lent, and the tree stays behind what is left of it.
+use mathlib.Core.Path.{sym, subst}
+use lib.ListN.{take}
+use denote.Ref.{now}
+use Rattle.buffers.specs.Text.{Text}
+use Rattle.store.specs.StoreBytes.{header-width}
+use Rattle.header.specs.HeaderBytes.{Logs-in}
+use Rattle.runner.specs.RunnerLaws.{long-enough, header-length, lent-headed, login-carries}
+use borrow.Author.Needs.{needs}
+use Rattle.runner.proofs.commands_by.log_in.Statement.{statement}
+use Rattle.runner.proofs.commands_by.log_in.Tie as tie
+
+slice-relend-prefix-login : tie.Need-slice-relend-prefix-login
+slice-relend-prefix-login c = long-enough (c .before .before .before .pre .0)
+
+slice-aggregate-login : tie.Need-slice-aggregate-login
+slice-aggregate-login c = sym (header-length (c .before .before .before .before .pre .0))
+
+part-requires : tie.Need-part-requires
+part-requires c κs = search needs
+
+login-requires : tie.Need-login-requires
+login-requires c κs = let s = c .before .before .before .before .before in (lent-headed (s .pre .0), (s .pre .1 .0, s .pre .1 .1 .0))
+
+same-length : tie.Need-same-length
+same-length c = search needs
+
+returns : tie.Need-returns
+unfolding header-width
+returns c s z h e =
+    let a = c .before .before .before .before .before .before .before .before .args in
+    let l = c .before .before .login in
+    let logs = subst (λ (x : Text). Logs-in (take 6142 (now (a .store))) (a .caller .account .uid) (a .role) x (l .result) (l .last .0)) (c .before .before .before .part .ensures) (l .ensures) in
+    login-carries h (a .caller) z _ (l .result) (l .last .0) (logs (s .setup) (s .store .sessions) (h .header) z e)
+
+pub log-in-spec : {M : Type 1} → statement M
+log-in-spec =
+    tie.close
+    (tie.spec
+    slice-relend-prefix-login
+    slice-aggregate-login
+    part-requires
+    login-requires
+    same-length
+    returns)

@@ -1,0 +1,56 @@
+-- `runner::sessions_part::as_role` meets its contract: the rows tell the role's account, and the tree is lent.
+use mathlib.Core.Path.{sym, _∙_, ap}
+use Rattle.accounts.specs.declared.Role.{Role}
+use Rattle.accounts.specs.Closure.{row-account}
+use Rattle.header.specs.SessionBytesLaws.{role-is}
+use Rattle.header.specs.PairRowsLaws.{rows-tell-account}
+use Rattle.runner.specs.RunnerLaws.{long-enough, lent-whole}
+use Rattle.runner.specs.SessionStepLaws.{acting, role-carries}
+use borrow.Author.Needs.{needs}
+use Rattle.runner.proofs.sessions_part.as_role.Statement.{statement}
+use Rattle.runner.proofs.sessions_part.as_role.Tie as tie
+
+dominance-in-requires : tie.Need-dominance-in-requires
+dominance-in-requires c κs = search needs
+
+account-requires : tie.Need-account-requires
+account-requires c κs = search needs
+
+sub-entry-command : tie.Need-sub-entry-command
+sub-entry-command c = long-enough (c .before .before .before .before .before .pre .0)
+
+part-entry-command-start : tie.Need-part-entry-command-start
+part-entry-command-start c = long-enough (c .before .before .before .before .before .pre .0)
+
+part-entry-command-end : tie.Need-part-entry-command-end
+part-entry-command-end c = search needs
+
+entry-command-requires : tie.Need-entry-command-requires
+entry-command-requires c κs = let s = c .before .before .before .before .before .before in (lent-whole (s .pre .0), s .pre .1 .0)
+
+same-length : tie.Need-same-length
+same-length c = search needs
+
+returns : tie.Need-returns
+returns c s z k h e held n m =
+    let a = c .before .before .before .before .before .before .before .before .before .args in
+    let d = c .before .before .before .before .before .dominance-in in
+    let rows = d .ensures s h in
+    let same = ap (λ (x : Role). row-account (d .result .rows) x) (sym e) in
+    let served = c .before .before .before .before .account .ensures ∙ same ∙ rows-tell-account (s .setup .pairs) (d .result .rows) rows z in
+    let l = c .before .before .entry-command in
+    role-carries h (a .caller) k n (l .result) (l .last .0)
+    (λ t. l .ensures (acting h (a .caller) held served t) k (role-is (a .role) z e) rows n m)
+
+pub as-role-spec : {M : Type 1} → statement M
+as-role-spec =
+    tie.close
+    (tie.spec
+    dominance-in-requires
+    account-requires
+    sub-entry-command
+    part-entry-command-start
+    part-entry-command-end
+    entry-command-requires
+    same-length
+    returns)

@@ -1,0 +1,24 @@
+-- `runner::sessions_part::dominance_in` meets its contract: it is what the header tells.
+use mathlib.Core.Path.{sym}
+use Rattle.store.specs.StoreBytes.{header-width}
+use Rattle.runner.specs.RunnerLaws.{header-length, lent-headed}
+use Rattle.runner.proofs.sessions_part.dominance_in.Statement.{statement}
+use Rattle.runner.proofs.sessions_part.dominance_in.Tie as tie
+
+slice-aggregate-dominance-of : tie.Need-slice-aggregate-dominance-of
+slice-aggregate-dominance-of c = sym (header-length (c .before .before .pre))
+
+dominance-of-requires : tie.Need-dominance-of-requires
+dominance-of-requires c κs = lent-headed (c .before .before .pre)
+
+returns : tie.Need-returns
+unfolding header-width
+returns c s h = c .dominance-of .ensures (s .setup) (s .store .sessions) (h .header)
+
+pub dominance-in-spec : {M : Type 1} → statement M
+dominance-in-spec =
+    tie.close
+    (tie.spec
+    slice-aggregate-dominance-of
+    dominance-of-requires
+    returns)

@@ -1,0 +1,3 @@
+pub mod Runner
+pub mod RunnerLaws
+pub mod SessionStepLaws

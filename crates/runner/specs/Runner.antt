@@ -1,0 +1,131 @@
+-- A parsed command carried out on a store's bytes: the command that its parts mean, the state whose bytes these are, and what the code promises.
+use mathlib.Core.Path.{_≡_}
+use mathlib.Core.List.{List}
+use mathlib.Core.Option.{none, some}
+use mathlib.Core.Bool.{Bool, true, false}
+use Prim.Native.Nat.{ℕ}
+use lib.ListN.{length, take, drop, getD}
+use Rattle.buffers.specs.Text.{Text}
+use Rattle.accounts.specs.declared.Account.{Account}
+use Rattle.accounts.specs.declared.Caller.{Caller}
+use Rattle.accounts.specs.declared.Dominance.{Dominance}
+use Rattle.accounts.specs.declared.Role.{Role}
+use Rattle.accounts.specs.declared.Session.{Session}
+use Rattle.accounts.specs.declared.Uid.{Uid}
+use Rattle.accounts.specs.Closure.{rows-of}
+use Rattle.accounts.specs.Dominance.{Bounded-role}
+use Rattle.commands.specs.declared.Command.{Command as Parts}
+use Rattle.commands.specs.Command.{Shell-command, Repository-command, login, logout, add, co, commit, up, del, Command, shell, repository, is-command}
+use Rattle.commands.specs.Parsed.{Means}
+use Rattle.setup.specs.Setup.{Setup}
+use Rattle.tree.specs.Result.{Result, refused, done, Outcome}
+use Rattle.tree.specs.Forest.{Place}
+use Rattle.tree.specs.Node.{Node}
+use Rattle.tree.specs.TreeBytes.{Encodes}
+use Rattle.shell.specs.declared.Answer.{Answer}
+use Rattle.shell.specs.Steps.{run-shell}
+use Rattle.shell.specs.Replies.{reply, answer-of, written}
+use Rattle.shell.specs.CommandBytes.{Follows, Follows-silently}
+use Rattle.store.specs.State.{Store, State, state-of}
+use Rattle.store.specs.StoreBytes.{header-width, store-width, encode}
+use Rattle.header.specs.HeaderBytes.{Heads, session-held}
+use Rattle.machine.specs.Machine.{run-login, run-logout, run-repository, run}
+use Rattle.machine.specs.StoreMachine.{store}
+use Rattle.machine.specs.Acting.{Acting, on-tree-steps}
+
+-- ---- what is asked
+
+-- the command k is that of the parts of the line t, and in range
+pub record Meant (t : Text) (c : Parts) (k : Command) : Type 0 where
+  pub means : Means t c k
+  pub in-range : is-command k ≡ true
+
+-- the parts are those of some command
+abbrev pub Meaningful : Text → Parts → Type 0
+Meaningful t c = (k : Command) × Meant t c k
+
+-- the bytes of a store in the state s: those of a header, then those of a tree
+pub record Stored (b : List ℕ) (s : State) : Type 0 where
+  pub wide : length b ≡ store-width
+  pub header : Heads (take header-width b) (s .setup) (s .store .sessions)
+  pub tree : Encodes (drop header-width b) (s .store .tree)
+
+-- the bytes of some store
+abbrev pub Some-store : List ℕ → Type 0
+Some-store b = (s : State) × Stored b s
+
+-- whether a command acts in a session
+unfoldable pub needs-session : Repository-command → Bool
+needs-session (login z password) = false
+needs-session logout = false
+needs-session (add w e z) = true
+needs-session (co e d) = true
+needs-session (commit w) = true
+needs-session (up w) = true
+needs-session (del e) = true
+
+-- ---- what is promised
+
+-- a store's bytes after what the steps come to: a refusal leaves them
+unfoldable pub store-after : Setup → List ℕ → Result (Outcome Store) → List ℕ
+store-after u b (refused why) = b
+store-after u b (done o) = encode (state-of u (o .state))
+
+-- the answer r, the store's bytes b′ and the answer buffer's a′ are those of the steps, from b and a
+pub record Carries (u : Setup) (steps : Result (Outcome Store)) (b a : List ℕ) (r : Answer) (b′ a′ : List ℕ) : Type 0 where
+  pub tells : r ≡ answer-of (reply steps)
+  pub store : b′ ≡ store-after u b steps
+  pub text : a′ ≡ written (reply steps) a
+
+-- and so of a command without a text, whatever the answer buffer holds
+abbrev pub Carries-silently : Setup → Result (Outcome Store) → List ℕ → Answer → List ℕ → Type 0
+Carries-silently u steps b r b′ = (a : List ℕ) → Carries u steps b a r b′ a
+
+-- the session of an account, and the rows of the setup's pairs, whichever store's bytes these are
+abbrev pub Session-of : List ℕ → Uid → Session → Type 0
+Session-of b uid r = (s : State) → Stored b s → r ≡ session-held (getD (s .store .sessions) (uid .0) none)
+
+abbrev pub Rows-of : List ℕ → Dominance → Type 0
+Rows-of b r = (s : State) → Stored b s → r .rows ≡ rows-of (s .setup .pairs)
+
+module _ (c : Caller) where
+  -- `login` and `logout`
+  abbrev pub Login-done : Role → Text → List ℕ → Answer → List ℕ → Type 0
+  Login-done role password b r b′ = (s : State) (z : Bounded-role) → Stored b s → z .role ≡ role
+      → Carries-silently (s .setup) (run-login store (s .setup) (s .store) c z password) b r b′
+
+  abbrev pub Logout-done : List ℕ → Answer → List ℕ → Type 0
+  Logout-done b r b′ = (s : State) → Stored b s → Carries-silently (s .setup) (run-logout store (s .setup) (s .store) c) b r b′
+
+  -- a command that the parts of a line mean
+  module _ (line : Text) (command : Parts) where
+    -- the shell's, on a tree's bytes and on a store's
+    abbrev pub Shell-done : List ℕ → List ℕ → Answer → List ℕ → List ℕ → Type 0
+    Shell-done b a r b′ a′ = (t : Place Node) (k : Shell-command) → Encodes b t → Meant line command (shell k) → Follows (run-shell c 0 t k) b a r b′ a′
+
+    abbrev pub Store-shell-done : List ℕ → List ℕ → Answer → List ℕ → List ℕ → Type 0
+    Store-shell-done b a r b′ a′ = (s : State) (k : Shell-command) → Stored b s → Meant line command (shell k)
+        → Carries (s .setup) (run store (s .setup) (s .store) c (shell k)) b a r b′ a′
+
+    -- one that needs a session, on a tree's bytes: in whatever session of that account, with the rows of the setup's pairs
+    abbrev pub Entry-done : Account → Session → Dominance → List ℕ → Answer → List ℕ → Type 0
+    Entry-done account session dominance b r b′ =
+        (j : Acting b c account) (k : Repository-command) → session ≡ session-held (some (j .role)) → dominance .rows ≡ rows-of (j .setup .pairs)
+        → needs-session k ≡ true → Meant line command (repository k)
+        → Follows-silently (on-tree-steps (run-repository store (j .setup) (j .state) c k)) b r b′
+
+    -- on a store's, in the session of a role
+    abbrev pub Role-done : Role → List ℕ → Answer → List ℕ → Type 0
+    Role-done role b r b′ = (s : State) (z : Bounded-role) (k : Repository-command) → Stored b s → z .role ≡ role
+        → getD (s .store .sessions) (c .account .uid .0) none ≡ some z → needs-session k ≡ true → Meant line command (repository k)
+        → Carries-silently (s .setup) (run-repository store (s .setup) (s .store) c k) b r b′
+
+    -- and with or without a session
+    abbrev pub Session-done : List ℕ → Answer → List ℕ → Type 0
+    Session-done b r b′ = (s : State) (k : Repository-command) → Stored b s → needs-session k ≡ true → Meant line command (repository k)
+        → Carries-silently (s .setup) (run-repository store (s .setup) (s .store) c k) b r b′
+
+    -- any command
+    abbrev pub Command-done : List ℕ → List ℕ → Answer → List ℕ → List ℕ → Type 0
+    Command-done b a r b′ a′ = (s : State) (k : Command) → Stored b s → Meant line command k
+        → Carries (s .setup) (run store (s .setup) (s .store) c k) b a r b′ a′

@@ -1,0 +1,228 @@
+-- Laws of commands on a store's bytes: the parts of a store that was read, and what follows for the store where a command follows its steps on the
+-- tree or on the header.
+use mathlib.Core.Path.{_≡_, refl, sym, subst, _∙_, ap, ap₂}
+use mathlib.Core.List.{List, [], _++_, append-nil}
+use mathlib.Core.Option.{Option, none, some}
+use mathlib.Core.Bool.{true, _&&_}
+use Prim.Native.Nat.{ℕ, _-_, _≤_, _<_}
+use native.Mathlib.Omega.{arith}
+use lib.ListN.{length, take, drop, take-append-drop, length-drop, drop-of-length-le}
+use lib.Seq.{take-at, drop-at, take-all, length-take-le}
+use borrow.Author.Tests.{ltb-true}
+use Rattle.buffers.specs.Cases.{and-both}
+use Rattle.buffers.specs.Text.{Text}
+use Rattle.accounts.specs.declared.Caller.{Caller}
+use Rattle.accounts.specs.declared.Role.{Role}
+use Rattle.accounts.specs.Dominance.{Bounded-role}
+use Rattle.syntax.specs.declared.Span.{Span}
+use Rattle.syntax.specs.Parts.{span-text}
+use Rattle.syntax.specs.Path.{Path, is-path}
+use Rattle.syntax.specs.Field.{is-content}
+use Rattle.syntax.specs.FieldLaws.{content-fits}
+use Rattle.commands.specs.declared.Command.{Command as Parts}
+use Rattle.commands.specs.Command.{Shell-command, Repository-command, write, Command, shell, repository, is-shell-command, is-command}
+use Rattle.commands.specs.Parsed.{Part-reads, Means}
+use Rattle.setup.specs.Setup.{Setup}
+use Rattle.tree.specs.Result.{Result, refused, done, _>>=_, Outcome}
+use Rattle.tree.specs.ResultLaws.{bind-done}
+use Rattle.tree.specs.Forest.{Place}
+use Rattle.tree.specs.Node.{Node}
+use Rattle.tree.specs.Layout.{content-width}
+use Rattle.tree.specs.Encoding.{encode-tree}
+use Rattle.tree.specs.TreeBytes.{Encodes, Whole}
+use Rattle.tree.specs.TreeBytesLaws.{encodes}
+use Rattle.shell.specs.declared.Answer.{Answer}
+use Rattle.shell.specs.Steps.{run-shell}
+use Rattle.shell.specs.Replies.{reply, answer-of, written}
+use Rattle.shell.specs.CommandBytes.{tree-after, Follows, Follows-silently}
+use Rattle.store.specs.State.{Sessions, Store, State}
+use Rattle.store.specs.StateLaws.{parts}
+use Rattle.store.specs.StoreBytes.{header-width, store-width, header-bytes, encode, decode}
+use Rattle.store.specs.HeaderLaws.{length-header}
+use Rattle.store.specs.StoreBytesLaws.{encode-decode, decode-length}
+use Rattle.store.specs.Logins.{logged-in, logged-out}
+use Rattle.header.specs.HeaderBytes.{Headed, header-after, Header-follows}
+use Rattle.machine.specs.Machine.{run-login, run-logout, run-repository, run}
+use Rattle.machine.specs.StoreMachine.{store}
+use Rattle.machine.specs.LoginLaws.{run-login-is, run-logout-is}
+use Rattle.machine.specs.Acting.{on-tree-steps}
+use Rattle.runner.specs.Runner.{Meant, Stored, Some-store, store-after, Carries, Carries-silently}
+
+-- bytes that are read as a state are that store's
+pub read-stored : (b : List ℕ) (s : State) → decode b ≡ some s → Stored b s
+unfolding encode
+read-stored b s e =
+    let i = encode-decode b s e in
+    let p = parts s (i .1) in
+    let H = header-bytes (s .setup) (s .store .sessions) in
+    let T = encode-tree (s .store .tree) in
+    let l = length-header (s .setup) (s .store .sessions) (p .setup) (p .sessions) in
+    record {
+      wide = decode-length b s e;
+      header = record {
+        in-range = p .setup;
+        sixteen = p .sessions;
+        bytes = ap (take header-width) (sym (i .0)) ∙ take-at H T header-width l;
+      };
+      tree = rw (← i .0, drop-at H T header-width l) (encodes (p .tree));
+    }
+
+-- ---- a store's bytes lent in two parts
+
+-- the bytes behind the header as they are lent, and the store with others in their place
+abbrev pub lent-tree : List ℕ → List ℕ
+lent-tree b = take (length b - 6142) (drop 6142 b)
+
+abbrev pub tree-back : List ℕ → List ℕ → List ℕ
+tree-back b T = take 6142 b ++ (T ++ drop (length b - 6142) (drop 6142 b))
+
+module _ {b : List ℕ} (h : Some-store b) where
+  pub long-enough : 6142 ≤ length b
+  unfolding store-width
+  long-enough = let w = h .1 .wide in omega arith
+
+  pub header-length : length (take 6142 b) ≡ 6142
+  header-length = length-take-le 6142 b long-enough
+
+  -- what is lent is a header and a tree
+  pub lent-headed : Headed (take 6142 b)
+  unfolding header-width
+  lent-headed = (h .0 .setup, h .0 .store .sessions, h .1 .header)
+
+  lent-is : lent-tree b ≡ drop header-width b
+  unfolding header-width
+  lent-is = take-all (length b - 6142) (drop 6142 b) (omega (arith, length-drop 6142 b))
+
+  back-is : (T : List ℕ) → tree-back b T ≡ take header-width b ++ T
+  unfolding header-width
+  back-is T =
+      let gone : drop (length b - 6142) (drop 6142 b) ≡ [] = drop-of-length-le (drop 6142 b) {i = length b - 6142} (omega (arith, length-drop 6142 b)) in
+      rw (gone, append-nil T)
+
+  pub lent-whole : Whole (lent-tree b)
+  lent-whole = rw lent-is (h .0 .store .tree, h .1 .tree)
+
+-- ---- what follows for the store
+
+module _ {b : List ℕ} {s : State} (h : Stored b s) where
+  -- what is left of the tree, behind the header
+  abbrev with-tree : List ℕ → List ℕ
+  with-tree T = take header-width b ++ T
+
+  -- steps on the tree that leave the sessions
+  tree-carries : (steps : Result (Outcome Store)) → ((o : Outcome Store) → steps ≡ done o → o .state .sessions ≡ s .store .sessions)
+      → (a a′ : List ℕ) (r : Answer) (T b′ : List ℕ) → Follows (on-tree-steps steps) (drop header-width b) a r T a′ → b′ ≡ take header-width b ++ T
+      → Carries (s .setup) steps b a r b′ a′
+  unfolding reply answer-of written on-tree-steps tree-after store-after encode _>>=_
+  tree-carries (refused k) keeps a a′ r T b′ f e = record {
+    tells = f .tells;
+    store = e ∙ ap with-tree (f .tree) ∙ take-append-drop header-width b;
+    text = f .text;
+  }
+  tree-carries (done o) keeps a a′ r T b′ f e = record {
+    tells = f .tells;
+    store = e ∙ ap₂ _++_ (h .header .bytes ∙ ap (header-bytes (s .setup)) (sym (keeps o refl))) (f .tree);
+    text = f .text;
+  }
+
+  -- steps on the header
+  header-carries : (steps : Result Sessions) (r : Answer) (H : List ℕ) → Header-follows (s .setup) steps (take header-width b) r H
+      → Carries-silently (s .setup) (steps >>= λ z. done (record { text = none; state = record { tree = s .store .tree; sessions = z } })) b r
+      (H ++ drop header-width b)
+  unfolding reply answer-of written header-after store-after encode _>>=_
+  header-carries (refused k) r H f a = record {
+    tells = f .tells;
+    store = ap (λ (l : List ℕ). l ++ drop header-width b) (f .header) ∙ take-append-drop header-width b;
+    text = f .text a;
+  }
+  header-carries (done z) r H f a = record {
+    tells = f .tells;
+    store = ap₂ _++_ (f .header) (h .tree .bytes);
+    text = f .text a;
+  }
+
+  -- `login` and `logout`
+  pub login-carries : (c : Caller) (z : Bounded-role) (password : Text) (r : Answer) (H : List ℕ)
+      → Header-follows (s .setup) (logged-in (s .setup) (s .store .sessions) (c .account .uid) z password) (take header-width b) r H
+      → Carries-silently (s .setup) (run-login store (s .setup) (s .store) c z password) b r (H ++ drop header-width b)
+  login-carries c z password r H f a =
+      rw (run-login-is store (s .setup) (s .store) c z password)
+      (header-carries (logged-in (s .setup) (s .store .sessions) (c .account .uid) z password) r H f a)
+
+  pub logout-carries : (c : Caller) (r : Answer) (H : List ℕ)
+      → Header-follows (s .setup) (logged-out (s .store .sessions) (c .account .uid)) (take header-width b) r H
+      → Carries-silently (s .setup) (run-logout store (s .setup) (s .store) c) b r (H ++ drop header-width b)
+  logout-carries c r H f a =
+      rw (run-logout-is store (s .setup) (s .store) c)
+      (header-carries (logged-out (s .store .sessions) (c .account .uid)) r H f a)
+
+-- ---- a shell command
+
+-- its outcome put into the store, read as the tree again
+put-and-read : (s : Store) (r : Result (Outcome (Place Node))) → on-tree-steps (r >>= λ o. done (record { text = o .text; state = record { tree = o .state; sessions = s .sessions } })) ≡ r
+unfolding on-tree-steps _>>=_
+put-and-read s (refused k) = refl
+put-and-read s (done o) = refl
+
+module _ (u : Setup) (s : Store) (c : Caller) (k : Shell-command) where
+  -- its steps on the tree
+  shell-on-tree : on-tree-steps (run store u s c (shell k)) ≡ run-shell c 0 (s .tree) k
+  unfolding run
+  shell-on-tree = put-and-read s (run-shell c 0 (s .tree) k)
+
+  -- it keeps the sessions
+  shell-keeps-sessions : (o : Outcome Store) → run store u s c (shell k) ≡ done o → o .state .sessions ≡ s .sessions
+  unfolding run
+  shell-keeps-sessions o e =
+      let i = bind-done (run-shell c 0 (s .tree) k) (λ p. done (record { text = p .text; state = record { tree = p .state; sessions = s .sessions } })) e in
+      let q : o ≡ record { text = i .0 .text; state = record { tree = i .0 .state; sessions = s .sessions } } = cc (i .2) in
+      ap (λ (x : Outcome Store). x .state .sessions) q
+
+module _ {b : List ℕ} {s : State} (h : Stored b s) where
+  -- steps that follow on the tree as it is lent
+  pub lent-carries : (steps : Result (Outcome Store)) → ((o : Outcome Store) → steps ≡ done o → o .state .sessions ≡ s .store .sessions)
+      → (a a′ : List ℕ) (r : Answer) (T : List ℕ) → (Encodes (lent-tree b) (s .store .tree) → Follows (on-tree-steps steps) (lent-tree b) a r T a′)
+      → Carries (s .setup) steps b a r (tree-back b T) a′
+  lent-carries steps keeps a a′ r T f =
+      let g : Encodes (drop header-width b) (s .store .tree) → Follows (on-tree-steps steps) (drop header-width b) a r T a′ = rw (lent-is (s, h)) at f in
+      tree-carries h steps keeps a a′ r T (tree-back b T) (g (h .tree)) (back-is (s, h) T)
+
+  -- a shell command
+  pub shell-carries : (c : Caller) (k : Shell-command) (a a′ : List ℕ) (r : Answer) (T : List ℕ)
+      → (Encodes (lent-tree b) (s .store .tree) → Follows (run-shell c 0 (s .store .tree) k) (lent-tree b) a r T a′)
+      → Carries (s .setup) (run store (s .setup) (s .store) c (shell k)) b a r (tree-back b T) a′
+  shell-carries c k a a′ r T f =
+      lent-carries (run store (s .setup) (s .store) c (shell k)) (shell-keeps-sessions (s .setup) (s .store) c k) a a′ r T
+      (λ e. rw (shell-on-tree (s .setup) (s .store) c k) (f e))
+
+-- ---- what the parts of a command read as
+
+-- the command of parts that are known
+pub meant-as : {t : Text} {c d : Parts} {k : Command} → c ≡ d → Meant t c k → Means t d k
+meant-as {t} {c} {d} {k} e m = subst (λ (x : Parts). Means t x k) e (m .means)
+
+-- a part as it was cut out of the line
+pub part-read : {A : Type 0} {read : Text → Option A} {t : Text} {s : Span} {q : A} (x : Text) → x ≡ span-text t s → Part-reads read t s q → read x ≡ some q
+part-read {read = read} x e h = ap read e ∙ h .reads
+
+-- what follows one command follows the same one
+pub same-shell : (c : Caller) (t : Place Node) {k l : Shell-command} {b a b′ a′ : List ℕ} {r : Answer} → shell k ≡ shell l
+    → Follows (run-shell c 0 t l) b a r b′ a′ → Follows (run-shell c 0 t k) b a r b′ a′
+same-shell c t {k} {l} {b} {a} {b′} {a′} {r} e f = let q : k ≡ l = cc in subst (λ (x : Shell-command). Follows (run-shell c 0 t x) b a r b′ a′) (sym q) f
+
+pub same-entry : (c : Caller) (u : Setup) (s : Store) {k l : Repository-command} {b b′ : List ℕ} {r : Answer} → repository k ≡ repository l
+    → Follows-silently (on-tree-steps (run-repository store u s c l)) b r b′ → Follows-silently (on-tree-steps (run-repository store u s c k)) b r b′
+same-entry c u s {k} {l} {b} {b′} {r} e f =
+    let q : k ≡ l = cc in
+    subst (λ (x : Repository-command). Follows-silently (on-tree-steps (run-repository store u s c x)) b r b′) (sym q) f
+
+-- a content that is to be written fits
+pub content-room : {k : Command} {q : Path} {x : Text} → is-command k ≡ true → k ≡ shell (write q x) → length x ≤ content-width
+unfolding is-command is-shell-command
+content-room {k} {q} {x} i e =
+    let w : (is-path q && is-content x) ≡ true = rw (← ap is-command e) i in
+    content-fits x (and-both (is-path q) (is-content x) w .1) .0
+
+-- a role that is bounded is below 8
+pub role-low : {r : Role} (z : Bounded-role) → z .role ≡ r → r .0 < 8
+role-low z e = rw (← e) (ltb-true (z .role .0) 8 (z .bound))

@@ -1,0 +1,104 @@
+-- Commands in a session: without one they are refused, and with one they act for the service account of its role and keep the sessions.
+use mathlib.Core.Path.{_≡_, refl}
+use mathlib.Core.List.{List}
+use mathlib.Core.Option.{Option, none, some}
+use mathlib.Core.Bool.{true}
+use Prim.Native.Nat.{ℕ}
+use lib.ListN.{getD}
+use Rattle.buffers.specs.Cases.{contra}
+use Rattle.accounts.specs.declared.Account.{Account}
+use Rattle.accounts.specs.declared.Caller.{Caller}
+use Rattle.accounts.specs.declared.Role.{Role}
+use Rattle.accounts.specs.declared.Session.{Session}
+use Rattle.accounts.specs.declared.Session.the-variants.{Nobody, As}
+use Rattle.accounts.specs.Dominance.{Bounded-role}
+use Rattle.accounts.specs.Service.{service}
+use Rattle.commands.specs.Command.{Repository-command, login, logout, add, co, commit, up, del}
+use Rattle.setup.specs.Setup.{Setup}
+use Rattle.tree.specs.declared.Cause.the-variants.{NoSession}
+use Rattle.tree.specs.Result.{refused, done, Outcome}
+use Rattle.tree.specs.ResultLaws.{present-of, present-none, refused-bind}
+use Rattle.shell.specs.declared.Answer.{Answer}
+use Rattle.shell.specs.declared.Answer.the-variants.{Refused}
+use Rattle.shell.specs.Replies.{reply, answer-of, written}
+use Rattle.store.specs.State.{Store, State}
+use Rattle.tree.specs.TreeBytes.{Encodes}
+use Rattle.header.specs.HeaderBytes.{session-held}
+use Rattle.machine.specs.Machine.{session, run-add, run-co, run-commit, run-up, run-del, run-repository}
+use Rattle.machine.specs.StoreMachine.{store}
+use Rattle.shell.specs.CommandBytes.{Follows-silently}
+use Rattle.machine.specs.Acting.{Acting, on-tree-steps}
+use Rattle.machine.specs.ActingLaws.{add-keeps-sessions, commit-keeps-sessions, up-keeps-sessions, del-keeps-sessions}
+use Rattle.checkout.specs.CheckoutRunLaws.{co-keeps-sessions}
+use Rattle.runner.specs.Runner.{Stored, needs-session, store-after, Carries-silently}
+use Rattle.runner.specs.RunnerLaws.{lent-tree, tree-back, lent-carries}
+
+-- no session is held where none is, and a role's where it is
+held-none : (o : Option Bounded-role) → Nobody ≡ session-held o → o ≡ none
+unfolding session-held
+held-none none e = refl
+held-none (some z) e = contra {b = true} refl (cc)
+
+pub held-some : (r : Role) (o : Option Bounded-role) → As r ≡ session-held o → (z : Bounded-role) × (o ≡ some z) × (z .role ≡ r)
+unfolding session-held
+held-some r none e = contra {b = true} refl (cc)
+held-some r (some z) e = (z, refl, cc)
+
+module _ {b : List ℕ} {s : State} (h : Stored b s) (c : Caller) where
+  -- the caller's session
+  abbrev held : Option Bounded-role
+  held = getD (s .store .sessions) (c .account .uid .0) none
+
+  no-session : held ≡ none → session store (s .setup) (s .store) c ≡ refused NoSession
+  unfolding session
+  no-session e = rw e (present-none NoSession)
+
+  pub some-session : (z : Bounded-role) → held ≡ some z → session store (s .setup) (s .store) c ≡ done z
+  unfolding session
+  some-session z e = rw e (present-of z NoSession)
+
+  -- without one such a command is refused by 12
+  refused-without : held ≡ none → (k : Repository-command) → needs-session k ≡ true → run-repository store (s .setup) (s .store) c k ≡ refused NoSession
+  unfolding needs-session run-repository run-add run-co run-commit run-up run-del
+  refused-without e (login z password) n = contra n refl
+  refused-without e logout n = contra n refl
+  refused-without e (add w p z) n = rw (no-session e) (refused-bind NoSession _)
+  refused-without e (co p d) n = rw (no-session e) (refused-bind NoSession _)
+  refused-without e (commit w) n = rw (no-session e) (refused-bind NoSession _)
+  refused-without e (up w) n = rw (no-session e) (refused-bind NoSession _)
+  refused-without e (del p) n = rw (no-session e) (refused-bind NoSession _)
+
+  pub nobody-carries : (k : Repository-command) → needs-session k ≡ true → Nobody ≡ session-held held
+      → Carries-silently (s .setup) (run-repository store (s .setup) (s .store) c k) b (Refused NoSession) b
+  unfolding reply answer-of written store-after
+  nobody-carries k n e a = rw (refused-without (held-none held e) k n) (record { tells = refl; store = refl; text = refl })
+
+  -- in one it acts for the account of its role, on the tree as it is lent
+  abbrev pub acting : {z : Bounded-role} {account : Account} → held ≡ some z → account ≡ service (s .setup .pairs) z → Encodes (lent-tree b) (s .store .tree)
+      → Acting (lent-tree b) c account
+  acting {z} e q t = record {
+    setup = s .setup;
+    state = s .store;
+    role = z;
+    tree = t;
+    session = some-session z e;
+    served = q;
+  }
+
+  -- and keeps the sessions
+  command-keeps-sessions : (k : Repository-command) → needs-session k ≡ true → (o : Outcome Store) → run-repository store (s .setup) (s .store) c k ≡ done o
+      → o .state .sessions ≡ s .store .sessions
+  unfolding needs-session run-repository
+  command-keeps-sessions (login z password) n o e = contra n refl
+  command-keeps-sessions logout n o e = contra n refl
+  command-keeps-sessions (add w p z) n o e = add-keeps-sessions (s .setup) (s .store) c w p z e
+  command-keeps-sessions (co p d) n o e = co-keeps-sessions (s .setup) (s .store) c p d e
+  command-keeps-sessions (commit w) n o e = commit-keeps-sessions (s .setup) (s .store) c w e
+  command-keeps-sessions (up w) n o e = up-keeps-sessions (s .setup) (s .store) c w e
+  command-keeps-sessions (del p) n o e = del-keeps-sessions (s .setup) (s .store) c p e
+
+  -- so what follows its steps on the tree is carried out on the store
+  pub role-carries : (k : Repository-command) → needs-session k ≡ true → (r : Answer) (T : List ℕ)
+      → (Encodes (lent-tree b) (s .store .tree) → Follows-silently (on-tree-steps (run-repository store (s .setup) (s .store) c k)) (lent-tree b) r T)
+      → Carries-silently (s .setup) (run-repository store (s .setup) (s .store) c k) b r (tree-back b T)
+  role-carries k n r T f a = lent-carries h (run-repository store (s .setup) (s .store) c k) (command-keeps-sessions k n) a a r T (λ e. f e a)

@@ -1,0 +1,84 @@
+// Any command on a store's bytes.
+ghost use Prim.Native.Nat.{_≤_, _<_};
+ghost use lib.ListN.{length};
+ghost use Rattle.syntax.specs.Parts.{Inside, span-text};
+ghost use Rattle.runner.specs.Runner.{Meaningful, Some-store, Login-done, Logout-done, Store-shell-done, Command-done};
+use crate::line_part::part;
+use crate::sessions_part::in_session;
+use crate::tree_part::shell_command;
+use accounts::Caller;
+use accounts::Role;
+use commands::Command;
+use header::login;
+use header::logout;
+use shell::Answer;
+use store::HEADER;
+use syntax::Span;
+
+// `login` on the store's header.
+fn log_in(store: &mut [u8], caller: Caller, role: Role, line: &[u8], password: Span) -> Answer
+    requires { ⌜ Some-store (now store) ⌝ }
+    requires { ⌜ caller .account .uid .0 < 16 ⌝ }
+    requires { ⌜ role .0 < 8 ⌝ }
+    requires { ⌜ Inside password (now line) ⌝ }
+    ensures { λ r. ⌜ Login-done caller role (span-text (now (line .entry)) password) (now (store .entry)) r (now (store .exit)) ⌝ }
+{
+    let account = caller.account;
+    login(&mut store[..HEADER], account.uid, role, part(line, password))
+}
+
+// `logout` on the store's header.
+fn log_out(store: &mut [u8], caller: Caller) -> Answer
+    requires { ⌜ Some-store (now store) ⌝ }
+    requires { ⌜ caller .account .uid .0 < 16 ⌝ }
+    ensures { λ r. ⌜ Logout-done caller (now (store .entry)) r (now (store .exit)) ⌝ }
+{
+    let account = caller.account;
+    logout(&mut store[..HEADER], account.uid)
+}
+
+// A command of the shell on the store's tree.
+fn in_shell(
+    store: &mut [u8],
+    caller: Caller,
+    line: &[u8],
+    command: Command,
+    answer: &mut [u8],
+) -> Answer
+    requires { ⌜ Some-store (now store) ⌝ }
+    requires { ⌜ Meaningful (now line) command ⌝ }
+    requires { ⌜ 4096 ≤ length (now answer) ⌝ }
+    ensures { λ r. ⌜ Store-shell-done caller (now (line .entry)) command (now (store .entry)) (now (answer .entry)) r (now (store .exit)) (now (answer .exit)) ⌝ }
+{
+    shell_command(&mut store[HEADER..], caller, line, command, answer)
+}
+
+// A command, by what it is about: the sessions, entries in a session, or the people's tree.
+pub fn run_command(
+    store: &mut [u8],
+    caller: Caller,
+    line: &[u8],
+    command: Command,
+    answer: &mut [u8],
+) -> Answer
+    requires { ⌜ Some-store (now store) ⌝ }
+    requires { ⌜ Meaningful (now line) command ⌝ }
+    requires { ⌜ 4096 ≤ length (now answer) ⌝ }
+    requires { ⌜ caller .account .uid .0 < 16 ⌝ }
+    ensures { λ r. ⌜ Command-done caller (now (line .entry)) command (now (store .entry)) (now (answer .entry)) r (now (store .exit)) (now (answer .exit)) ⌝ }
+{
+    match command {
+        Command::Login { role, password } => log_in(store, caller, role, line, password),
+        Command::Logout => log_out(store, caller),
+        Command::Add {
+            working: _,
+            entry: _,
+            role: _,
+        }
+        | Command::Co { entry: _, to: _ }
+        | Command::Commit { working: _ }
+        | Command::Up { working: _ }
+        | Command::Del { entry: _ } => in_session(store, caller, line, command),
+        _ => in_shell(store, caller, line, command, answer),
+    }
+}
