@@ -85,13 +85,14 @@ module _ (k : ℕ) (name content : List ℕ) (f : Fresh) (fits : length name ≤
       ∙ sym (row-parts v ∙ before-content (row-head v) N (tag-bytes none) (new ++ row-spare))
 
   -- the head, the name, zeros and the content, one after another
-  pub entry-written : (s : List ℕ) → length s ≡ row-width
-      → paste (paste (paste (paste s 0 (head-bytes k f) 8) 8 (padded name-width name) 8) 16 (replicate 216 0) 216) 72 (padded content-width content) 80
-      ≡ row-bytes (record { depth = k; name = name; here = filled-node f content })
-  entry-written s wide =
-      ap (λ (l : List ℕ). paste l 72 (padded content-width content) 80)
-      (row-written k name f s 0 (omega (arith, wide)) fits ∙ paste-all s (row-bytes (fresh-row k name f)) row-width wide (length-fresh k name f fits))
-      ∙ content-filled
+  pub entry-written : (s : List ℕ) {s₁ s₂ s₃ s₄ c : List ℕ} → length s ≡ row-width → s₁ ≡ paste s 0 (head-bytes k f) 8
+      → s₂ ≡ paste s₁ 8 (padded name-width name) 8 → s₃ ≡ paste s₂ 16 (replicate 216 0) 216 → c ≡ content → s₄ ≡ paste s₃ 72 (padded content-width c) 80
+      → s₄ ≡ row-bytes (record { depth = k; name = name; here = filled-node f content })
+  entry-written s {s₁} {s₂} {s₃} wide h₁ h₂ h₃ e h₄ =
+      let r = row-bytes (fresh-row k name f) in
+      let fresh : s₃ ≡ r =
+      h₃ ∙ rw (h₂, h₁) (row-written k name f s 0 (omega (arith, wide)) fits) ∙ paste-all s r row-width wide (length-fresh k name f fits) in
+      h₄ ∙ rw (e, fresh) content-filled
 
 -- ---- a place without children
 
@@ -156,8 +157,9 @@ module _ {b : List ℕ} {s : Text} {i at k : ℕ} (j : Addition b s i at k) wher
           room = omega (arith, as-many, j .few);
         }
 
-    -- and makes the tree of the steps
-    module _ (z : Bounded-role) {role : Role} (q : z .role ≡ role) (name : Name) (named : name ≡ last (entry-location (j .filed))) where
+    -- what is put in
+    module _ (z : Bounded-role) {role : Role} (q : z .role ≡ role) {f : Fresh} (made : f ≡ fresh-entry (row-at b i .here .kind) role) {name : Name}
+        (named : name ≡ last (entry-location (j .filed))) where
       abbrev entry : Node
       entry = entry-node (j .found .here .kind) z 1 (j .found .here .content)
 
@@ -165,9 +167,9 @@ module _ {b : List ℕ} {s : Text} {i at k : ℕ} (j : Addition b s i at k) wher
       entry-in-range = let r = node-ranges (j .found .here) (at-node (j .file)) in entry-fits (j .found .here .kind) z (j .found .here .content) (r .content) (r .bare)
 
       -- its node is the entry
-      entry-is : filled-node (fresh-entry (row-at b i .here .kind) role) (row-at b i .here .content) ≡ entry
+      entry-is : filled-node f (row-at b i .here .content) ≡ entry
       unfolding fresh-entry entry-node
-      entry-is = rw (at-here (j .file), ← q)
+      entry-is = rw (made, at-here (j .file), ← q)
 
       -- its name is not used
       name-free : place-at (j .top) (entry-location (j .filed)) ≡ none
@@ -176,7 +178,7 @@ module _ {b : List ℕ} {s : Text} {i at k : ℕ} (j : Addition b s i at k) wher
 
       -- its row is that of the place
       entry-bytes : all-bytes row-bytes (place-rows k (last (entry-location (j .filed))) (leaf entry))
-          ≡ row-bytes (record { depth = k; name = name; here = filled-node (fresh-entry (row-at b i .here .kind) role) (row-at b i .here .content) })
+          ≡ row-bytes (record { depth = k; name = name; here = filled-node f (row-at b i .here .content) })
       unfolding entry-location parent last
       entry-bytes =
           let g = j .stands in
@@ -191,8 +193,7 @@ module _ {b : List ℕ} {s : Text} {i at k : ℕ} (j : Addition b s i at k) wher
           ∙ (λ m. row-bytes (record { depth = sym (g .level) m; name = sym named m; here = (leaf-here entry ∙ sym entry-is) m }))
 
       -- the row put in makes the tree of the steps
-      pub add-law : {R b₂ : List ℕ}
-          → R ≡ row-bytes (record { depth = k; name = name; here = filled-node (fresh-entry (row-at b i .here .kind) role) (row-at b i .here .content) })
+      pub add-law : {R b₂ : List ℕ} → R ≡ row-bytes (record { depth = k; name = name; here = filled-node f (row-at b i .here .content) })
           → b₂ ≡ rows-put b₁ at 1 R → b₂ ≡ encode-tree (after-add (j .top) (j .path) (j .filed) z (j .found))
       unfolding after-add entry-location parent last depth
       add-law {R} {b₂} r m =
@@ -200,12 +201,12 @@ module _ {b : List ℕ} {s : Text} {i at k : ℕ} (j : Addition b s i at k) wher
           let p = in-rep (j .filed .folder) in
           let n = j .filed .name in
           let x = leaf entry in
-          let f = still (g .above) in
+          let d = still (g .above) in
           let X = all-bytes row-bytes (place-rows (suc (depth p)) n x) in
           let one : 1 ≡ suc (size (x .below)) = omega (arith, leaf-size entry) in
-          let index : at ≡ suc (j .row + size (lesser n (f .place .below))) = omega (arith, g .index, lesser-bare (f .place) (g .directory) (f .shape) n) in
+          let index : at ≡ suc (j .row + size (lesser n (d .place .below))) = omega (arith, g .index, lesser-bare (d .place) (g .directory) (d .shape) n) in
           let there : R ≡ X ++ [] = r ∙ sym entry-bytes ∙ ap (λ (l : ℕ). all-bytes row-bytes (place-rows l n x)) (g .level) ∙ sym (append-nil X) in
           m ∙ ap (rows-put b₁ at 1) there ∙ ap (λ (c : ℕ). rows-put b₁ at c (X ++ [])) one ∙ ap (λ (l : ℕ). rows-put b₁ l (suc (size (x .below))) (X ++ [])) index
-          ∙ put-law (f .at) n x (unused-bare (f .place) (g .directory) (f .shape) n (g .roomed .free)) (entry-parts (j .filed) valid .0) (leaf-place entry entry-in-range)
-          (omega (arith, encoded-count (f .at .tree), as-many, j .few, leaf-size entry)) []
+          ∙ put-law (d .at) n x (unused-bare (d .place) (g .directory) (d .shape) n (g .roomed .free)) (entry-parts (j .filed) valid .0) (leaf-place entry entry-in-range)
+          (omega (arith, encoded-count (d .at .tree), as-many, j .few, leaf-size entry)) []
           ∙ ap encode-tree (put-altered (j .top) p n x (j .path) (j .found) (set-tag tag) name-free (j .file .there))

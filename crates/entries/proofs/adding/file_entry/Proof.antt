@@ -7,12 +7,9 @@ use Rattle.syntax.specs.Path.{entry-location}
 use Rattle.syntax.specs.PathLaws.{entry-reads}
 use Rattle.syntax.specs.PathTextLaws.{text-begins}
 use Rattle.tree.specs.declared.Kind.{Kind}
-use Rattle.tree.specs.Encoding.{row-bytes}
-use Rattle.tree.specs.RowAt.{row-at}
-use Rattle.edits.specs.declared.Fresh.{Fresh}
 use Rattle.gaps.specs.GapsLaws.{last-in-text, last-fits}
 use Rattle.entries.specs.LinkLaws.{at-has-row}
-use Rattle.entries.specs.AddSteps.{fresh-entry, filled-node}
+use Rattle.entries.specs.AddSteps.{fresh-entry}
 use Rattle.entries.specs.AddRowLaws.{addition-fits, addition-insertable, add-law}
 use borrow.Author.Needs.{needs}
 use Rattle.entries.proofs.adding.file_entry.Statement.{statement}
@@ -48,8 +45,10 @@ slice-aggregate-put-rows c = search needs
 
 put-rows-requires : tie.Need-put-rows-requires
 put-rows-requires c κs = let set = c .before .before .before .before in
-    let write = set .before .before .before in
-    (addition-insertable (write .before .before .before .before .before .before .before .before .before .pre .0) (set .set-tag .ensures), omega (arith, write .write-entry .kept .1 .1 .1 .1 .1 .0))
+    let write = set .before .before .before in (
+      addition-insertable (write .before .before .before .before .before .before .before .before .before .pre .0) (set .set-tag .ensures),
+      omega (arith, write .write-entry .kept .1 .1 .1 .1 .1 .0),
+    )
 
 same-length : tie.Need-same-length
 same-length c = search needs
@@ -63,11 +62,9 @@ returns c = let put = c .before .before in
     let kind = made .before in
     let a = kind .before .before .before .before .args in
     let text = now (a .entry) in
-    let k = row-at (now (a .tree)) (a .working) .here .content in
     let node = made .new-entry .ensures ∙ ap (λ (x : Kind). fresh-entry x (a .role)) (kind .kind-at .ensures) in
-    λ j z q. add-law j (set .set-tag .ensures) z q (now (name .last-name .result))
-    (name .last-name .ensures ∙ last-in-text text (entry-reads text (j .filed) (j .reads)))
-    (write .write-entry .ensures ∙ ap (λ (f : Fresh). row-bytes (record { depth = a .depth; name = now (name .last-name .result); here = filled-node f k })) node) (put .put-rows .ensures)
+    λ j z q. add-law j (set .set-tag .ensures) z q node (name .last-name .ensures ∙ last-in-text text (entry-reads text (j .filed) (j .reads)))
+    (write .write-entry .ensures) (put .put-rows .ensures)
 
 pub file-entry-spec : {M : Type 1} → statement M
 file-entry-spec =

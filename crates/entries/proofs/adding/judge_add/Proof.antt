@@ -28,7 +28,8 @@ returns-2 c = let k = c .before .before in
     let a = k .before .before .before .args in
     let at = spot (a .row) (a .above) in
     let x = row-at (now (a .tree)) (a .row) .here in
-    outcome-refused Access ∙ add-unread at (a .person) (a .dominated) x (answers-true (k .before .owns-at .ensures) (k .if1 .left)) (answers-false (c .before .readable-at .ensures) (c .if2 .taken))
+    outcome-refused Access ∙ add-unread at (a .person) (a .dominated) x (answers-true (k .before .owns-at .ensures) (k .if1 .left))
+    (answers-false (c .before .readable-at .ensures) (c .if2 .taken))
 
 returns-3 : tie.Need-returns-3
 returns-3 c = let m = c .before in
@@ -37,7 +38,8 @@ returns-3 c = let m = c .before in
     let at = spot (a .row) (a .above) in
     let x = row-at (now (a .tree)) (a .row) .here in
     outcome-refused Reserved
-    ∙ add-undominated at (a .person) (a .dominated) x (answers-true (k .before .owns-at .ensures) (k .if1 .left)) (answers-true (m .before .readable-at .ensures) (m .if2 .left)) (answers-false refl (c .if3 .taken))
+    ∙ add-undominated at (a .person) (a .dominated) x (answers-true (k .before .owns-at .ensures) (k .if1 .left))
+    (answers-true (m .before .readable-at .ensures) (m .if2 .left)) (answers-false refl (c .if3 .taken))
 
 returns-4 : tie.Need-returns-4
 returns-4 c = let m = c .before in
@@ -46,7 +48,8 @@ returns-4 c = let m = c .before in
     let at = spot (a .row) (a .above) in
     let x = row-at (now (a .tree)) (a .row) .here in
     outcome-at (a .row) (a .above)
-    ∙ add-open at (a .person) (a .dominated) x (answers-true (k .before .owns-at .ensures) (k .if1 .left)) (answers-true (m .before .readable-at .ensures) (m .if2 .left)) (answers-true refl (c .if3 .left))
+    ∙ add-open at (a .person) (a .dominated) x (answers-true (k .before .owns-at .ensures) (k .if1 .left))
+    (answers-true (m .before .readable-at .ensures) (m .if2 .left)) (answers-true refl (c .if3 .left))
 
 pub judge-add-spec : {M : Type 1} → statement M
 judge-add-spec =

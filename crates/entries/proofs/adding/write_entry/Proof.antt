@@ -1,14 +1,8 @@
 -- `entries::adding::write_entry` meets its contract: the row of a new node, and then the content over its zeros.
-use mathlib.Core.Path.{ap, _∙_}
-use mathlib.Core.List.{List}
-use Prim.Native.Nat.{ℕ}
+use mathlib.Core.Path.{ap}
 use native.Mathlib.Omega.{arith}
-use lib.ListN.{length, replicate}
-use lib.Seq.{paste}
+use lib.ListN.{length}
 use denote.Ref.{now}
-use Rattle.buffers.specs.Text.{Text}
-use Rattle.buffers.specs.Fields.{padded}
-use Rattle.tree.specs.Layout.{name-width, content-width}
 use Rattle.tree.specs.RowAt.{row-at}
 use Rattle.tree.specs.RowAtLaws.{row-content-fits}
 use Rattle.entries.specs.AddRowLaws.{entry-written}
@@ -29,10 +23,12 @@ content-at-requires : tie.Need-content-at-requires
 content-at-requires c κs = search needs
 
 write-padded-requires-2 : tie.Need-write-padded-requires-2
-write-padded-requires-2 c κs = let s = c .before .before .before .before .before .before .before .before .before .before .before .before .before .before .before .before .before in (
-  omega (arith, c .before .before .before .before .clear .kept .0, c .before .before .before .before .before .before .before .before .write-padded .kept .0, c .before .before .before .before .before .before .before .before .before .before .before .before .write-head .kept .0, s .pre .1 .1),
-  omega (arith, ap length (c .content-at .ensures), row-content-fits (now (s .args .tree)) (s .args .working)),
-)
+write-padded-requires-2 c κs = let x = c .before .before .before .before in
+    let w = x .before .before .before .before in
+    let v = w .before .before .before .before in
+    let s = v .before .before .before .before .before in
+    let short = row-content-fits (now (s .args .tree)) (s .args .working) in
+    (omega (arith, x .clear .kept .0, w .write-padded .kept .0, v .write-head .kept .0, s .pre .1 .1), omega (arith, ap length (c .content-at .ensures), short))
 
 same-length : tie.Need-same-length
 same-length c = search needs
@@ -43,15 +39,11 @@ returns c = let z = c .before .before in
     let x = y .before .before .before .before in
     let w = x .before .before .before .before in
     let v = w .before .before .before .before in
-    let s = c .before .before .before .before .before .before .before .before .before .before .before .before .before .before .before .before .before .before .before .before in
+    let s = v .before .before .before .before .before in
     let a = s .args in
-    let k = row-at (now (a .tree)) (a .working) .here .content in
-    z .write-padded2 .ensures
-    ∙ ap (λ (t : Text). paste (x .clear .last .0) 72 (padded content-width t) 80) (y .content-at .ensures)
-    ∙ ap (λ (l : List ℕ). paste l 72 (padded content-width k) 80) (x .clear .ensures)
-    ∙ ap (λ (l : List ℕ). paste (paste l 16 (replicate 216 0) 216) 72 (padded content-width k) 80) (w .write-padded .ensures)
-    ∙ ap (λ (l : List ℕ). paste (paste (paste l 8 (padded name-width (now (a .name))) 8) 16 (replicate 216 0) 216) 72 (padded content-width k) 80) (v .write-head .ensures)
-    ∙ entry-written (a .depth) (now (a .name)) k (a .node) (s .pre .1 .0) (row-content-fits (now (a .tree)) (a .working)) (now (a .row)) (s .pre .1 .1)
+    let T = now (a .tree) in
+    entry-written (a .depth) (now (a .name)) (row-at T (a .working) .here .content) (a .node) (s .pre .1 .0) (row-content-fits T (a .working))
+    (now (a .row)) (s .pre .1 .1) (v .write-head .ensures) (w .write-padded .ensures) (x .clear .ensures) (y .content-at .ensures) (z .write-padded2 .ensures)
 
 pub write-entry-spec : {M : Type 1} → statement M
 write-entry-spec =
