@@ -28,13 +28,7 @@ fn caller_in(store: &[u8], uid: Uid) -> Known
 }
 
 // A command by whom the setup knows under an account number.
-fn by_caller(
-    store: &mut [u8],
-    uid: Uid,
-    line: &[u8],
-    command: Command,
-    answer: &mut [u8],
-) -> Answer
+fn by_caller(store: &mut [u8], uid: Uid, line: &[u8], command: Command, answer: &mut [u8]) -> Answer
     requires { ⌜ Some-store (now store) ⌝ }
     requires { ⌜ Meaningful (now line) command ⌝ }
     requires { ⌜ 4096 ≤ length (now answer) ⌝ }

@@ -76,7 +76,7 @@ module _ (t : Text) (c : Parts) where
   shell-case {k} key m =
       let low = ltb-true (case-of c) 10 (key-passes (λ n. ltb n 10) 0 of-shell-keys (case-of c) refl key) in
       elim (sorted t c k m) [
-        of-shell e i q ↦ (e, q)
+        | of-shell e i q ↦ (e, q)
         | of-sessions e j i n q ↦ absurd (omega arith)
         | of-entries e i n q ↦ absurd (omega arith)
       ]
@@ -88,7 +88,7 @@ module _ (t : Text) (c : Parts) where
   entry-case {k} key m =
       let high = leb-true 12 (case-of c) (key-passes (leb 12) 12 of-entry-keys (case-of c) refl key) in
       elim (sorted t c k m) [
-        of-shell e i q ↦ absurd (omega arith)
+        | of-shell e i q ↦ absurd (omega arith)
         | of-sessions e j i n q ↦ absurd (omega arith)
         | of-entries e i n q ↦ (e, n, q)
       ]
@@ -99,7 +99,7 @@ module _ (t : Text) (c : Parts) where
   no-shell-case e key m =
       let high = leb-true 10 (case-of c) (key-passes (leb 10) 10 not-shell-keys (case-of c) refl key) in
       elim (sorted t c (shell e) m) [
-        of-shell f i q ↦ absurd (omega arith)
+        | of-shell f i q ↦ absurd (omega arith)
         | of-sessions f j i n q ↦ contra {b = true} refl (cc)
         | of-entries f i n q ↦ contra {b = true} refl (cc)
       ]
@@ -110,7 +110,7 @@ module _ (t : Text) (c : Parts) where
   no-entry-case e s key m =
       let low = ltb-true (case-of c) 12 (key-passes (λ n. ltb n 12) 0 not-entry-keys (case-of c) refl key) in
       elim (sorted t c (repository e) m) [
-        of-shell f i q ↦ contra {b = true} refl (cc)
+        | of-shell f i q ↦ contra {b = true} refl (cc)
         | of-sessions f j i n q ↦ let same : e ≡ f = cc in contra s (rw same n)
         | of-entries f i n q ↦ absurd (omega arith)
       ]

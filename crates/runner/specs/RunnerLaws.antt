@@ -7,7 +7,7 @@ use mathlib.Core.Bool.{true, _&&_}
 use Prim.Native.Nat.{ℕ, _-_, _≤_, _<_}
 use native.Mathlib.Omega.{arith}
 use lib.ListN.{length, take, drop, take-append-drop, length-drop, drop-of-length-le}
-use lib.Seq.{take-at, drop-at, take-all, length-take-le}
+use lib.Seq.{take-at, take-all, length-take-le}
 use borrow.Author.Tests.{ltb-true}
 use Rattle.buffers.specs.Cases.{and-both}
 use Rattle.buffers.specs.Text.{Text}
@@ -30,7 +30,6 @@ use Rattle.tree.specs.Node.{Node}
 use Rattle.tree.specs.Layout.{content-width}
 use Rattle.tree.specs.Encoding.{encode-tree}
 use Rattle.tree.specs.TreeBytes.{Encodes, Whole}
-use Rattle.tree.specs.TreeBytesLaws.{encodes}
 use Rattle.shell.specs.declared.Answer.{Answer}
 use Rattle.shell.specs.Steps.{run-shell}
 use Rattle.shell.specs.Replies.{reply, answer-of, written}
@@ -40,6 +39,7 @@ use Rattle.store.specs.StateLaws.{parts}
 use Rattle.store.specs.StoreBytes.{header-width, store-width, header-bytes, encode, decode}
 use Rattle.store.specs.HeaderLaws.{length-header}
 use Rattle.store.specs.StoreBytesLaws.{encode-decode, decode-length}
+use Rattle.store.specs.DecodeLaws.{tree-read}
 use Rattle.store.specs.Logins.{logged-in, logged-out}
 use Rattle.header.specs.HeaderBytes.{Headed, header-after, Header-follows}
 use Rattle.machine.specs.Machine.{run-login, run-logout, run-repository, run}
@@ -64,7 +64,7 @@ read-stored b s e =
         sixteen = p .sessions;
         bytes = ap (take header-width) (sym (i .0)) ∙ take-at H T header-width l;
       };
-      tree = rw (← i .0, drop-at H T header-width l) (encodes (p .tree));
+      tree = tree-read b s e;
     }
 
 -- ---- a store's bytes lent in two parts

@@ -8,10 +8,12 @@ use lib.ListN.{getD}
 use Rattle.buffers.specs.Cases.{contra}
 use Rattle.accounts.specs.declared.Account.{Account}
 use Rattle.accounts.specs.declared.Caller.{Caller}
+use Rattle.accounts.specs.declared.Pair.{Pair}
 use Rattle.accounts.specs.declared.Role.{Role}
 use Rattle.accounts.specs.declared.Session.{Session}
 use Rattle.accounts.specs.declared.Session.the-variants.{Nobody, As}
-use Rattle.accounts.specs.Dominance.{Bounded-role}
+use Rattle.accounts.specs.Closure.{rows-of, session-dominates}
+use Rattle.accounts.specs.Dominance.{Bounded-role, dominates}
 use Rattle.accounts.specs.Service.{service}
 use Rattle.commands.specs.Command.{Repository-command, login, logout, add, co, commit, up, del}
 use Rattle.setup.specs.Setup.{Setup}
@@ -24,6 +26,7 @@ use Rattle.shell.specs.Replies.{reply, answer-of, written}
 use Rattle.store.specs.State.{Store, State}
 use Rattle.tree.specs.TreeBytes.{Encodes}
 use Rattle.header.specs.HeaderBytes.{session-held}
+use Rattle.header.specs.PairRowsLaws.{rows-tell-session}
 use Rattle.machine.specs.Machine.{session, run-add, run-co, run-commit, run-up, run-del, run-repository}
 use Rattle.machine.specs.StoreMachine.{store}
 use Rattle.shell.specs.CommandBytes.{Follows-silently}
@@ -43,6 +46,11 @@ pub held-some : (r : Role) (o : Option Bounded-role) → As r ≡ session-held o
 unfolding session-held
 held-some r none e = contra {b = true} refl (cc)
 held-some r (some z) e = (z, refl, cc)
+
+-- the rows of the setup's pairs tell what the session's role dominates
+pub session-tells : (ps : List Pair) (rows : List ℕ) → rows ≡ rows-of ps → {session : Session} {role : Role} (z r : Bounded-role)
+    → session ≡ session-held (some z) → r .role ≡ role → session-dominates session rows role ≡ dominates ps (z .role) role
+session-tells ps rows e z r held q = rw (held, ← q) (rows-tell-session ps rows e z r)
 
 module _ {b : List ℕ} {s : State} (h : Stored b s) (c : Caller) where
   -- the caller's session

@@ -24,7 +24,12 @@ fn log_in(store: &mut [u8], caller: Caller, role: Role, line: &[u8], password: S
     ensures { λ r. ⌜ Login-done caller role (span-text (now (line .entry)) password) (now (store .entry)) r (now (store .exit)) ⌝ }
 {
     let account = caller.account;
-    login(&mut store[..HEADER], account.uid, role, part(line, password))
+    login(
+        &mut store[..HEADER],
+        account.uid,
+        role,
+        part(line, password),
+    )
 }
 
 // `logout` on the store's header.

@@ -37,13 +37,7 @@ fn dominance_in(store: &[u8]) -> Dominance
 }
 
 // A command in the session of a role.
-fn as_role(
-    store: &mut [u8],
-    caller: Caller,
-    role: Role,
-    line: &[u8],
-    command: Command,
-) -> Answer
+fn as_role(store: &mut [u8], caller: Caller, role: Role, line: &[u8], command: Command) -> Answer
     requires { ⌜ Some-store (now store) ⌝ }
     requires { ⌜ Meaningful (now line) command ⌝ }
     requires { ⌜ role .0 < 8 ⌝ }
@@ -52,7 +46,15 @@ fn as_role(
     let dominance = dominance_in(store);
     let account = dominance.account(role);
     let session = Session::As(role);
-    entry_command(&mut store[HEADER..], caller, account, session, dominance, line, command)
+    entry_command(
+        &mut store[HEADER..],
+        caller,
+        account,
+        session,
+        dominance,
+        line,
+        command,
+    )
 }
 
 // A command in the caller's session, refused without one.

@@ -32,13 +32,7 @@ pub fn shell_command(
     ensures { λ r. ⌜ Shell-done caller (now (line .entry)) command (now (tree .entry)) (now (answer .entry)) r (now (tree .exit)) (now (answer .exit)) ⌝ }
 {
     match command {
-        Command::Create { path, mode } => create(
-            tree,
-            caller,
-            Kind::File,
-            part(line, path),
-            mode,
-        ),
+        Command::Create { path, mode } => create(tree, caller, Kind::File, part(line, path), mode),
         Command::Mkdir { path, mode } => create(
             tree,
             caller,

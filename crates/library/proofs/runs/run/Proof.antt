@@ -44,7 +44,7 @@ by-caller-requires c κs =
     let a = c .before .before .before .before .before .before .before .before .before .before .before .before .before .args in
     let s = the-some (decode (now (a .store))) (answers-true (c .before .before .before .before .before .before .before .holds-store .ensures) (c .before .before .before .before .before .before .if2 .left)) in
     let l = parsed-line (now (a .line)) _ _ (ap (parsed (now (a .line))) (sym (c .before .before .before .caller .given .1)) ∙ c .before .before .before .before .before .parse .ensures) in
-    ((s .0, read-stored _ (s .0) (s .1)), ((l .0, record { means = l .1; in-range = l .3; temp = ? }), omega (arith, c .before .before .before .before .before .before .before .before .before .if1 .left)))
+    ((s .0, read-stored _ (s .0) (s .1)), ((l .0, record { means = l .1; in-range = l .3 }), omega (arith, c .before .before .before .before .before .before .before .before .before .if1 .left)))
 
 same-length-2 : tie.Need-same-length-2
 same-length-2 c = search needs
@@ -68,7 +68,7 @@ returns-4 c =
     let s = the-some (decode (now (a .store))) (answers-true (c .before .before .before .before .before .before .before .before .before .before .before .before .holds-store .ensures) (c .before .before .before .before .before .before .before .before .before .before .before .if2 .left)) in
     let l = parsed-line (now (a .line)) _ _ (ap (parsed (now (a .line))) (sym (c .before .before .before .before .before .before .before .before .caller .given .1)) ∙ c .before .before .before .before .before .before .before .before .before .before .parse .ensures) in
     run-carried (now (a .store)) (now (a .answer)) (now (a .line)) (s .0) (omega (arith, c .before .before .before .before .before .before .before .before .before .before .before .before .before .before .if1 .left)) (s .1) _ (l .0) (l .2)
-    (c .before .before .before .before .by-caller .ensures (s .0) (l .0) (read-stored _ (s .0) (s .1)) (record { means = l .1; in-range = l .3; temp = ? }))
+    (c .before .before .before .before .by-caller .ensures (s .0) (l .0) (read-stored _ (s .0) (s .1)) (record { means = l .1; in-range = l .3 }))
 
 pub run-spec : {M : Type 1} → statement M
 run-spec =

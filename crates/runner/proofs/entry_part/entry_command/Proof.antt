@@ -1,131 +1,152 @@
+-- `runner::entry_part::entry_command` meets its contract: each case is the command that its parts mean.
+use mathlib.Core.Path.{_∙_}
+use denote.Ref.{now}
+use Rattle.commands.specs.Parsed.{Means}
+use Rattle.machine.specs.Machine.{run-repository}
+use Rattle.runner.specs.RunnerLaws.{meant-as, part-read, same-entry, role-low}
+use Rattle.runner.specs.SessionStepLaws.{session-tells}
+use Rattle.runner.proofs.Tags.{no-entry-case}
 use borrow.Author.Needs.{needs}
 use Rattle.runner.proofs.entry_part.entry_command.Statement.{statement}
 use Rattle.runner.proofs.entry_part.entry_command.Tie as tie
-use Rattle.runner.proofs.entry_part.entry_command.Reads as reads
-use Rattle.runner.proofs.entry_part.entry_command.Lts as lts
-use Rattle.accounts.proofs.Session.dominates.Reads as dominates-reads
-use Rattle.checkout.proofs.co.Reads as co-reads
-use Rattle.entries.proofs.add.Reads as add-reads
-use Rattle.entries.proofs.commit.Reads as commit-reads
-use Rattle.entries.proofs.up.Reads as up-reads
-use Rattle.entries.proofs.del.Reads as del-reads
-use Rattle.runner.proofs.line_part.part.Reads as part-reads
 
--- src/entry_part.rt:34:13
 enum-known-command : tie.Need-enum-known-command
-enum-known-command c = search needs
+enum-known-command c = c .match .keys1
 
--- src/entry_part.rt:41:13
 dominates-requires : tie.Need-dominates-requires
 dominates-requires c κs = search needs
 
--- src/entry_part.rt:42:13
 part-requires : tie.Need-part-requires
-part-requires c κs = ?
+unfolding Means
+part-requires c κs = let s = c .before .before .before .before .before .before .before in meant-as (c .before .before .before .command .given .1) (s .pre .1 .1) .3 .inside
 
--- src/entry_part.rt:43:13
 part-requires-2 : tie.Need-part-requires-2
-part-requires-2 c κs = ?
+unfolding Means
+part-requires-2 c κs = let s = c .before .before .before .before .before .before .before .before in meant-as (c .before .before .before .before .command .given .1) (s .pre .1 .1) .4 .inside
 
--- src/entry_part.rt:37:14
 add-requires : tie.Need-add-requires
-add-requires c κs = ?
+unfolding Means
+add-requires c κs =
+    let s = c .before .before .before .before .before .before .before .before .before in
+    let i = meant-as (c .before .before .before .before .before .command .given .1) (s .pre .1 .1) in
+    let e = part-read _ (c .part2 .ensures) (i .4) in
+    (s .pre .0, ((i .0, part-read _ (c .before .part .ensures) (i .3)), ((i .1, e), role-low (i .2) (i .5))))
 
--- src/entry_part.rt:46:23
 enum-known-command-2 : tie.Need-enum-known-command-2
-enum-known-command-2 c = search needs
+enum-known-command-2 c = c .match .keys2
 
--- src/entry_part.rt:50:13
 part-requires-3 : tie.Need-part-requires-3
-part-requires-3 c κs = ?
+unfolding Means
+part-requires-3 c κs = let s = c .before .before .before .before .before .before in meant-as (c .before .before .command2 .given .1) (s .pre .1 .1) .2 .inside
 
--- src/entry_part.rt:51:13
 part-requires-4 : tie.Need-part-requires-4
-part-requires-4 c κs = ?
+unfolding Means
+part-requires-4 c κs = let s = c .before .before .before .before .before .before .before in meant-as (c .before .before .before .command2 .given .1) (s .pre .1 .1) .3 .inside
 
--- src/entry_part.rt:46:38
 co-requires : tie.Need-co-requires
-co-requires c κs = ?
+unfolding Means
+co-requires c κs =
+    let s = c .before .before .before .before .before .before .before .before in
+    let i = meant-as (c .before .before .before .before .command2 .given .1) (s .pre .1 .1) in
+    (s .pre .0, ((i .0, part-read _ (c .before .part3 .ensures) (i .2)), (i .1, part-read _ (c .part4 .ensures) (i .3))))
 
--- src/entry_part.rt:53:27
 enum-known-command-3 : tie.Need-enum-known-command-3
-enum-known-command-3 c = search needs
+enum-known-command-3 c = c .match .keys3
 
--- src/entry_part.rt:53:70
 part-requires-5 : tie.Need-part-requires-5
-part-requires-5 c κs = ?
+unfolding Means
+part-requires-5 c κs = let s = c .before .before .before .before .before .before in meant-as (c .before .before .command3 .given .1) (s .pre .1 .1) .1 .inside
 
--- src/entry_part.rt:53:40
 commit-requires : tie.Need-commit-requires
-commit-requires c κs = ?
+unfolding Means
+commit-requires c κs =
+    let s = c .before .before .before .before .before .before .before in
+    let i = meant-as (c .before .before .before .command3 .given .1) (s .pre .1 .1) in
+    (s .pre .0, (i .0, part-read _ (c .part5 .ensures) (i .1)))
 
--- src/entry_part.rt:54:23
 enum-known-command-4 : tie.Need-enum-known-command-4
-enum-known-command-4 c = search needs
+enum-known-command-4 c = c .match .keys4
 
--- src/entry_part.rt:54:62
 part-requires-6 : tie.Need-part-requires-6
-part-requires-6 c κs = ?
+unfolding Means
+part-requires-6 c κs = let s = c .before .before .before .before .before .before in meant-as (c .before .before .command4 .given .1) (s .pre .1 .1) .1 .inside
 
--- src/entry_part.rt:54:36
 up-requires : tie.Need-up-requires
-up-requires c κs = ?
+unfolding Means
+up-requires c κs =
+    let s = c .before .before .before .before .before .before .before in
+    let i = meant-as (c .before .before .before .command4 .given .1) (s .pre .1 .1) in
+    (s .pre .0, (i .0, part-read _ (c .part6 .ensures) (i .1)))
 
--- src/entry_part.rt:55:24
 enum-known-command-5 : tie.Need-enum-known-command-5
-enum-known-command-5 c = search needs
+enum-known-command-5 c = c .match .keys5
 
--- src/entry_part.rt:55:54
 part-requires-7 : tie.Need-part-requires-7
-part-requires-7 c κs = ?
+unfolding Means
+part-requires-7 c κs = let s = c .before .before .before .before .before .before in meant-as (c .before .before .command5 .given .1) (s .pre .1 .1) .1 .inside
 
--- src/entry_part.rt:55:35
 del-requires : tie.Need-del-requires
-del-requires c κs = ?
+unfolding Means
+del-requires c κs =
+    let s = c .before .before .before .before .before .before .before in
+    let i = meant-as (c .before .before .before .command5 .given .1) (s .pre .1 .1) in
+    (s .pre .0, (i .0, part-read _ (c .part7 .ensures) (i .1)))
 
--- src/entry_part.rt:19:1
 same-length : tie.Need-same-length
-same-length c = search needs
+same-length c = c .before .before .add .kept .0
 
--- src/entry_part.rt:19:1
 returns : tie.Need-returns
-returns c = ?
+unfolding Means run-repository
+returns c j k held rows n m =
+    let a = c .before .before .before .before .before .before .before .before .before .before .before .before .args in
+    let i = meant-as (c .before .before .before .before .before .before .before .before .command .given .1) m in
+    let d = c .before .before .before .before .before .dominates .ensures ∙ session-tells (j .setup .pairs) (a .dominance .rows) rows (j .role) (i .2) held (i .5) in
+    same-entry (a .caller) (j .setup) (j .state) (i .6)
+    (c .before .before .add .ensures (i .0) (i .1) (part-read _ (c .before .before .before .before .part .ensures) (i .3)) (part-read _ (c .before .before .before .part2 .ensures) (i .4)) (i .2) j (i .5) d)
 
--- src/entry_part.rt:19:1
 same-length-2 : tie.Need-same-length-2
-same-length-2 c = search needs
+same-length-2 c = c .before .before .co .kept .0
 
--- src/entry_part.rt:19:1
 returns-2 : tie.Need-returns-2
-returns-2 c = ?
+unfolding Means run-repository
+returns-2 c j k held rows n m =
+    let a = c .before .before .before .before .before .before .before .before .before .before .before .args in
+    let i = meant-as (c .before .before .before .before .before .before .before .command2 .given .1) m in
+    same-entry (a .caller) (j .setup) (j .state) (i .4)
+    (c .before .before .co .ensures j (i .0) (i .1) (part-read _ (c .before .before .before .before .part3 .ensures) (i .2)) (part-read _ (c .before .before .before .part4 .ensures) (i .3)))
 
--- src/entry_part.rt:19:1
 same-length-3 : tie.Need-same-length-3
-same-length-3 c = search needs
+same-length-3 c = c .before .before .commit .kept .0
 
--- src/entry_part.rt:19:1
 returns-3 : tie.Need-returns-3
-returns-3 c = ?
+unfolding Means run-repository
+returns-3 c j k held rows n m =
+    let a = c .before .before .before .before .before .before .before .before .before .before .args in
+    let i = meant-as (c .before .before .before .before .before .before .command3 .given .1) m in
+    same-entry (a .caller) (j .setup) (j .state) (i .2) (c .before .before .commit .ensures (i .0) (part-read _ (c .before .before .before .part5 .ensures) (i .1)) j)
 
--- src/entry_part.rt:19:1
 same-length-4 : tie.Need-same-length-4
-same-length-4 c = search needs
+same-length-4 c = c .before .before .up .kept .0
 
--- src/entry_part.rt:19:1
 returns-4 : tie.Need-returns-4
-returns-4 c = ?
+unfolding Means run-repository
+returns-4 c j k held rows n m =
+    let a = c .before .before .before .before .before .before .before .before .before .before .args in
+    let i = meant-as (c .before .before .before .before .before .before .command4 .given .1) m in
+    same-entry (a .caller) (j .setup) (j .state) (i .2) (c .before .before .up .ensures (i .0) (part-read _ (c .before .before .before .part6 .ensures) (i .1)) j)
 
--- src/entry_part.rt:19:1
 same-length-5 : tie.Need-same-length-5
-same-length-5 c = search needs
+same-length-5 c = c .before .before .del .kept .0
 
--- src/entry_part.rt:19:1
 returns-5 : tie.Need-returns-5
-returns-5 c = ?
+unfolding Means run-repository
+returns-5 c j k held rows n m =
+    let a = c .before .before .before .before .before .before .before .before .before .before .args in
+    let i = meant-as (c .before .before .before .before .before .before .command5 .given .1) m in
+    same-entry (a .caller) (j .setup) (j .state) (i .2) (c .before .before .del .ensures (a .caller) (i .0) (part-read _ (c .before .before .before .part7 .ensures) (i .1)) j)
 
--- src/entry_part.rt:19:1
 returns-6 : tie.Need-returns-6
-returns-6 c = ?
+returns-6 c j k held rows n m = let a = c .before .before .before .args in no-entry-case (now (a .line)) (a .command) k n (c .match .keys6) (m .means)
 
 pub entry-command-spec : {M : Type 1} → statement M
 entry-command-spec =
