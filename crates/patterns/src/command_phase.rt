@@ -4,7 +4,6 @@ ghost use lib.ListN.{length};
 ghost use Rattle.patterns.specs.Held.{Held, Stays, Roomy};
 use crate::Step;
 use crate::Window;
-use crate::library;
 use crate::streams::print;
 use crate::streams::refill;
 use printing::NextLine;

@@ -1,6 +1,5 @@
 // The listing: its lines from 0 on until the library has no more.
 ghost use Rattle.patterns.specs.Held.{Roomy};
-use crate::library;
 use crate::streams::print;
 use printing::is_missing;
 use printing::write_listed;

@@ -1,6 +1,5 @@
 // Reads setup and commands from standard input and prints the answers and then the listing.
 mod command_phase;
-mod library;
 mod listing_phase;
 mod setup_phase;
 mod streams;

@@ -3,7 +3,6 @@ ghost use Rattle.patterns.specs.Held.{Held, Stays, Roomy, Wide};
 ghost use lib.ListN.{length};
 use crate::Step;
 use crate::Window;
-use crate::library;
 use crate::streams::print;
 use crate::streams::refill;
 use crate::streams::say;

@@ -5,7 +5,7 @@ use Rattle.patterns.proofs.command_phase.run_line.Statement.{statement}
 use Rattle.patterns.proofs.command_phase.run_line.Tie as tie
 use Rattle.patterns.proofs.command_phase.run_line.Reads as reads
 use Rattle.patterns.proofs.command_phase.run_line.Lts as lts
-use Rattle.patterns.proofs.library.run.Reads as run-reads
+use Rattle.library.proofs.run.Reads as run-reads
 use Rattle.patterns.proofs.streams.print.Reads as print-reads
 use Rattle.printing.proofs.write_reply.Reads as write-reply-reads
 

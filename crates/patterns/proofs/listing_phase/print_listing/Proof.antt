@@ -11,7 +11,7 @@ use Rattle.patterns.proofs.listing_phase.print_listing.Statement.{state
 use Rattle.patterns.proofs.listing_phase.print_listing.Tie as tie
 use Rattle.patterns.proofs.listing_phase.print_listing.Reads as reads
 use Rattle.patterns.proofs.listing_phase.print_listing.Lts as lts
-use Rattle.patterns.proofs.library.listing.Reads as listing-reads
+use Rattle.library.proofs.listing.Reads as listing-reads
 use Rattle.patterns.proofs.streams.print.Reads as print-reads
 use Rattle.printing.proofs.is_missing.Reads as is-missing-reads
 use Rattle.printing.proofs.write_listed.Reads as write-listed-reads

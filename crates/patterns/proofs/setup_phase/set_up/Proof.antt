@@ -9,7 +9,7 @@ use Rattle.patterns.proofs.setup_phase.set_up.Statement.{statement}
 use Rattle.patterns.proofs.setup_phase.set_up.Tie as tie
 use Rattle.patterns.proofs.setup_phase.set_up.Reads as reads
 use Rattle.patterns.proofs.setup_phase.set_up.Lts as lts
-use Rattle.patterns.proofs.library.setup.Reads as setup-reads
+use Rattle.library.proofs.setup.Reads as setup-reads
 use Rattle.patterns.proofs.streams.print.Reads as print-reads
 use Rattle.printing.proofs.is_done.Reads as is-done-reads
 use Rattle.printing.proofs.write_reply.Reads as write-reply-reads
