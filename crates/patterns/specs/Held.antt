@@ -1,11 +1,14 @@
 -- What the program's functions ask of their buffers.
 use mathlib.Core.Path.{_≡_}
 use mathlib.Core.List.{List}
-use Prim.Native.Nat.{ℕ, _+_, _≤_}
+use Prim.Native.Nat.{ℕ, _≤_}
 use lib.ListN.{length}
 use Rattle.patterns.specs.declared.Window.{Window}
 use Rattle.patterns.specs.declared.Step.{Step}
 use Rattle.patterns.specs.declared.Step.the-variants.{On, Over, Failed}
+use Rattle.patterns.specs.declared.Turn.{Turn}
+use Rattle.patterns.specs.declared.Turn.the-variants.{Line, Read}
+use Rattle.patterns.specs.declared.Turn.the-variants
 
 -- the buffer that standard input is read into
 abbrev pub Wide : List ℕ → Type 0
@@ -23,6 +26,17 @@ Stays (On w) n = Held w n
 Stays (Over w) n = Held w n
 Stays Failed n = Unit {0}
 
--- what is printed for an answer has room
-abbrev pub Roomy : List ℕ → List ℕ → Type 0
-Roomy answer out = length answer + 32 ≤ length out
+-- the line that a turn takes lies between the window's start and the buffer's end, and so does what is left behind it
+pub record Line-held (end : ℕ) (rest w : Window) (n : ℕ) : Type 0 where
+  pub begins : w .from ≤ end
+  pub ends : end ≤ n
+  pub behind : Held rest n
+
+abbrev pub Turns : Turn → Window → ℕ → Type 0
+Turns (Line end rest) w n = Line-held end rest w n
+Turns Read w n = Unit {0}
+Turns the-variants.Over w n = Unit {0}
+
+-- the buffer for the library's answers
+abbrev pub Answering : List ℕ → Type 0
+Answering answer = length answer ≡ 4096

@@ -1,12 +1,16 @@
 // The listing: its lines from 0 on until the library has no more.
+<<<<<<< HEAD
 ghost use Rattle.patterns.specs.Held.{Roomy};
 use crate::streams::print;
+=======
+ghost use Rattle.patterns.specs.Held.{Answering};
+use crate::streams::print_listed;
+>>>>>>> 591b286 (The program: what to do next is decided apart, and lines are printed from a local buffer)
 use printing::is_missing;
-use printing::write_listed;
 
 // Prints all lines: one for each of at most 256 nodes, so the last call says that there is none.
-pub fn print_listing(store: &[u8], answer: &mut [u8], out: &mut [u8])
-    requires { ⌜ Roomy (now answer) (now out) ⌝ }
+pub fn print_listing(store: &[u8], answer: &mut [u8])
+    requires { ⌜ Answering (now answer) ⌝ }
 {
     let mut n: usize = 0;
     while n < 257 {
@@ -14,8 +18,7 @@ pub fn print_listing(store: &[u8], answer: &mut [u8], out: &mut [u8])
         if is_missing(r) {
             return;
         }
-        let m = write_listed(r, answer, out);
-        if !print(out, m) {
+        if !print_listed(r, answer) {
             return;
         }
         n += 1;

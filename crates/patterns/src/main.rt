@@ -5,7 +5,7 @@ mod setup_phase;
 mod streams;
 
 ghost use lib.ListN.{length};
-ghost use Rattle.patterns.specs.Held.{Held, Roomy, Wide};
+ghost use Rattle.patterns.specs.Held.{Held, Answering, Wide};
 use command_phase::run_lines;
 use listing_phase::print_listing;
 use setup_phase::read_setup;
@@ -31,26 +31,36 @@ pub enum Step {
     Failed,
 }
 
+// What is to be done next with the command lines.
+pub enum Turn {
+    // The line up to this place is to be run, unless it has been answered, and then what is left.
+    Line { end: usize, rest: Window },
+    // More of the line is to be read.
+    Read,
+    // There are no more.
+    Over,
+}
+
 // The command lines from a window on, and then the listing.
-fn run_all(store: &mut [u8], window: &mut [u8], w: Window, answer: &mut [u8], out: &mut [u8])
+fn run_all(store: &mut [u8], window: &mut [u8], w: Window, answer: &mut [u8])
     requires { ⌜ Held w (length (now window)) ⌝ }
-    requires { ⌜ Roomy (now answer) (now out) ⌝ }
+    requires { ⌜ Answering (now answer) ⌝ }
 {
-    if run_lines(store, window, w, answer, out) {
-        print_listing(store, answer, out);
+    if run_lines(store, window, w, answer) {
+        print_listing(store, answer);
     }
 }
 
 // The whole program over its buffers.
-fn serve(store: &mut [u8], window: &mut [u8], answer: &mut [u8], out: &mut [u8])
+fn serve(store: &mut [u8], window: &mut [u8], answer: &mut [u8])
     requires { ⌜ Wide (now window) ⌝ }
-    requires { ⌜ Roomy (now answer) (now out) ⌝ }
+    requires { ⌜ Answering (now answer) ⌝ }
 {
     let Step::Over(w) = read_setup(window) else {
         return;
     };
-    if set_up(store, window, w, answer, out) {
-        run_all(store, window, w, answer, out);
+    if set_up(store, window, w, answer) {
+        run_all(store, window, w, answer);
     }
 }
 
@@ -58,6 +68,5 @@ fn main() {
     let mut store = io::large_buffer();
     let mut window = io::large_buffer();
     let mut answer = io::buffer();
-    let mut out = [0u8; 4128];
-    serve(&mut store, &mut window, &mut answer, &mut out);
+    serve(&mut store, &mut window, &mut answer);
 }

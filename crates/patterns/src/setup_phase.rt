@@ -1,15 +1,18 @@
 // The setup: read to its end, and handed to the library.
-ghost use Rattle.patterns.specs.Held.{Held, Stays, Roomy, Wide};
+ghost use Rattle.patterns.specs.Held.{Held, Stays, Answering, Wide};
 ghost use lib.ListN.{length};
 use crate::Step;
 use crate::Window;
+<<<<<<< HEAD
 use crate::streams::print;
+=======
+use crate::streams::print_reply;
+>>>>>>> 591b286 (The program: what to do next is decided apart, and lines are printed from a local buffer)
 use crate::streams::refill;
 use crate::streams::say;
 use printing::SetupEnd;
 use printing::is_done;
 use printing::setup_end;
-use printing::write_reply;
 
 // Reads more of a setup whose end has not been read; where the input has ended, all of it is the setup.
 fn read_more(buffer: &mut [u8], w: Window) -> Step
@@ -63,16 +66,15 @@ pub fn read_setup(buffer: &mut [u8]) -> Step
 }
 
 // Sets the store up from the text in front of the window, and prints a refusal. Whether it is set up.
-pub fn set_up(store: &mut [u8], buffer: &[u8], w: Window, answer: &[u8], out: &mut [u8]) -> bool
+pub fn set_up(store: &mut [u8], buffer: &[u8], w: Window, answer: &[u8]) -> bool
     requires { ⌜ Held w (length (now buffer)) ⌝ }
-    requires { ⌜ Roomy (now answer) (now out) ⌝ }
+    requires { ⌜ Answering (now answer) ⌝ }
 {
     let from = w.from;
     let r = library::setup(store, &buffer[..from]);
     if is_done(r) {
         return true;
     }
-    let n = write_reply(r, answer, out);
-    print(out, n);
+    print_reply(r, answer);
     false
 }

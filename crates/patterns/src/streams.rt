@@ -2,13 +2,16 @@
 ghost use mathlib.Core.Path.{_≡_};
 ghost use Prim.Native.Nat.{_≤_};
 ghost use lib.ListN.{length};
-ghost use Rattle.patterns.specs.Held.{Held, Stays, Wide};
+ghost use Rattle.patterns.specs.Held.{Held, Stays, Wide, Answering};
 use crate::Step;
 use crate::Window;
 use buffers::move_bytes;
 use libc::STDERR_FILENO;
 use libc::STDIN_FILENO;
 use libc::STDOUT_FILENO;
+use printing::write_listed;
+use printing::write_reply;
+use shell::Answer;
 
 impl Window {
     // What is left from a place on, where a line begins.
@@ -31,7 +34,7 @@ pub fn say(text: &[u8]) {
 }
 
 // Prints the first n bytes of a buffer, or says that this failed.
-pub fn print(out: &[u8], n: usize) -> bool
+fn print(out: &[u8], n: usize) -> bool
     requires { ⌜ n ≤ length (now out) ⌝ }
 {
     if io::write_all(STDOUT_FILENO, &out[..n]) {
@@ -39,6 +42,24 @@ pub fn print(out: &[u8], n: usize) -> bool
     }
     say(b"patterns: cannot write to standard output\n");
     false
+}
+
+// Prints the line of an answer.
+pub fn print_reply(r: Answer, answer: &[u8]) -> bool
+    requires { ⌜ Answering (now answer) ⌝ }
+{
+    let mut out = [0u8; 4128];
+    let n = write_reply(r, answer, &mut out);
+    print(&out, n)
+}
+
+// Prints a line of the listing.
+pub fn print_listed(r: Answer, answer: &[u8]) -> bool
+    requires { ⌜ Answering (now answer) ⌝ }
+{
+    let mut out = [0u8; 4128];
+    let n = write_listed(r, answer, &mut out);
+    print(&out, n)
 }
 
 // Reads once behind the first bytes of the buffer, which are kept.

@@ -1,13 +1,7 @@
 -- `patterns::serve` meets its contract: the window that the setup leaves lies in its buffer.
-use native.Mathlib.Omega.{arith}
 use borrow.Author.Needs.{needs}
 use Rattle.patterns.proofs.serve.Statement.{statement}
 use Rattle.patterns.proofs.serve.Tie as tie
-use Rattle.patterns.proofs.serve.Reads as reads
-use Rattle.patterns.proofs.serve.Lts as lts
-use Rattle.patterns.proofs.run_all.Reads as run-all-reads
-use Rattle.patterns.proofs.setup_phase.read_setup.Reads as read-setup-reads
-use Rattle.patterns.proofs.setup_phase.set_up.Reads as set-up-reads
 
 read-setup-requires : tie.Need-read-setup-requires
 read-setup-requires c κs = search needs
@@ -22,13 +16,14 @@ returns : tie.Need-returns
 returns c = search needs
 
 set-up-requires : tie.Need-set-up-requires
-set-up-requires c κs = (rw (c .before .before .before .before .before .w .given .1) at (c .before .before .before .before .before .before .before .before .before .read-setup .ensures), c .before .before .before .before .before .before .before .before .before .before .before .before .before .before .before .pre .1)
+set-up-requires c κs =
+    let u = c .before .before .before .before in
+    (rw (u .w .given .1) at (u .before .before .before .before .read-setup .ensures), u .before .before .before .before .before .before .before .before .before .pre .1)
 
 run-all-requires : tie.Need-run-all-requires
 run-all-requires c κs =
-    let u = c .before .before .before .before .before .before .before .before .before in
-    let r = u .before .before .before .before .before .before .before .before .before .before in
-    (rw (u .before .before .before .before .before .before .w .given .1) at (r .read-setup .ensures), omega (arith, u .set-up .kept .1 .1 .1 .1 .0, r .before .before .before .before .before .before .pre .1))
+    let u = c .before .before .before .before .before .before .before .before .before .before .before in
+    (rw (u .w .given .1) at (u .before .before .before .before .read-setup .ensures), u .before .before .before .before .before .before .before .before .before .pre .1)
 
 same-length-2 : tie.Need-same-length-2
 same-length-2 c = search needs
@@ -39,23 +34,17 @@ same-length-3 c = search needs
 same-length-4 : tie.Need-same-length-4
 same-length-4 c = search needs
 
-same-length-5 : tie.Need-same-length-5
-same-length-5 c = search needs
-
 returns-2 : tie.Need-returns-2
 returns-2 c = search needs
+
+same-length-5 : tie.Need-same-length-5
+same-length-5 c = search needs
 
 same-length-6 : tie.Need-same-length-6
 same-length-6 c = search needs
 
 same-length-7 : tie.Need-same-length-7
 same-length-7 c = search needs
-
-same-length-8 : tie.Need-same-length-8
-same-length-8 c = search needs
-
-same-length-9 : tie.Need-same-length-9
-same-length-9 c = search needs
 
 returns-3 : tie.Need-returns-3
 returns-3 c = search needs
@@ -73,10 +62,8 @@ serve-spec =
     same-length-2
     same-length-3
     same-length-4
-    same-length-5
     returns-2
+    same-length-5
     same-length-6
     same-length-7
-    same-length-8
-    same-length-9
     returns-3)

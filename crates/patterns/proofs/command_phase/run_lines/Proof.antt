@@ -5,38 +5,34 @@ use Prim.Native.Nat.{ℕ}
 use native.Mathlib.Omega.{arith}
 use lib.ListN.{length}
 use borrow.Author.Needs.{needs}
-use Rattle.patterns.specs.Held.{Held, Roomy}
+use Rattle.patterns.specs.Held.{Held, Answering}
 use Rattle.patterns.specs.declared.Window.{Window}
 use Rattle.patterns.proofs.command_phase.run_lines.Statement.{statement}
 use Rattle.patterns.proofs.command_phase.run_lines.Tie as tie
-use Rattle.patterns.proofs.command_phase.run_lines.Reads as reads
-use Rattle.patterns.proofs.command_phase.run_lines.Lts as lts
-use Rattle.patterns.proofs.command_phase.step.Reads as step-reads
 
-record Running (store₀ buffer₀ answer₀ out₀ store buffer answer out : List ℕ) (w : Window) : Type 0 where
+record Running (store₀ buffer₀ answer₀ store buffer answer : List ℕ) (w : Window) : Type 0 where
   stores : length store ≡ length store₀
   buffers : length buffer ≡ length buffer₀
   answers : length answer ≡ length answer₀
-  outs : length out ≡ length out₀
   held : Held w (length buffer)
-  roomy : Roomy answer out
+  answering : Answering answer
 
 abbrev Inv-loop : tie.InvT-loop
-Inv-loop store₀ buffer₀ answer₀ out₀ w₀ turns₀ store buffer answer out w turns = Running store₀ buffer₀ answer₀ out₀ store buffer answer out w
+Inv-loop store₀ buffer₀ answer₀ w₀ turns₀ store buffer answer w turns = Running store₀ buffer₀ answer₀ store buffer answer w
 
 abbrev μ-loop : tie.MeasureT-loop
-μ-loop store₀ buffer₀ answer₀ out₀ w₀ turns₀ store buffer answer out w turns = turns
+μ-loop store₀ buffer₀ answer₀ w₀ turns₀ store buffer answer w turns = turns
 
 loop-holds : tie.Need-loop-holds Inv-loop μ-loop
 loop-holds c =
-    let s = c .before .before .before .before in
-    record { stores = refl; buffers = refl; answers = refl; outs = refl; held = s .pre .0; roomy = s .pre .1 }
+    let s = c .before .before .before in
+    record { stores = refl; buffers = refl; answers = refl; held = s .pre .0; answering = s .pre .1 }
 
 sub-turns : tie.Need-sub-turns Inv-loop μ-loop
 sub-turns c = search needs
 
 step-requires : tie.Need-step-requires Inv-loop μ-loop
-step-requires c κs = let i = c .before .before .before .before .before .loop .inv in (i .held, i .roomy)
+step-requires c κs = let i = c .before .before .before .before .loop .inv in (i .held, i .answering)
 
 enum-known-next : tie.Need-enum-known-next Inv-loop μ-loop
 enum-known-next c = search needs
@@ -46,15 +42,14 @@ loop-less c = search needs
 
 loop-again : tie.Need-loop-again Inv-loop μ-loop
 loop-again c =
-    let i = c .before .before .before .before .before .before .before .before .before .before .before .before .before .before .before .before .before .loop .inv in
-    let w = c .before .before .before .before .before .before .before .before .before .before .before .step in
+    let i = c .before .before .before .before .before .before .before .before .before .before .before .before .before .before .loop .inv in
+    let w = c .before .before .before .before .before .before .before .before .before .step in
     record {
       stores = omega (arith, w .kept .0, i .stores);
       buffers = omega (arith, w .kept .1 .0, i .buffers);
       answers = omega (arith, w .kept .1 .1 .1 .0, i .answers);
-      outs = omega (arith, w .kept .1 .1 .1 .1 .0, i .outs);
       held = rw (c .before .next .given .1) at (w .ensures);
-      roomy = omega (arith, w .kept .1 .1 .1 .0, w .kept .1 .1 .1 .1 .0, i .roomy);
+      answering = omega (arith, w .kept .1 .1 .1 .0, i .answering);
     }
 
 enum-told : tie.Need-enum-told Inv-loop μ-loop
@@ -69,14 +64,14 @@ same-length-2 c = search needs
 same-length-3 : tie.Need-same-length-3 Inv-loop μ-loop
 same-length-3 c = search needs
 
-same-length-4 : tie.Need-same-length-4 Inv-loop μ-loop
-same-length-4 c = search needs
-
 returns : tie.Need-returns Inv-loop μ-loop
 returns c = search needs
 
 enum-told-2 : tie.Need-enum-told-2 Inv-loop μ-loop
 enum-told-2 c = search needs
+
+same-length-4 : tie.Need-same-length-4 Inv-loop μ-loop
+same-length-4 c = search needs
 
 same-length-5 : tie.Need-same-length-5 Inv-loop μ-loop
 same-length-5 c = search needs
@@ -84,26 +79,17 @@ same-length-5 c = search needs
 same-length-6 : tie.Need-same-length-6 Inv-loop μ-loop
 same-length-6 c = search needs
 
+returns-2 : tie.Need-returns-2 Inv-loop μ-loop
+returns-2 c = search needs
+
 same-length-7 : tie.Need-same-length-7 Inv-loop μ-loop
 same-length-7 c = search needs
 
 same-length-8 : tie.Need-same-length-8 Inv-loop μ-loop
 same-length-8 c = search needs
 
-returns-2 : tie.Need-returns-2 Inv-loop μ-loop
-returns-2 c = search needs
-
 same-length-9 : tie.Need-same-length-9 Inv-loop μ-loop
 same-length-9 c = search needs
-
-same-length-10 : tie.Need-same-length-10 Inv-loop μ-loop
-same-length-10 c = search needs
-
-same-length-11 : tie.Need-same-length-11 Inv-loop μ-loop
-same-length-11 c = search needs
-
-same-length-12 : tie.Need-same-length-12 Inv-loop μ-loop
-same-length-12 c = search needs
 
 returns-3 : tie.Need-returns-3 Inv-loop μ-loop
 returns-3 c = search needs
@@ -124,16 +110,13 @@ run-lines-spec =
     same-length
     same-length-2
     same-length-3
-    same-length-4
     returns
     enum-told-2
+    same-length-4
     same-length-5
     same-length-6
+    returns-2
     same-length-7
     same-length-8
-    returns-2
     same-length-9
-    same-length-10
-    same-length-11
-    same-length-12
     returns-3)

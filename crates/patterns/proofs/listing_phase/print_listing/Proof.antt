@@ -1,34 +1,35 @@
--- `patterns::listing_phase::print_listing` meets its contract: both buffers keep their lengths, and at most 257 lines are asked for.
+-- `patterns::listing_phase::print_listing` meets its contract: the buffer keeps its length, and at most 257 lines are asked for.
 use mathlib.Core.Path.{_≡_, refl}
 use mathlib.Core.List.{List}
 use Prim.Native.Nat.{ℕ, _-_}
 use native.Mathlib.Omega.{arith}
 use lib.ListN.{length}
 use borrow.Author.Needs.{needs}
-use Rattle.patterns.specs.Held.{Roomy}
-use Rattle.printing.specs.PrintedLaws.{printed-fits}
+use Rattle.patterns.specs.Held.{Answering}
 use Rattle.patterns.proofs.listing_phase.print_listing.Statement.{statement}
 use Rattle.patterns.proofs.listing_phase.print_listing.Tie as tie
+<<<<<<< HEAD
 use Rattle.patterns.proofs.listing_phase.print_listing.Reads as reads
 use Rattle.patterns.proofs.listing_phase.print_listing.Lts as lts
 use Rattle.library.proofs.listing.Reads as listing-reads
 use Rattle.patterns.proofs.streams.print.Reads as print-reads
 use Rattle.printing.proofs.is_missing.Reads as is-missing-reads
 use Rattle.printing.proofs.write_listed.Reads as write-listed-reads
+=======
+>>>>>>> 591b286 (The program: what to do next is decided apart, and lines are printed from a local buffer)
 
-record Listing-on (answer₀ out₀ answer out : List ℕ) : Type 0 where
+record Listing-on (answer₀ answer : List ℕ) : Type 0 where
   answers : length answer ≡ length answer₀
-  outs : length out ≡ length out₀
-  roomy : Roomy answer out
+  answering : Answering answer
 
 abbrev Inv-loop : tie.InvT-loop
-Inv-loop store answer₀ out₀ n₀ answer out n = Listing-on answer₀ out₀ answer out
+Inv-loop store answer₀ n₀ answer n = Listing-on answer₀ answer
 
 abbrev μ-loop : tie.MeasureT-loop
-μ-loop store answer₀ out₀ n₀ answer out n = 257 - n
+μ-loop store answer₀ n₀ answer n = 257 - n
 
 loop-holds : tie.Need-loop-holds Inv-loop μ-loop
-loop-holds c = record { answers = refl; outs = refl; roomy = c .before .before .before .pre }
+loop-holds c = record { answers = refl; answering = c .before .before .pre }
 
 listing-requires : tie.Need-listing-requires Inv-loop μ-loop
 listing-requires c κs = search needs
@@ -39,23 +40,14 @@ is-missing-requires c κs = search needs
 same-length : tie.Need-same-length Inv-loop μ-loop
 same-length c = search needs
 
-same-length-2 : tie.Need-same-length-2 Inv-loop μ-loop
-same-length-2 c = search needs
-
 returns : tie.Need-returns Inv-loop μ-loop
 returns c = search needs
 
-write-listed-requires : tie.Need-write-listed-requires Inv-loop μ-loop
-write-listed-requires c κs = search needs
+print-listed-requires : tie.Need-print-listed-requires Inv-loop μ-loop
+print-listed-requires c κs = search needs
 
-print-requires : tie.Need-print-requires Inv-loop μ-loop
-print-requires c κs = printed-fits (c .before .before .before .write-listed .ensures)
-
-same-length-3 : tie.Need-same-length-3 Inv-loop μ-loop
-same-length-3 c = search needs
-
-same-length-4 : tie.Need-same-length-4 Inv-loop μ-loop
-same-length-4 c = search needs
+same-length-2 : tie.Need-same-length-2 Inv-loop μ-loop
+same-length-2 c = search needs
 
 returns-2 : tie.Need-returns-2 Inv-loop μ-loop
 returns-2 c = search needs
@@ -68,20 +60,12 @@ loop-less c = search needs
 
 loop-again : tie.Need-loop-again Inv-loop μ-loop
 loop-again c =
-    let i = c .before .before .before .before .before .before .before .before .before .before .before .before .before .before .before .loop .inv in
-    let v = c .before .before .before .before .before .before .before .before .before .before .before .before .listing in
-    let w = c .before .before .before .before .before .write-listed in
-    record {
-      answers = omega (arith, v .kept .1 .1 .0, i .answers);
-      outs = omega (arith, w .kept .1 .1 .0, i .outs);
-      roomy = omega (arith, v .kept .1 .1 .0, w .kept .1 .1 .0, i .roomy);
-    }
+    let i = c .before .before .before .before .before .before .before .before .before .before .loop .inv in
+    let v = c .before .before .before .before .before .before .before .listing in
+    record { answers = omega (arith, v .kept .1 .1 .0, i .answers); answering = omega (arith, v .kept .1 .1 .0, i .answering) }
 
-same-length-5 : tie.Need-same-length-5 Inv-loop μ-loop
-same-length-5 c = search needs
-
-same-length-6 : tie.Need-same-length-6 Inv-loop μ-loop
-same-length-6 c = search needs
+same-length-3 : tie.Need-same-length-3 Inv-loop μ-loop
+same-length-3 c = search needs
 
 returns-3 : tie.Need-returns-3 Inv-loop μ-loop
 returns-3 c = search needs
@@ -96,16 +80,12 @@ print-listing-spec =
     listing-requires
     is-missing-requires
     same-length
-    same-length-2
     returns
-    write-listed-requires
-    print-requires
-    same-length-3
-    same-length-4
+    print-listed-requires
+    same-length-2
     returns-2
     add-n
     loop-less
     loop-again
-    same-length-5
-    same-length-6
+    same-length-3
     returns-3)

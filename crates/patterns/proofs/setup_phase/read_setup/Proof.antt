@@ -9,9 +9,6 @@ use Rattle.patterns.specs.Held.{Held}
 use Rattle.patterns.specs.declared.Window.{Window}
 use Rattle.patterns.proofs.setup_phase.read_setup.Statement.{statement}
 use Rattle.patterns.proofs.setup_phase.read_setup.Tie as tie
-use Rattle.patterns.proofs.setup_phase.read_setup.Reads as reads
-use Rattle.patterns.proofs.setup_phase.read_setup.Lts as lts
-use Rattle.patterns.proofs.setup_phase.seek_end.Reads as seek-end-reads
 
 record Seeking (buffer₀ buffer : List ℕ) (w : Window) : Type 0 where
   buffers : length buffer ≡ length buffer₀

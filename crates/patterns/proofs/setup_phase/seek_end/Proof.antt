@@ -14,11 +14,6 @@ use Rattle.patterns.specs.Held.{Held}
 use borrow.Author.Needs.{needs}
 use Rattle.patterns.proofs.setup_phase.seek_end.Statement.{statement}
 use Rattle.patterns.proofs.setup_phase.seek_end.Tie as tie
-use Rattle.patterns.proofs.setup_phase.seek_end.Reads as reads
-use Rattle.patterns.proofs.setup_phase.seek_end.Lts as lts
-use Rattle.patterns.proofs.Window.behind.Reads as behind-reads
-use Rattle.patterns.proofs.setup_phase.read_more.Reads as read-more-reads
-use Rattle.printing.proofs.setup_end.Reads as setup-end-reads
 
 slice-reshare-prefix-setup-end : tie.Need-slice-reshare-prefix-setup-end
 slice-reshare-prefix-setup-end c = search needs

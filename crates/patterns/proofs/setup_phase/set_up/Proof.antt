@@ -1,21 +1,23 @@
--- `patterns::setup_phase::set_up` meets its contract: the setup is a part of the buffer, and what is printed stands in its own.
+-- `patterns::setup_phase::set_up` meets its contract: the setup is a part of the buffer.
 use mathlib.Core.Path.{sym}
-use denote.Ref.{now}
 use native.Mathlib.Omega.{arith}
 use lib.Seq.{length-take-le}
-use Rattle.printing.specs.PrintedLaws.{printed-fits}
+use denote.Ref.{now}
 use borrow.Author.Needs.{needs}
 use Rattle.patterns.proofs.setup_phase.set_up.Statement.{statement}
 use Rattle.patterns.proofs.setup_phase.set_up.Tie as tie
+<<<<<<< HEAD
 use Rattle.patterns.proofs.setup_phase.set_up.Reads as reads
 use Rattle.patterns.proofs.setup_phase.set_up.Lts as lts
 use Rattle.library.proofs.setup.Reads as setup-reads
 use Rattle.patterns.proofs.streams.print.Reads as print-reads
 use Rattle.printing.proofs.is_done.Reads as is-done-reads
 use Rattle.printing.proofs.write_reply.Reads as write-reply-reads
+=======
+>>>>>>> 591b286 (The program: what to do next is decided apart, and lines are printed from a local buffer)
 
 slice-aggregate-setup : tie.Need-slice-aggregate-setup
-slice-aggregate-setup c = let a = c .before .before .before .before .before .before .args in sym (length-take-le (a .w .from) (now (a .buffer)) (omega arith))
+slice-aggregate-setup c = let a = c .before .before .before .before .before .args in sym (length-take-le (a .w .from) (now (a .buffer)) (omega arith))
 
 setup-requires : tie.Need-setup-requires
 setup-requires c κs = search needs
@@ -29,17 +31,11 @@ same-length c = search needs
 returns : tie.Need-returns
 returns c = search needs
 
-write-reply-requires : tie.Need-write-reply-requires
-write-reply-requires c κs = search needs
-
-print-requires : tie.Need-print-requires
-print-requires c κs = printed-fits (c .before .before .before .write-reply .ensures)
+print-reply-requires : tie.Need-print-reply-requires
+print-reply-requires c κs = search needs
 
 same-length-2 : tie.Need-same-length-2
 same-length-2 c = search needs
-
-same-length-3 : tie.Need-same-length-3
-same-length-3 c = search needs
 
 returns-2 : tie.Need-returns-2
 returns-2 c = search needs
@@ -53,8 +49,6 @@ set-up-spec =
     is-done-requires
     same-length
     returns
-    write-reply-requires
-    print-requires
+    print-reply-requires
     same-length-2
-    same-length-3
     returns-2)

@@ -5,10 +5,6 @@ use lib.Seq.{length-take-le}
 use borrow.Author.Needs.{needs}
 use Rattle.patterns.proofs.streams.print.Statement.{statement}
 use Rattle.patterns.proofs.streams.print.Tie as tie
-use Rattle.patterns.proofs.streams.print.Reads as reads
-use Rattle.patterns.proofs.streams.print.Lts as lts
-use Rattle.io.proofs.write_all.Reads as write-all-reads
-use Rattle.patterns.proofs.streams.say.Reads as say-reads
 
 slice-aggregate-write-all : tie.Need-slice-aggregate-write-all
 slice-aggregate-write-all c = sym (length-take-le (c .before .before .args .n) (now (c .before .before .args .out)) (c .before .before .pre))
