@@ -1,28 +1,24 @@
 -- What has been read and what follows it are cut as the whole input is: setup and commands, and the next command line.
 use mathlib.Core.Path.{_≡_, refl, sym, _∙_, ap, ap₂}
 use mathlib.Core.List.{List, [], _∷_, _++_, append-assoc}
-use mathlib.Core.Option.{Option, none, some}
-use mathlib.Core.Bool.{Bool, true, false, cond, not}
-use Prim.Native.Nat.{ℕ, zero, suc, _+_, _-_, _≤_, _<_}
+use mathlib.Core.Option.{none, some}
+use mathlib.Core.Bool.{Bool, true, false, cond}
+use Prim.Native.Nat.{ℕ, suc, _+_, _-_, _≤_, _<_}
 use native.Mathlib.Omega.{arith}
 use native.Mathlib.Numerals.{add-one}
-use native.Mathlib.Nat.{zero-add}
 use borrow.Author.Tests.{lt-ltb, le-ltb, ltb-true, ltb-false}
 use lib.Dec.{eqb, ltb}
 use lib.ListN.{length, take, drop, length-append, length-drop, drop-of-length-le}
 use lib.Seq.{take-at, drop-at, take-all, drop-drop, length-take-le}
-use Rattle.buffers.specs.Cases.{case, and-both, contra}
-use Rattle.buffers.specs.Text.{Text, same-text, every, lacks}
+use Rattle.buffers.specs.Cases.{case, contra}
+use Rattle.buffers.specs.Text.{Text, same-text}
 use Rattle.syntax.specs.Pieces.{bytes, newline, prefix-first, pieces, joined, piece-length}
 use Rattle.syntax.specs.FormLaws.{answered, no-answer}
 use Rattle.syntax.specs.Parts.{part}
 use Rattle.syntax.specs.PartsLaws.{pieces-some, pieces-first, pieces-first-from, pieces-only-from, piece-end-le, joined-pieces}
 use Rattle.calls.specs.Transcript.{Input, after-end, parts, command-lines}
-use Rattle.printing.specs.declared.SetupEnd.{SetupEnd}
-use Rattle.printing.specs.declared.SetupEnd.the-variants.{At, Open}
-use Rattle.printing.specs.declared.NextLine.{NextLine}
 use Rattle.printing.specs.declared.NextLine.the-variants.{Line, Last, More, Nothing}
-use Rattle.printing.specs.InputLines.{end-after, setup-length, end-told, next-line}
+use Rattle.printing.specs.InputLines.{end-after, setup-length, next-line}
 
 -- ---- the setup's end, found line by line
 

@@ -30,7 +30,7 @@ use Rattle.arguments.specs.Kinds.{Value, Makes, reader, arguments-of}
 use Rattle.commands.specs.declared.Word.{Word}
 use Rattle.commands.specs.Command.{Command, Line, takes, listed, words, form, forms, line-of, line}
 use Rattle.tree.specs.declared.Cause.the-variants.{NoForm}
-use Rattle.tree.specs.Result.{Result, refused, _>>=_ as _then_, Outcome}
+use Rattle.tree.specs.Result.{Result, refused, Outcome}
 use Rattle.tree.specs.ResultLaws.{present-none, refused-bind}
 use Rattle.store.specs.State.{State}
 use Rattle.machine.specs.Runs.{perform}

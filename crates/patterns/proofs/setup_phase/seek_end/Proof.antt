@@ -10,7 +10,6 @@ use Rattle.printing.specs.declared.SetupEnd.{SetupEnd}
 use Rattle.printing.specs.declared.SetupEnd.the-variants.{At}
 use Rattle.printing.specs.InputLines.{end-told, setup-length}
 use Rattle.printing.specs.InputLinesLaws.{setup-in}
-use Rattle.patterns.specs.Held.{Held}
 use borrow.Author.Needs.{needs}
 use Rattle.patterns.proofs.setup_phase.seek_end.Statement.{statement}
 use Rattle.patterns.proofs.setup_phase.seek_end.Tie as tie

@@ -1,5 +1,4 @@
 -- `printing::replies::number` meets its contract: each arm has the number of its row in the table.
-use mathlib.Core.Path.{sym, ap}
 use Rattle.tree.specs.Causes.{number}
 use borrow.Author.Needs.{needs}
 use Rattle.printing.proofs.replies.number.Statement.{statement}

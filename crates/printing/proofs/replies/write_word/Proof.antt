@@ -1,5 +1,4 @@
 -- `printing::replies::write_word` meets its contract: a text copied whole is written.
-use mathlib.Core.Path.{_∙_}
 use denote.Ref.{now}
 use Rattle.buffers.specs.OverLaws.{wrote-text}
 use borrow.Author.Needs.{needs}
