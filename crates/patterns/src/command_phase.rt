@@ -5,11 +5,7 @@ ghost use Rattle.patterns.specs.Held.{Held, Stays, Turns, Answering};
 use crate::Step;
 use crate::Turn;
 use crate::Window;
-<<<<<<< HEAD
-use crate::streams::print;
-=======
 use crate::streams::print_reply;
->>>>>>> 591b286 (The program: what to do next is decided apart, and lines are printed from a local buffer)
 use crate::streams::refill;
 use printing::NextLine;
 use printing::next_line;

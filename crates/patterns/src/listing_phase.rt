@@ -1,11 +1,6 @@
 // The listing: its lines from 0 on until the library has no more.
-<<<<<<< HEAD
-ghost use Rattle.patterns.specs.Held.{Roomy};
-use crate::streams::print;
-=======
 ghost use Rattle.patterns.specs.Held.{Answering};
 use crate::streams::print_listed;
->>>>>>> 591b286 (The program: what to do next is decided apart, and lines are printed from a local buffer)
 use printing::is_missing;
 
 // Prints all lines: one for each of at most 256 nodes, so the last call says that there is none.

@@ -3,11 +3,7 @@ ghost use Rattle.patterns.specs.Held.{Held, Stays, Answering, Wide};
 ghost use lib.ListN.{length};
 use crate::Step;
 use crate::Window;
-<<<<<<< HEAD
-use crate::streams::print;
-=======
 use crate::streams::print_reply;
->>>>>>> 591b286 (The program: what to do next is decided apart, and lines are printed from a local buffer)
 use crate::streams::refill;
 use crate::streams::say;
 use printing::SetupEnd;

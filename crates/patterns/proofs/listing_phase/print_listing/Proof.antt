@@ -8,15 +8,6 @@ use borrow.Author.Needs.{needs}
 use Rattle.patterns.specs.Held.{Answering}
 use Rattle.patterns.proofs.listing_phase.print_listing.Statement.{statement}
 use Rattle.patterns.proofs.listing_phase.print_listing.Tie as tie
-<<<<<<< HEAD
-use Rattle.patterns.proofs.listing_phase.print_listing.Reads as reads
-use Rattle.patterns.proofs.listing_phase.print_listing.Lts as lts
-use Rattle.library.proofs.listing.Reads as listing-reads
-use Rattle.patterns.proofs.streams.print.Reads as print-reads
-use Rattle.printing.proofs.is_missing.Reads as is-missing-reads
-use Rattle.printing.proofs.write_listed.Reads as write-listed-reads
-=======
->>>>>>> 591b286 (The program: what to do next is decided apart, and lines are printed from a local buffer)
 
 record Listing-on (answer₀ answer : List ℕ) : Type 0 where
   answers : length answer ≡ length answer₀

@@ -6,15 +6,6 @@ use denote.Ref.{now}
 use borrow.Author.Needs.{needs}
 use Rattle.patterns.proofs.setup_phase.set_up.Statement.{statement}
 use Rattle.patterns.proofs.setup_phase.set_up.Tie as tie
-<<<<<<< HEAD
-use Rattle.patterns.proofs.setup_phase.set_up.Reads as reads
-use Rattle.patterns.proofs.setup_phase.set_up.Lts as lts
-use Rattle.library.proofs.setup.Reads as setup-reads
-use Rattle.patterns.proofs.streams.print.Reads as print-reads
-use Rattle.printing.proofs.is_done.Reads as is-done-reads
-use Rattle.printing.proofs.write_reply.Reads as write-reply-reads
-=======
->>>>>>> 591b286 (The program: what to do next is decided apart, and lines are printed from a local buffer)
 
 slice-aggregate-setup : tie.Need-slice-aggregate-setup
 slice-aggregate-setup c = let a = c .before .before .before .before .before .args in sym (length-take-le (a .w .from) (now (a .buffer)) (omega arith))
