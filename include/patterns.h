@@ -1,0 +1,54 @@
+/* The pattern repository's library calls, for C and whatever links like it.
+ *
+ * A store is 65,536 bytes that the caller keeps and lends; an answer buffer has at least 4,096. Buffers of one call do not
+ * overlap, and value points to a number of the caller's. Every call returns a number of the table below: 0 where it is done, else
+ * why it was refused, and then store and answer buffer are as they were. *value becomes the length of the text that stands from
+ * the answer buffer's first byte, or for 17 the first wrong line from 1, or PATTERNS_NO_VALUE where there is neither.
+ *
+ * Link with libexports.a (rt staticlib exports).
+ */
+#ifndef PATTERNS_H
+#define PATTERNS_H
+
+#include <stddef.h>
+#include <stdint.h>
+
+#define PATTERNS_STORE 65536
+#define PATTERNS_ANSWER 4096
+#define PATTERNS_NO_VALUE UINT64_MAX
+
+enum patterns_number {
+    PATTERNS_DONE = 0,
+    PATTERNS_NO_FORM = 1,          /* line has no listed form */
+    PATTERNS_UNKNOWN_CALLER = 2,   /* caller's uid not in setup (nor 0) */
+    PATTERNS_MISSING = 3,          /* name missing; listing line past the end */
+    PATTERNS_NOT_DIRECTORY = 4,    /* file in mid-path */
+    PATTERNS_ACCESS = 5,           /* access */
+    PATTERNS_EXISTS = 6,           /* already there */
+    PATTERNS_WRONG_KIND = 7,       /* kind */
+    PATTERNS_NOT_EMPTY = 8,        /* not empty */
+    PATTERNS_RESERVED = 9,         /* reserved */
+    PATTERNS_FULL = 10,            /* nodes would pass 256 */
+    PATTERNS_INTO_ITSELF = 11,     /* into itself */
+    PATTERNS_NO_SESSION = 12,      /* no session */
+    PATTERNS_NO_GRANT = 13,        /* no such grant */
+    PATTERNS_STALE = 14,           /* stale */
+    PATTERNS_UNTAGGED = 15,        /* untagged */
+    PATTERNS_REVISIONS_SPENT = 16, /* revisions spent */
+    PATTERNS_WRONG_SETUP = 17,     /* setup line wrong; *value is the line */
+    PATTERNS_UNSOUND = 18,         /* buffer length or store unsound */
+    PATTERNS_TOO_DEEP = 19,        /* too deep */
+    PATTERNS_SHORT_ANSWER = 20     /* answer buffer under 4,096 */
+};
+
+/* Makes the store that a setup text says, whatever stood there: 18 (length only), then 17. */
+uint32_t patterns_setup(uint8_t *store, size_t store_len, const uint8_t *text, size_t text_len, uint64_t *value);
+
+/* Carries out one command line, without its byte 10. */
+uint32_t patterns_run(uint8_t *store, size_t store_len, const uint8_t *line, size_t line_len, uint8_t *answer,
+                      size_t answer_len, uint64_t *value);
+
+/* Line n of the listing, from 0; the store stays as it is. */
+uint32_t patterns_listing(const uint8_t *store, size_t store_len, size_t n, uint8_t *answer, size_t answer_len, uint64_t *value);
+
+#endif
