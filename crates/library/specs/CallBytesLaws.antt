@@ -2,7 +2,7 @@
 --
 -- In order: setup (unset-elsewhere, unset-wrong, set-done); before a command or a listing (short-call, unsound-call, sound-call); a command
 -- carried out (carried-call) and a line of the listing written (line-called).
-use mathlib.Core.Path.{_≡_, refl, sym, _∙_, ap}
+use mathlib.Core.Path.{_≡_, sym, _∙_, ap}
 use mathlib.Core.List.{List, _++_}
 use mathlib.Core.Option.{none, some}
 use mathlib.Core.Bool.{true, false}
@@ -18,7 +18,7 @@ use Rattle.arguments.specs.KindsLaws.{is-none}
 use Rattle.setup.specs.Setup.{Setup, accepted, wrong-line, setup}
 use Rattle.tree.specs.declared.Cause.{Cause}
 use Rattle.tree.specs.declared.Cause.the-variants.{Missing, Unsound, ShortAnswer}
-use Rattle.tree.specs.Result.{Result, refused, done, _>>=_, _>>_, require, present, Outcome}
+use Rattle.tree.specs.Result.{Result, refused, done, _>>=_, _>>_, Outcome}
 use Rattle.tree.specs.ResultLaws.{present-of, present-none, done-bind, refused-bind, done-then, refused-then, require-true, require-false}
 use Rattle.tree.specs.TreeBytes.{Encodes}
 use Rattle.shell.specs.declared.Answer.{Answer}
@@ -30,7 +30,6 @@ use Rattle.store.specs.Initial.{initial-store}
 use Rattle.store.specs.StoreBytes.{header-width, store-width, encode, decode}
 use Rattle.store.specs.StoreBytesLaws.{decode-length}
 use Rattle.store.specs.DecodeLaws.{tree-read}
-use Rattle.machine.specs.Runs.{least-room}
 use Rattle.machine.specs.RunsLaws.{least-room-is}
 use Rattle.listing.specs.Listing.{listing}
 use Rattle.calls.specs.Calls.{set-up, setup-call, Called, called, encoded, on-state, listing-on, listing-result, listing-call}

@@ -3,7 +3,6 @@ use mathlib.Core.Path.{_≡_}
 use mathlib.Core.List.{List}
 use Prim.Native.Nat.{ℕ}
 use Rattle.buffers.specs.Text.{Text}
-use Rattle.accounts.specs.declared.Caller.{Caller}
 use Rattle.accounts.specs.declared.Uid.{Uid}
 use Rattle.commands.specs.declared.Command.{Command as Parts}
 use Rattle.commands.specs.Command.{Command}

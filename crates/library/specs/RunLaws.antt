@@ -2,7 +2,7 @@
 use mathlib.Core.Path.{_≡_, refl, sym, _∙_, ap}
 use mathlib.Core.List.{List}
 use mathlib.Core.Option.{none, some}
-use mathlib.Core.Bool.{true, false}
+use mathlib.Core.Bool.{false}
 use Prim.Native.Nat.{ℕ, _≤_, _<_}
 use lib.ListN.{length}
 use borrow.Author.Tests.{ltb-true}
@@ -11,7 +11,7 @@ use Rattle.accounts.specs.declared.Caller.{Caller}
 use Rattle.accounts.specs.declared.Uid.{Uid}
 use Rattle.syntax.specs.Form.{is-some}
 use Rattle.arguments.specs.KindsLaws.{is-none}
-use Rattle.commands.specs.Command.{Command, Line, line}
+use Rattle.commands.specs.Command.{Command, line}
 use Rattle.tree.specs.declared.Cause.the-variants.{NoForm, UnknownCaller, Unsound, ShortAnswer}
 use Rattle.tree.specs.Result.{refused, done, _>>=_}
 use Rattle.tree.specs.ResultLaws.{present-of, present-none, done-bind, refused-bind}

@@ -13,8 +13,10 @@ use types.Run.{OneOf}
 use Rattle.buffers.specs.Cases.{contra, and-both}
 use Rattle.buffers.specs.Text.{Text, every}
 use Rattle.commands.specs.declared.Command.{Command as Parts}
-use Rattle.commands.specs.declared.Command.the-variants.{Create, Mkdir, Read, Write, Rm, Rmdir, Mv, Chmod, Chgrp, Chown, Login, Logout, Add, Co, Commit, Up, Del}
-use Rattle.commands.specs.Command.{Shell-command, create, mkdir, read, write, rm, rmdir, mv, chmod, chgrp, chown, Repository-command, login, logout, add, co, commit, up, del, Command, shell, repository}
+use Rattle.commands.specs.declared.Command.the-variants.{Create, Mkdir, Read, Write, Rm, Rmdir, Mv, Chmod, Chgrp, Chown}
+use Rattle.commands.specs.declared.Command.the-variants.{Login, Logout, Add, Co, Commit, Up, Del}
+use Rattle.commands.specs.Command.{Shell-command, create, mkdir, read, write, rm, rmdir, mv, chmod, chgrp, chown}
+use Rattle.commands.specs.Command.{Repository-command, login, logout, add, co, commit, up, del, Command, shell, repository}
 use Rattle.commands.specs.Parsed.{Means}
 use Rattle.commands.proofs.Command.{the-type}
 use Rattle.runner.specs.Runner.{needs-session}

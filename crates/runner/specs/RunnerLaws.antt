@@ -159,7 +159,8 @@ module _ {b : List ℕ} {s : State} (h : Stored b s) where
 -- ---- a shell command
 
 -- its outcome put into the store, read as the tree again
-put-and-read : (s : Store) (r : Result (Outcome (Place Node))) → on-tree-steps (r >>= λ o. done (record { text = o .text; state = record { tree = o .state; sessions = s .sessions } })) ≡ r
+put-and-read : (s : Store) (r : Result (Outcome (Place Node)))
+    → on-tree-steps (r >>= λ o. done (record { text = o .text; state = record { tree = o .state; sessions = s .sessions } })) ≡ r
 unfolding on-tree-steps _>>=_
 put-and-read s (refused k) = refl
 put-and-read s (done o) = refl

@@ -16,7 +16,6 @@ use Rattle.accounts.specs.Closure.{rows-of, session-dominates}
 use Rattle.accounts.specs.Dominance.{Bounded-role, dominates}
 use Rattle.accounts.specs.Service.{service}
 use Rattle.commands.specs.Command.{Repository-command, login, logout, add, co, commit, up, del}
-use Rattle.setup.specs.Setup.{Setup}
 use Rattle.tree.specs.declared.Cause.the-variants.{NoSession}
 use Rattle.tree.specs.Result.{refused, done, Outcome}
 use Rattle.tree.specs.ResultLaws.{present-of, present-none, refused-bind}

@@ -1,10 +1,5 @@
 // The commands that act in a session, on a store's bytes.
-ghost use mathlib.Core.Path.{_≡_};
 ghost use Prim.Native.Nat.{_<_};
-ghost use lib.ListN.{take};
-ghost use Rattle.accounts.specs.Closure.{rows-of};
-ghost use Rattle.store.specs.StoreBytes.{header-width};
-ghost use Rattle.header.specs.HeaderBytes.{Whose, session-held};
 ghost use Rattle.runner.specs.Runner.{Meaningful, Some-store, Session-of, Rows-of, Role-done, Session-done};
 use crate::entry_part::entry_command;
 use accounts::Caller;

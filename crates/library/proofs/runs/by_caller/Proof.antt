@@ -31,7 +31,8 @@ returns : tie.Need-returns
 unfolding known
 returns c s k h m =
     let a = c .before .before .before .before .before .before .before .args in
-    unknown-carries h (a .uid) k (now (a .answer)) (ap known (sym (c .enum-told .given .1)) ∙ c .before .before .caller-in .ensures s h)
+    let e = ap known (sym (c .enum-told .given .1)) ∙ c .before .before .caller-in .ensures s h in
+    unknown-carries h (a .uid) k (now (a .answer)) e
 
 same-length-2 : tie.Need-same-length-2
 same-length-2 c = search needs
@@ -43,7 +44,8 @@ returns-2 : tie.Need-returns-2
 unfolding known
 returns-2 c s k h m =
     let a = c .before .before .before .before .before .before .before .before .before .before .before .before .before .before .before .args in
-    let e = ap known (sym (c .before .before .before .before .before .before .before .before .caller .given .1)) ∙ c .before .before .before .before .before .before .before .before .before .before .caller-in .ensures s h in
+    let there = c .before .before .before .before .before .before .before .before in
+    let e = ap known (sym (there .caller .given .1)) ∙ there .before .before .caller-in .ensures s h in
     known-carries h (a .uid) _ k e (c .before .before .before .before .run-command .ensures s k h m)
 
 pub by-caller-spec : {M : Type 1} → statement M

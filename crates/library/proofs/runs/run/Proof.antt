@@ -41,20 +41,27 @@ enum-known-caller c = search needs
 
 by-caller-requires : tie.Need-by-caller-requires
 by-caller-requires c κs =
-    let a = c .before .before .before .before .before .before .before .before .before .before .before .before .before .args in
-    let s = the-some (decode (now (a .store))) (answers-true (c .before .before .before .before .before .before .before .holds-store .ensures) (c .before .before .before .before .before .before .if2 .left)) in
-    let l = parsed-line (now (a .line)) _ _ (ap (parsed (now (a .line))) (sym (c .before .before .before .caller .given .1)) ∙ c .before .before .before .before .before .parse .ensures) in
-    ((s .0, read-stored _ (s .0) (s .1)), ((l .0, record { means = l .1; in-range = l .3 }), omega (arith, c .before .before .before .before .before .before .before .before .before .if1 .left)))
+    let is = c .before .before .before in
+    let p = is .before .before in
+    let held = p .before .before in
+    let wide = held .before .before in
+    let a = wide .before .before .before .before .args in
+    let s = the-some (decode (now (a .store))) (answers-true (held .holds-store .ensures) (p .before .if2 .left)) in
+    let l = parsed-line (now (a .line)) _ _ (ap (parsed (now (a .line))) (sym (is .caller .given .1)) ∙ p .parse .ensures) in
+    ((s .0, read-stored _ (s .0) (s .1)), ((l .0, record { means = l .1; in-range = l .3 }), omega (arith, wide .if1 .left)))
 
 same-length-2 : tie.Need-same-length-2
 same-length-2 c = search needs
 
 returns-3 : tie.Need-returns-3
 returns-3 c =
-    let a = c .before .before .before .before .before .before .before .before .before .before .args in
-    let s = the-some (decode (now (a .store))) (answers-true (c .before .before .before .before .holds-store .ensures) (c .before .before .before .if2 .left)) in
-    let n = parsed-none (now (a .line)) (ap (parsed (now (a .line))) (sym (c .enum-told .given .1)) ∙ c .before .before .parse .ensures) in
-    run-unformed (now (a .store)) (now (a .answer)) (now (a .line)) (s .0) (omega (arith, c .before .before .before .before .before .before .if1 .left)) (s .1) n
+    let p = c .before .before in
+    let held = p .before .before in
+    let wide = held .before .before in
+    let a = wide .before .before .before .before .args in
+    let s = the-some (decode (now (a .store))) (answers-true (held .holds-store .ensures) (p .before .if2 .left)) in
+    let n = parsed-none (now (a .line)) (ap (parsed (now (a .line))) (sym (c .enum-told .given .1)) ∙ p .parse .ensures) in
+    run-unformed (now (a .store)) (now (a .answer)) (now (a .line)) (s .0) (omega (arith, wide .if1 .left)) (s .1) n
 
 same-length-3 : tie.Need-same-length-3
 same-length-3 c = search needs
@@ -64,11 +71,15 @@ same-length-4 c = search needs
 
 returns-4 : tie.Need-returns-4
 returns-4 c =
-    let a = c .before .before .before .before .before .before .before .before .before .before .before .before .before .before .before .before .before .before .args in
-    let s = the-some (decode (now (a .store))) (answers-true (c .before .before .before .before .before .before .before .before .before .before .before .before .holds-store .ensures) (c .before .before .before .before .before .before .before .before .before .before .before .if2 .left)) in
-    let l = parsed-line (now (a .line)) _ _ (ap (parsed (now (a .line))) (sym (c .before .before .before .before .before .before .before .before .caller .given .1)) ∙ c .before .before .before .before .before .before .before .before .before .before .parse .ensures) in
-    run-carried (now (a .store)) (now (a .answer)) (now (a .line)) (s .0) (omega (arith, c .before .before .before .before .before .before .before .before .before .before .before .before .before .before .if1 .left)) (s .1) _ (l .0) (l .2)
-    (c .before .before .before .before .by-caller .ensures (s .0) (l .0) (read-stored _ (s .0) (s .1)) (record { means = l .1; in-range = l .3 }))
+    let is = c .before .before .before .before .before .before .before .before in
+    let p = is .before .before in
+    let held = p .before .before in
+    let wide = held .before .before in
+    let a = wide .before .before .before .before .args in
+    let s = the-some (decode (now (a .store))) (answers-true (held .holds-store .ensures) (p .before .if2 .left)) in
+    let l = parsed-line (now (a .line)) _ _ (ap (parsed (now (a .line))) (sym (is .caller .given .1)) ∙ p .parse .ensures) in
+    let called = c .before .before .before .before .by-caller .ensures (s .0) (l .0) (read-stored _ (s .0) (s .1)) (record { means = l .1; in-range = l .3 }) in
+    run-carried (now (a .store)) (now (a .answer)) (now (a .line)) (s .0) (omega (arith, wide .if1 .left)) (s .1) _ (l .0) (l .2) called
 
 pub run-spec : {M : Type 1} → statement M
 run-spec =

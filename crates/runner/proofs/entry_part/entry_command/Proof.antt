@@ -18,11 +18,15 @@ dominates-requires c κs = search needs
 
 part-requires : tie.Need-part-requires
 unfolding Means
-part-requires c κs = let s = c .before .before .before .before .before .before .before in meant-as (c .before .before .before .command .given .1) (s .pre .1 .1) .3 .inside
+part-requires c κs =
+    let s = c .before .before .before .before .before .before .before in
+    meant-as (c .before .before .before .command .given .1) (s .pre .1 .1) .3 .inside
 
 part-requires-2 : tie.Need-part-requires-2
 unfolding Means
-part-requires-2 c κs = let s = c .before .before .before .before .before .before .before .before in meant-as (c .before .before .before .before .command .given .1) (s .pre .1 .1) .4 .inside
+part-requires-2 c κs =
+    let s = c .before .before .before .before .before .before .before .before in
+    meant-as (c .before .before .before .before .command .given .1) (s .pre .1 .1) .4 .inside
 
 add-requires : tie.Need-add-requires
 unfolding Means
@@ -37,11 +41,15 @@ enum-known-command-2 c = c .match .keys2
 
 part-requires-3 : tie.Need-part-requires-3
 unfolding Means
-part-requires-3 c κs = let s = c .before .before .before .before .before .before in meant-as (c .before .before .command2 .given .1) (s .pre .1 .1) .2 .inside
+part-requires-3 c κs =
+    let s = c .before .before .before .before .before .before in
+    meant-as (c .before .before .command2 .given .1) (s .pre .1 .1) .2 .inside
 
 part-requires-4 : tie.Need-part-requires-4
 unfolding Means
-part-requires-4 c κs = let s = c .before .before .before .before .before .before .before in meant-as (c .before .before .before .command2 .given .1) (s .pre .1 .1) .3 .inside
+part-requires-4 c κs =
+    let s = c .before .before .before .before .before .before .before in
+    meant-as (c .before .before .before .command2 .given .1) (s .pre .1 .1) .3 .inside
 
 co-requires : tie.Need-co-requires
 unfolding Means
@@ -55,7 +63,9 @@ enum-known-command-3 c = c .match .keys3
 
 part-requires-5 : tie.Need-part-requires-5
 unfolding Means
-part-requires-5 c κs = let s = c .before .before .before .before .before .before in meant-as (c .before .before .command3 .given .1) (s .pre .1 .1) .1 .inside
+part-requires-5 c κs =
+    let s = c .before .before .before .before .before .before in
+    meant-as (c .before .before .command3 .given .1) (s .pre .1 .1) .1 .inside
 
 commit-requires : tie.Need-commit-requires
 unfolding Means
@@ -69,7 +79,9 @@ enum-known-command-4 c = c .match .keys4
 
 part-requires-6 : tie.Need-part-requires-6
 unfolding Means
-part-requires-6 c κs = let s = c .before .before .before .before .before .before in meant-as (c .before .before .command4 .given .1) (s .pre .1 .1) .1 .inside
+part-requires-6 c κs =
+    let s = c .before .before .before .before .before .before in
+    meant-as (c .before .before .command4 .given .1) (s .pre .1 .1) .1 .inside
 
 up-requires : tie.Need-up-requires
 unfolding Means
@@ -83,7 +95,9 @@ enum-known-command-5 c = c .match .keys5
 
 part-requires-7 : tie.Need-part-requires-7
 unfolding Means
-part-requires-7 c κs = let s = c .before .before .before .before .before .before in meant-as (c .before .before .command5 .given .1) (s .pre .1 .1) .1 .inside
+part-requires-7 c κs =
+    let s = c .before .before .before .before .before .before in
+    meant-as (c .before .before .command5 .given .1) (s .pre .1 .1) .1 .inside
 
 del-requires : tie.Need-del-requires
 unfolding Means
@@ -100,9 +114,11 @@ unfolding Means run-repository
 returns c j k held rows n m =
     let a = c .before .before .before .before .before .before .before .before .before .before .before .before .args in
     let i = meant-as (c .before .before .before .before .before .before .before .before .command .given .1) m in
-    let d = c .before .before .before .before .before .dominates .ensures ∙ session-tells (j .setup .pairs) (a .dominance .rows) rows (j .role) (i .2) held (i .5) in
+    let tells = session-tells (j .setup .pairs) (a .dominance .rows) rows (j .role) (i .2) held (i .5) in
+    let working = part-read _ (c .before .before .before .before .part .ensures) (i .3) in
+    let entry = part-read _ (c .before .before .before .part2 .ensures) (i .4) in
     same-entry (a .caller) (j .setup) (j .state) (i .6)
-    (c .before .before .add .ensures (i .0) (i .1) (part-read _ (c .before .before .before .before .part .ensures) (i .3)) (part-read _ (c .before .before .before .part2 .ensures) (i .4)) (i .2) j (i .5) d)
+    (c .before .before .add .ensures (i .0) (i .1) working entry (i .2) j (i .5) (c .before .before .before .before .before .dominates .ensures ∙ tells))
 
 same-length-2 : tie.Need-same-length-2
 same-length-2 c = c .before .before .co .kept .0
@@ -112,8 +128,9 @@ unfolding Means run-repository
 returns-2 c j k held rows n m =
     let a = c .before .before .before .before .before .before .before .before .before .before .before .args in
     let i = meant-as (c .before .before .before .before .before .before .before .command2 .given .1) m in
-    same-entry (a .caller) (j .setup) (j .state) (i .4)
-    (c .before .before .co .ensures j (i .0) (i .1) (part-read _ (c .before .before .before .before .part3 .ensures) (i .2)) (part-read _ (c .before .before .before .part4 .ensures) (i .3)))
+    let entry = part-read _ (c .before .before .before .before .part3 .ensures) (i .2) in
+    let to = part-read _ (c .before .before .before .part4 .ensures) (i .3) in
+    same-entry (a .caller) (j .setup) (j .state) (i .4) (c .before .before .co .ensures j (i .0) (i .1) entry to)
 
 same-length-3 : tie.Need-same-length-3
 same-length-3 c = c .before .before .commit .kept .0
@@ -123,7 +140,8 @@ unfolding Means run-repository
 returns-3 c j k held rows n m =
     let a = c .before .before .before .before .before .before .before .before .before .before .args in
     let i = meant-as (c .before .before .before .before .before .before .command3 .given .1) m in
-    same-entry (a .caller) (j .setup) (j .state) (i .2) (c .before .before .commit .ensures (i .0) (part-read _ (c .before .before .before .part5 .ensures) (i .1)) j)
+    let q = part-read _ (c .before .before .before .part5 .ensures) (i .1) in
+    same-entry (a .caller) (j .setup) (j .state) (i .2) (c .before .before .commit .ensures (i .0) q j)
 
 same-length-4 : tie.Need-same-length-4
 same-length-4 c = c .before .before .up .kept .0
@@ -133,7 +151,8 @@ unfolding Means run-repository
 returns-4 c j k held rows n m =
     let a = c .before .before .before .before .before .before .before .before .before .before .args in
     let i = meant-as (c .before .before .before .before .before .before .command4 .given .1) m in
-    same-entry (a .caller) (j .setup) (j .state) (i .2) (c .before .before .up .ensures (i .0) (part-read _ (c .before .before .before .part6 .ensures) (i .1)) j)
+    let q = part-read _ (c .before .before .before .part6 .ensures) (i .1) in
+    same-entry (a .caller) (j .setup) (j .state) (i .2) (c .before .before .up .ensures (i .0) q j)
 
 same-length-5 : tie.Need-same-length-5
 same-length-5 c = c .before .before .del .kept .0
@@ -143,10 +162,13 @@ unfolding Means run-repository
 returns-5 c j k held rows n m =
     let a = c .before .before .before .before .before .before .before .before .before .before .args in
     let i = meant-as (c .before .before .before .before .before .before .command5 .given .1) m in
-    same-entry (a .caller) (j .setup) (j .state) (i .2) (c .before .before .del .ensures (a .caller) (i .0) (part-read _ (c .before .before .before .part7 .ensures) (i .1)) j)
+    let q = part-read _ (c .before .before .before .part7 .ensures) (i .1) in
+    same-entry (a .caller) (j .setup) (j .state) (i .2) (c .before .before .del .ensures (a .caller) (i .0) q j)
 
 returns-6 : tie.Need-returns-6
-returns-6 c j k held rows n m = let a = c .before .before .before .args in no-entry-case (now (a .line)) (a .command) k n (c .match .keys6) (m .means)
+returns-6 c j k held rows n m =
+    let a = c .before .before .before .args in
+    no-entry-case (now (a .line)) (a .command) k n (c .match .keys6) (m .means)
 
 pub entry-command-spec : {M : Type 1} → statement M
 entry-command-spec =

@@ -29,7 +29,8 @@ same-length c = search needs
 
 returns : tie.Need-returns
 returns c s k h n m =
-    nobody-carries h (c .before .before .before .before .before .before .before .args .caller) k n (sym (c .enum-told .given .1) ∙ c .before .before .session-in .ensures s h)
+    let a = c .before .before .before .before .before .before .before .args in
+    nobody-carries h (a .caller) k n (sym (c .enum-told .given .1) ∙ c .before .before .session-in .ensures s h)
 
 same-length-2 : tie.Need-same-length-2
 same-length-2 c = search needs
@@ -38,7 +39,8 @@ returns-2 : tie.Need-returns-2
 returns-2 c s k h n m =
     let a = c .before .before .before .before .before .before .before .before .before .before .before .before .args in
     let held = getD (s .store .sessions) (a .caller .account .uid .0) none in
-    let i = held-some _ held (sym (c .before .before .before .before .before .role .given .1) ∙ c .before .before .before .before .before .before .before .session-in .ensures s h) in
+    let role = c .before .before .before .before .before in
+    let i = held-some _ held (sym (role .role .given .1) ∙ role .before .before .session-in .ensures s h) in
     c .before .before .as-role .ensures s (i .0) k h (i .2) (i .1) n m
 
 pub in-session-spec : {M : Type 1} → statement M

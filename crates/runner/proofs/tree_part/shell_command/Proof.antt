@@ -14,7 +14,9 @@ enum-known-command c = c .match .keys1
 
 part-requires : tie.Need-part-requires
 unfolding Means
-part-requires c κs = let s = c .before .before .before .before .before .before .before in meant-as (c .before .before .command .given .1) (s .pre .1 .0 .1) .1 .inside
+part-requires c κs =
+    let s = c .before .before .before .before .before .before .before in
+    meant-as (c .before .before .command .given .1) (s .pre .1 .0 .1) .1 .inside
 
 create-requires : tie.Need-create-requires
 unfolding Means
@@ -28,7 +30,9 @@ enum-known-command-2 c = c .match .keys2
 
 part-requires-2 : tie.Need-part-requires-2
 unfolding Means
-part-requires-2 c κs = let s = c .before .before .before .before .before .before .before in meant-as (c .before .before .command2 .given .1) (s .pre .1 .0 .1) .1 .inside
+part-requires-2 c κs =
+    let s = c .before .before .before .before .before .before .before in
+    meant-as (c .before .before .command2 .given .1) (s .pre .1 .0 .1) .1 .inside
 
 create-requires-2 : tie.Need-create-requires-2
 unfolding Means
@@ -42,7 +46,9 @@ enum-known-command-3 c = c .match .keys3
 
 part-requires-3 : tie.Need-part-requires-3
 unfolding Means
-part-requires-3 c κs = let s = c .before .before .before .before .before .before .before in meant-as (c .before .before .command3 .given .1) (s .pre .1 .0 .1) .1 .inside
+part-requires-3 c κs =
+    let s = c .before .before .before .before .before .before .before in
+    meant-as (c .before .before .command3 .given .1) (s .pre .1 .0 .1) .1 .inside
 
 read-requires : tie.Need-read-requires
 unfolding Means
@@ -56,11 +62,15 @@ enum-known-command-4 c = c .match .keys4
 
 part-requires-4 : tie.Need-part-requires-4
 unfolding Means
-part-requires-4 c κs = let s = c .before .before .before .before .before .before .before in meant-as (c .before .before .command4 .given .1) (s .pre .1 .0 .1) .1 .inside
+part-requires-4 c κs =
+    let s = c .before .before .before .before .before .before .before in
+    meant-as (c .before .before .command4 .given .1) (s .pre .1 .0 .1) .1 .inside
 
 part-requires-5 : tie.Need-part-requires-5
 unfolding Means
-part-requires-5 c κs = let s = c .before .before .before .before .before .before .before .before in meant-as (c .before .before .before .command4 .given .1) (s .pre .1 .0 .1) .2
+part-requires-5 c κs =
+    let s = c .before .before .before .before .before .before .before .before in
+    meant-as (c .before .before .before .command4 .given .1) (s .pre .1 .0 .1) .2
 
 write-requires : tie.Need-write-requires
 unfolding Means
@@ -75,7 +85,9 @@ enum-known-command-5 c = c .match .keys5
 
 part-requires-6 : tie.Need-part-requires-6
 unfolding Means
-part-requires-6 c κs = let s = c .before .before .before .before .before .before .before in meant-as (c .before .before .command5 .given .1) (s .pre .1 .0 .1) .1 .inside
+part-requires-6 c κs =
+    let s = c .before .before .before .before .before .before .before in
+    meant-as (c .before .before .command5 .given .1) (s .pre .1 .0 .1) .1 .inside
 
 rm-requires : tie.Need-rm-requires
 unfolding Means
@@ -89,7 +101,9 @@ enum-known-command-6 c = c .match .keys6
 
 part-requires-7 : tie.Need-part-requires-7
 unfolding Means
-part-requires-7 c κs = let s = c .before .before .before .before .before .before .before in meant-as (c .before .before .command6 .given .1) (s .pre .1 .0 .1) .1 .inside
+part-requires-7 c κs =
+    let s = c .before .before .before .before .before .before .before in
+    meant-as (c .before .before .command6 .given .1) (s .pre .1 .0 .1) .1 .inside
 
 rm-requires-2 : tie.Need-rm-requires-2
 unfolding Means
@@ -103,11 +117,15 @@ enum-known-command-7 c = c .match .keys7
 
 part-requires-8 : tie.Need-part-requires-8
 unfolding Means
-part-requires-8 c κs = let s = c .before .before .before .before .before .before .before in meant-as (c .before .before .command7 .given .1) (s .pre .1 .0 .1) .2 .inside
+part-requires-8 c κs =
+    let s = c .before .before .before .before .before .before .before in
+    meant-as (c .before .before .command7 .given .1) (s .pre .1 .0 .1) .2 .inside
 
 part-requires-9 : tie.Need-part-requires-9
 unfolding Means
-part-requires-9 c κs = let s = c .before .before .before .before .before .before .before .before in meant-as (c .before .before .before .command7 .given .1) (s .pre .1 .0 .1) .3 .inside
+part-requires-9 c κs =
+    let s = c .before .before .before .before .before .before .before .before in
+    meant-as (c .before .before .before .command7 .given .1) (s .pre .1 .0 .1) .3 .inside
 
 mv-requires : tie.Need-mv-requires
 unfolding Means
@@ -121,7 +139,9 @@ enum-known-command-8 c = c .match .keys8
 
 part-requires-10 : tie.Need-part-requires-10
 unfolding Means
-part-requires-10 c κs = let s = c .before .before .before .before .before .before .before in meant-as (c .before .before .command8 .given .1) (s .pre .1 .0 .1) .1 .inside
+part-requires-10 c κs =
+    let s = c .before .before .before .before .before .before .before in
+    meant-as (c .before .before .command8 .given .1) (s .pre .1 .0 .1) .1 .inside
 
 chmod-requires : tie.Need-chmod-requires
 unfolding Means
@@ -135,7 +155,9 @@ enum-known-command-9 c = c .match .keys9
 
 part-requires-11 : tie.Need-part-requires-11
 unfolding Means
-part-requires-11 c κs = let s = c .before .before .before .before .before .before .before in meant-as (c .before .before .command9 .given .1) (s .pre .1 .0 .1) .1 .inside
+part-requires-11 c κs =
+    let s = c .before .before .before .before .before .before .before in
+    meant-as (c .before .before .command9 .given .1) (s .pre .1 .0 .1) .1 .inside
 
 chgrp-requires : tie.Need-chgrp-requires
 unfolding Means
@@ -149,7 +171,9 @@ enum-known-command-10 c = c .match .keys10
 
 part-requires-12 : tie.Need-part-requires-12
 unfolding Means
-part-requires-12 c κs = let s = c .before .before .before .before .before .before .before in meant-as (c .before .before .command10 .given .1) (s .pre .1 .0 .1) .1 .inside
+part-requires-12 c κs =
+    let s = c .before .before .before .before .before .before .before in
+    meant-as (c .before .before .command10 .given .1) (s .pre .1 .0 .1) .1 .inside
 
 chown-requires : tie.Need-chown-requires
 unfolding Means
@@ -166,7 +190,8 @@ unfolding Means run-shell
 returns c t k e m =
     let a = c .before .before .before .before .before .before .before .before .before .before .before .args in
     let i = meant-as (c .before .before .before .before .before .before .command .given .1) m in
-    same-shell (a .caller) t (i .2) (c .before .before .create .ensures t (i .0) e (part-read _ (c .before .before .before .part .ensures) (i .1)) (now (a .answer)))
+    let q = part-read _ (c .before .before .before .part .ensures) (i .1) in
+    same-shell (a .caller) t (i .2) (c .before .before .create .ensures t (i .0) e q (now (a .answer)))
 
 same-length-2 : tie.Need-same-length-2
 same-length-2 c = c .before .before .create2 .kept .0
@@ -176,7 +201,8 @@ unfolding Means run-shell
 returns-2 c t k e m =
     let a = c .before .before .before .before .before .before .before .before .before .before .before .args in
     let i = meant-as (c .before .before .before .before .before .before .command2 .given .1) m in
-    same-shell (a .caller) t (i .2) (c .before .before .create2 .ensures t (i .0) e (part-read _ (c .before .before .before .part2 .ensures) (i .1)) (now (a .answer)))
+    let q = part-read _ (c .before .before .before .part2 .ensures) (i .1) in
+    same-shell (a .caller) t (i .2) (c .before .before .create2 .ensures t (i .0) e q (now (a .answer)))
 
 same-length-3 : tie.Need-same-length-3
 same-length-3 c = refl
@@ -199,7 +225,8 @@ unfolding Means run-shell
 returns-4 c t k e m =
     let a = c .before .before .before .before .before .before .before .before .before .before .before .before .args in
     let i = meant-as (c .before .before .before .before .before .before .before .command4 .given .1) m in
-    let done = c .before .before .write .ensures t (i .0) e (part-read _ (c .before .before .before .before .part4 .ensures) (i .1)) (now (a .answer)) in
+    let q = part-read _ (c .before .before .before .before .part4 .ensures) (i .1) in
+    let done = c .before .before .write .ensures t (i .0) e q (now (a .answer)) in
     same-shell (a .caller) t (i .3) (rw (c .before .before .before .part5 .ensures) at done)
 
 same-length-6 : tie.Need-same-length-6
@@ -210,7 +237,8 @@ unfolding Means run-shell
 returns-5 c t k e m =
     let a = c .before .before .before .before .before .before .before .before .before .before .before .args in
     let i = meant-as (c .before .before .before .before .before .before .command5 .given .1) m in
-    same-shell (a .caller) t (i .2) (c .before .before .rm .ensures t (i .0) e (part-read _ (c .before .before .before .part6 .ensures) (i .1)) (now (a .answer)))
+    let q = part-read _ (c .before .before .before .part6 .ensures) (i .1) in
+    same-shell (a .caller) t (i .2) (c .before .before .rm .ensures t (i .0) e q (now (a .answer)))
 
 same-length-7 : tie.Need-same-length-7
 same-length-7 c = c .before .before .rm2 .kept .0
@@ -220,7 +248,8 @@ unfolding Means run-shell
 returns-6 c t k e m =
     let a = c .before .before .before .before .before .before .before .before .before .before .before .args in
     let i = meant-as (c .before .before .before .before .before .before .command6 .given .1) m in
-    same-shell (a .caller) t (i .2) (c .before .before .rm2 .ensures t (i .0) e (part-read _ (c .before .before .before .part7 .ensures) (i .1)) (now (a .answer)))
+    let q = part-read _ (c .before .before .before .part7 .ensures) (i .1) in
+    same-shell (a .caller) t (i .2) (c .before .before .rm2 .ensures t (i .0) e q (now (a .answer)))
 
 same-length-8 : tie.Need-same-length-8
 same-length-8 c = c .before .before .mv .kept .0
@@ -230,8 +259,9 @@ unfolding Means run-shell
 returns-7 c t k e m =
     let a = c .before .before .before .before .before .before .before .before .before .before .before .before .args in
     let i = meant-as (c .before .before .before .before .before .before .before .command7 .given .1) m in
-    same-shell (a .caller) t (i .4)
-    (c .before .before .mv .ensures t (i .0) (i .1) e (part-read _ (c .before .before .before .before .part8 .ensures) (i .2)) (part-read _ (c .before .before .before .part9 .ensures) (i .3)) (now (a .answer)))
+    let from = part-read _ (c .before .before .before .before .part8 .ensures) (i .2) in
+    let to = part-read _ (c .before .before .before .part9 .ensures) (i .3) in
+    same-shell (a .caller) t (i .4) (c .before .before .mv .ensures t (i .0) (i .1) e from to (now (a .answer)))
 
 same-length-9 : tie.Need-same-length-9
 same-length-9 c = c .before .before .chmod .kept .0
@@ -241,7 +271,8 @@ unfolding Means run-shell
 returns-8 c t k e m =
     let a = c .before .before .before .before .before .before .before .before .before .before .before .args in
     let i = meant-as (c .before .before .before .before .before .before .command8 .given .1) m in
-    same-shell (a .caller) t (i .2) (c .before .before .chmod .ensures t (i .0) e (part-read _ (c .before .before .before .part10 .ensures) (i .1)) (now (a .answer)))
+    let q = part-read _ (c .before .before .before .part10 .ensures) (i .1) in
+    same-shell (a .caller) t (i .2) (c .before .before .chmod .ensures t (i .0) e q (now (a .answer)))
 
 same-length-10 : tie.Need-same-length-10
 same-length-10 c = c .before .before .chgrp .kept .0
@@ -251,7 +282,8 @@ unfolding Means run-shell
 returns-9 c t k e m =
     let a = c .before .before .before .before .before .before .before .before .before .before .before .args in
     let i = meant-as (c .before .before .before .before .before .before .command9 .given .1) m in
-    same-shell (a .caller) t (i .2) (c .before .before .chgrp .ensures t (i .0) e (part-read _ (c .before .before .before .part11 .ensures) (i .1)) (now (a .answer)))
+    let q = part-read _ (c .before .before .before .part11 .ensures) (i .1) in
+    same-shell (a .caller) t (i .2) (c .before .before .chgrp .ensures t (i .0) e q (now (a .answer)))
 
 same-length-11 : tie.Need-same-length-11
 same-length-11 c = c .before .before .chown .kept .0
@@ -261,10 +293,13 @@ unfolding Means run-shell
 returns-10 c t k e m =
     let a = c .before .before .before .before .before .before .before .before .before .before .before .args in
     let i = meant-as (c .before .before .before .before .before .before .command10 .given .1) m in
-    same-shell (a .caller) t (i .2) (c .before .before .chown .ensures t (i .0) e (part-read _ (c .before .before .before .part12 .ensures) (i .1)) (now (a .answer)))
+    let q = part-read _ (c .before .before .before .part12 .ensures) (i .1) in
+    same-shell (a .caller) t (i .2) (c .before .before .chown .ensures t (i .0) e q (now (a .answer)))
 
 returns-11 : tie.Need-returns-11
-returns-11 c t k e m = let a = c .before .before .before .before .args in no-shell-case (now (a .line)) (a .command) k (c .match .keys11) (m .means)
+returns-11 c t k e m =
+    let a = c .before .before .before .before .args in
+    no-shell-case (now (a .line)) (a .command) k (c .match .keys11) (m .means)
 
 pub shell-command-spec : {M : Type 1} → statement M
 shell-command-spec =

@@ -1,9 +1,9 @@
--- `runner::commands_by::in_shell` meets its contract: the tree is lent, and the header stays before what is left of it.
+-- `runner::store_part::in_shell` meets its contract: the tree is lent, and the header stays before what is left of it.
 use denote.Ref.{now}
 use Rattle.runner.specs.RunnerLaws.{long-enough, lent-whole, shell-carries}
 use borrow.Author.Needs.{needs}
-use Rattle.runner.proofs.commands_by.in_shell.Statement.{statement}
-use Rattle.runner.proofs.commands_by.in_shell.Tie as tie
+use Rattle.runner.proofs.store_part.in_shell.Statement.{statement}
+use Rattle.runner.proofs.store_part.in_shell.Tie as tie
 
 sub-shell-command : tie.Need-sub-shell-command
 sub-shell-command c = long-enough (c .before .before .before .pre .0)

@@ -1,12 +1,12 @@
--- `runner::commands_by::run_command` meets its contract: each case is carried out on the part of the store that it is about.
+-- `runner::store_part::run_command` meets its contract: each case is carried out on the part of the store that it is about.
 use denote.Ref.{now}
 use Rattle.commands.specs.Parsed.{Means}
 use Rattle.machine.specs.Machine.{run-repository, run}
 use Rattle.runner.specs.RunnerLaws.{meant-as, role-low}
 use Rattle.runner.proofs.Tags.{shell-case, entry-case}
 use borrow.Author.Needs.{needs}
-use Rattle.runner.proofs.commands_by.run_command.Statement.{statement}
-use Rattle.runner.proofs.commands_by.run_command.Tie as tie
+use Rattle.runner.proofs.store_part.run_command.Statement.{statement}
+use Rattle.runner.proofs.store_part.run_command.Tie as tie
 
 enum-known-command : tie.Need-enum-known-command
 enum-known-command c = search needs

@@ -1,10 +1,10 @@
--- `runner::commands_by::log_out` meets its contract: the header is lent, and the tree stays behind what is left of it.
+-- `runner::store_part::log_out` meets its contract: the header is lent, and the tree stays behind what is left of it.
 use mathlib.Core.Path.{sym}
 use Rattle.store.specs.StoreBytes.{header-width}
 use Rattle.runner.specs.RunnerLaws.{long-enough, header-length, lent-headed, logout-carries}
 use borrow.Author.Needs.{needs}
-use Rattle.runner.proofs.commands_by.log_out.Statement.{statement}
-use Rattle.runner.proofs.commands_by.log_out.Tie as tie
+use Rattle.runner.proofs.store_part.log_out.Statement.{statement}
+use Rattle.runner.proofs.store_part.log_out.Tie as tie
 
 slice-relend-prefix-logout : tie.Need-slice-relend-prefix-logout
 slice-relend-prefix-logout c = long-enough (c .before .before .pre .0)
@@ -22,7 +22,8 @@ returns : tie.Need-returns
 unfolding header-width
 returns c s h =
     let l = c .before .before .logout in
-    logout-carries h (c .before .before .before .before .before .before .args .caller) (l .result) (l .last .0) (l .ensures (s .setup) (s .store .sessions) (h .header))
+    let a = c .before .before .before .before .before .before .args in
+    logout-carries h (a .caller) (l .result) (l .last .0) (l .ensures (s .setup) (s .store .sessions) (h .header))
 
 pub log-out-spec : {M : Type 1} → statement M
 log-out-spec =

@@ -1,4 +1,4 @@
--- `runner::commands_by::log_in` meets its contract: the header is lent, and the tree stays behind what is left of it.
+-- `runner::store_part::log_in` meets its contract: the header is lent, and the tree stays behind what is left of it.
 use mathlib.Core.Path.{sym, subst}
 use lib.ListN.{take}
 use denote.Ref.{now}
@@ -7,8 +7,8 @@ use Rattle.store.specs.StoreBytes.{header-width}
 use Rattle.header.specs.HeaderBytes.{Logs-in}
 use Rattle.runner.specs.RunnerLaws.{long-enough, header-length, lent-headed, login-carries}
 use borrow.Author.Needs.{needs}
-use Rattle.runner.proofs.commands_by.log_in.Statement.{statement}
-use Rattle.runner.proofs.commands_by.log_in.Tie as tie
+use Rattle.runner.proofs.store_part.log_in.Statement.{statement}
+use Rattle.runner.proofs.store_part.log_in.Tie as tie
 
 slice-relend-prefix-login : tie.Need-slice-relend-prefix-login
 slice-relend-prefix-login c = long-enough (c .before .before .before .pre .0)
@@ -30,7 +30,8 @@ unfolding header-width
 returns c s z h e =
     let a = c .before .before .before .before .before .before .before .before .args in
     let l = c .before .before .login in
-    let logs = subst (λ (x : Text). Logs-in (take 6142 (now (a .store))) (a .caller .account .uid) (a .role) x (l .result) (l .last .0)) (c .before .before .before .part .ensures) (l .ensures) in
+    let H = take 6142 (now (a .store)) in
+    let logs = subst (λ (x : Text). Logs-in H (a .caller .account .uid) (a .role) x (l .result) (l .last .0)) (c .before .before .before .part .ensures) (l .ensures) in
     login-carries h (a .caller) z _ (l .result) (l .last .0) (logs (s .setup) (s .store .sessions) (h .header) z e)
 
 pub log-in-spec : {M : Type 1} → statement M

@@ -53,7 +53,8 @@ fn in_shell(
     requires { ⌜ Some-store (now store) ⌝ }
     requires { ⌜ Meaningful (now line) command ⌝ }
     requires { ⌜ 4096 ≤ length (now answer) ⌝ }
-    ensures { λ r. ⌜ Store-shell-done caller (now (line .entry)) command (now (store .entry)) (now (answer .entry)) r (now (store .exit)) (now (answer .exit)) ⌝ }
+    ensures { λ r. ⌜ Store-shell-done caller (now (line .entry)) command
+        (now (store .entry)) (now (answer .entry)) r (now (store .exit)) (now (answer .exit)) ⌝ }
 {
     shell_command(&mut store[HEADER..], caller, line, command, answer)
 }
@@ -70,7 +71,8 @@ pub fn run_command(
     requires { ⌜ Meaningful (now line) command ⌝ }
     requires { ⌜ 4096 ≤ length (now answer) ⌝ }
     requires { ⌜ caller .account .uid .0 < 16 ⌝ }
-    ensures { λ r. ⌜ Command-done caller (now (line .entry)) command (now (store .entry)) (now (answer .entry)) r (now (store .exit)) (now (answer .exit)) ⌝ }
+    ensures { λ r. ⌜ Command-done caller (now (line .entry)) command
+        (now (store .entry)) (now (answer .entry)) r (now (store .exit)) (now (answer .exit)) ⌝ }
 {
     match command {
         Command::Login { role, password } => log_in(store, caller, role, line, password),
