@@ -59,7 +59,7 @@ fn in_shell(
     shell_command(&mut store[HEADER..], caller, line, command, answer)
 }
 
-// A command, by what it is about: the sessions, entries in a session, or the people's tree.
+// A command, by what it is about: the sessions, entries in a session, or the workspace.
 pub fn run_command(
     store: &mut [u8],
     caller: Caller,
