@@ -6,4 +6,3 @@ mod store_part;
 mod tree_part;
 
 pub use store_part::run_command;
-pub use tree_part::shell_command;
