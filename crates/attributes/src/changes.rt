@@ -10,10 +10,10 @@ use crate::checks::may_do;
 use accounts::Caller;
 use accounts::Gid;
 use accounts::Uid;
-use edits::set_content;
-use edits::set_group;
-use edits::set_mode;
-use edits::set_owner;
+use node_fields::set_content;
+use node_fields::set_group;
+use node_fields::set_mode;
+use node_fields::set_owner;
 use shell::Answer;
 use walks::Walked;
 

@@ -27,7 +27,7 @@ use Rattle.tree.specs.TreeBytes.{Wide, Has-row}
 use Rattle.tree.specs.RowAtLaws.{row-name-fits}
 use Rattle.edits.specs.declared.Fresh.{Fresh}
 use Rattle.edits.specs.Changes.{field-put, head-bytes}
-use Rattle.edits.specs.WrittenLaws.{piece-put}
+use Rattle.node_fields.specs.FieldsWrittenLaws.{piece-put}
 use Rattle.edits.specs.EncodedRowsLaws.{field-pieces}
 use Rattle.copying.specs.declared.Copier.{Copier}
 use Rattle.copying.specs.Copying.{below-rep, copy-mode}

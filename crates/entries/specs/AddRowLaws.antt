@@ -45,7 +45,7 @@ use Rattle.edits.specs.declared.Fresh.{Fresh}
 use Rattle.edits.specs.Changes.{rows-put, field-put, tag-field, fresh-node, fresh-row, head-bytes}
 use Rattle.edits.specs.WrittenLaws.{length-fresh, row-written}
 use Rattle.edits.specs.EditLaws.{spot-bound, put-law, place-law}
-use Rattle.edits.specs.FieldEditLaws.{tag-law}
+use Rattle.node_fields.specs.FieldEditLaws.{tag-law}
 use Rattle.copying.specs.CopyRowLaws.{row-held}
 use Rattle.copying.specs.CopyBytesLaws.{bytes-copied}
 use Rattle.machine.specs.Machine.{tagged}

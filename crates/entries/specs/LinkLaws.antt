@@ -45,7 +45,7 @@ use Rattle.tree.specs.TreeBytes.{Has-row, Encodes, At, Path-text}
 use Rattle.tree.specs.TreeBytesLaws.{at-used, at-here}
 use Rattle.tree.specs.TagBytesLaws.{tag-reads, tag-written, tag-blank}
 use Rattle.edits.specs.Changes.{field-put, content-field}
-use Rattle.edits.specs.FieldEditLaws.{revision-law, tag-revision-law, copy-content-law}
+use Rattle.node_fields.specs.FieldEditLaws.{revision-law, tag-revision-law, copy-content-law}
 use Rattle.copying.specs.CopyRowLaws.{row-held}
 use Rattle.walks.specs.declared.Walked.{Walked}
 use Rattle.walks.specs.declared.Walked.the-variants

@@ -26,7 +26,7 @@ use buffers::clear;
 use buffers::write_padded;
 use edits::Fresh;
 use edits::put_rows;
-use edits::set_tag;
+use node_fields::set_tag;
 use edits::write_head;
 use gaps::Room;
 use gaps::last_name;

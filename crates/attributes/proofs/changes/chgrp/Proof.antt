@@ -2,7 +2,7 @@
 use mathlib.Core.Path.{_∙_}
 use denote.Ref.{now}
 use Rattle.tree.specs.Node.{set-group}
-use Rattle.edits.specs.FieldEditLaws.{group-law}
+use Rattle.node_fields.specs.FieldEditLaws.{group-law}
 use Rattle.attributes.specs.declared.Deed.the-variants.{Chgrp}
 use Rattle.attributes.specs.ChecksLaws.{chgrp-checked, refused-there, changed-there, row-there}
 use borrow.Author.Needs.{needs}

@@ -2,7 +2,7 @@
 use mathlib.Core.Path.{_∙_}
 use denote.Ref.{now}
 use Rattle.tree.specs.Node.{set-mode}
-use Rattle.edits.specs.FieldEditLaws.{mode-law}
+use Rattle.node_fields.specs.FieldEditLaws.{mode-law}
 use Rattle.attributes.specs.declared.Deed.the-variants.{Chmod}
 use Rattle.attributes.specs.ChecksLaws.{chmod-checked, refused-there, changed-there, row-there}
 use borrow.Author.Needs.{needs}

@@ -2,7 +2,7 @@
 use mathlib.Core.Path.{_∙_}
 use denote.Ref.{now}
 use Rattle.tree.specs.Node.{set-owner}
-use Rattle.edits.specs.FieldEditLaws.{owner-law}
+use Rattle.node_fields.specs.FieldEditLaws.{owner-law}
 use Rattle.attributes.specs.declared.Deed.the-variants.{Chown}
 use Rattle.attributes.specs.ChecksLaws.{chown-checked, refused-there, changed-there, row-there}
 use borrow.Author.Needs.{needs}

@@ -2,7 +2,7 @@
 use mathlib.Core.Path.{_∙_}
 use denote.Ref.{now}
 use Rattle.tree.specs.Node.{set-content}
-use Rattle.edits.specs.FieldEditLaws.{content-law}
+use Rattle.node_fields.specs.FieldEditLaws.{content-law}
 use Rattle.attributes.specs.declared.Deed.the-variants.{Write}
 use Rattle.attributes.specs.ChecksLaws.{write-checked, refused-there, changed-there, row-there}
 use borrow.Author.Needs.{needs}

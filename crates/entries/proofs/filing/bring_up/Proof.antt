@@ -8,8 +8,8 @@ use Rattle.entries.proofs.filing.bring_up.Statement.{statement}
 use Rattle.entries.proofs.filing.bring_up.Tie as tie
 use Rattle.entries.proofs.filing.bring_up.Reads as reads
 use Rattle.entries.proofs.filing.bring_up.Lts as lts
-use Rattle.edits.proofs.copy_content.Reads as copy-content-reads
-use Rattle.edits.proofs.set_tag_revision.Reads as set-tag-revision-reads
+use Rattle.node_fields.proofs.copy_content.Reads as copy-content-reads
+use Rattle.node_fields.proofs.set_tag_revision.Reads as set-tag-revision-reads
 use Rattle.tree.proofs.revision_at.Reads as revision-at-reads
 
 -- src/filing.rt:90:9

@@ -11,9 +11,9 @@ use Rattle.entries.proofs.filing.file_content.Statement.{statement}
 use Rattle.entries.proofs.filing.file_content.Tie as tie
 use Rattle.entries.proofs.filing.file_content.Reads as reads
 use Rattle.entries.proofs.filing.file_content.Lts as lts
-use Rattle.edits.proofs.copy_content.Reads as copy-content-reads
-use Rattle.edits.proofs.set_revision.Reads as set-revision-reads
-use Rattle.edits.proofs.set_tag_revision.Reads as set-tag-revision-reads
+use Rattle.node_fields.proofs.copy_content.Reads as copy-content-reads
+use Rattle.node_fields.proofs.set_revision.Reads as set-revision-reads
+use Rattle.node_fields.proofs.set_tag_revision.Reads as set-tag-revision-reads
 use Rattle.tree.proofs.revision_at.Reads as revision-at-reads
 
 -- src/filing.rt:79:16

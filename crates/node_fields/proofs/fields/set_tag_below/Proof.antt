@@ -9,10 +9,10 @@ use denote.Ref.{now}
 use Rattle.buffers.specs.Fields.{two-bytes}
 use Rattle.tree.specs.Layout.{row-start}
 use Rattle.tree.specs.RowAt.{tag-text-at}
-use Rattle.edits.specs.WrittenLaws.{tag-below-put}
+use Rattle.node_fields.specs.FieldsWrittenLaws.{tag-below-put}
 use borrow.Author.Needs.{needs}
-use Rattle.edits.proofs.fields.set_tag_below.Statement.{statement}
-use Rattle.edits.proofs.fields.set_tag_below.Tie as tie
+use Rattle.node_fields.proofs.fields.set_tag_below.Statement.{statement}
+use Rattle.node_fields.proofs.fields.set_tag_below.Tie as tie
 
 mul-at : tie.Need-mul-at
 mul-at c = search needs

@@ -1,10 +1,10 @@
--- `edits::fields::set_tag_revision` meets its contract: one number of the row.
+-- `edits::fields::set_revision` meets its contract: one number of the row.
 use mathlib.Core.Path.{_∙_}
 use denote.Ref.{now}
 use borrow.Author.Needs.{needs}
-use Rattle.edits.specs.WrittenLaws.{number-put}
-use Rattle.edits.proofs.fields.set_tag_revision.Statement.{statement}
-use Rattle.edits.proofs.fields.set_tag_revision.Tie as tie
+use Rattle.node_fields.specs.FieldsWrittenLaws.{number-put}
+use Rattle.node_fields.proofs.fields.set_revision.Statement.{statement}
+use Rattle.node_fields.proofs.fields.set_revision.Tie as tie
 
 mul-write-number : tie.Need-mul-write-number
 mul-write-number c = search needs
@@ -24,10 +24,10 @@ same-length c = search needs
 returns : tie.Need-returns
 returns c =
     let a = c .before .before .before .before .before .args in
-    c .before .before .write-number .ensures ∙ number-put (now (a .tree)) (a .i) 70 (a .revision)
+    c .before .before .write-number .ensures ∙ number-put (now (a .tree)) (a .i) 6 (a .revision)
 
-pub set-tag-revision-spec : {M : Type 1} → statement M
-set-tag-revision-spec =
+pub set-revision-spec : {M : Type 1} → statement M
+set-revision-spec =
     tie.close
     (tie.spec
     mul-write-number

@@ -1,10 +1,10 @@
--- `edits::fields::set_owner` meets its contract: one byte of the row.
+-- `edits::fields::set_group` meets its contract: one byte of the row.
 use native.Mathlib.Omega.{arith}
 use denote.Ref.{now}
 use borrow.Author.Needs.{needs}
-use Rattle.edits.specs.WrittenLaws.{byte-put}
-use Rattle.edits.proofs.fields.set_owner.Statement.{statement}
-use Rattle.edits.proofs.fields.set_owner.Tie as tie
+use Rattle.node_fields.specs.FieldsWrittenLaws.{byte-put}
+use Rattle.node_fields.proofs.fields.set_group.Statement.{statement}
+use Rattle.node_fields.proofs.fields.set_group.Tie as tie
 
 mul-tree : tie.Need-mul-tree
 mul-tree c = search needs
@@ -24,8 +24,8 @@ same-length c = search needs
 returns : tie.Need-returns
 returns c =
     let a = c .args in
-    byte-put (now (a .tree)) (a .i) 2 (a .owner .0) (omega arith)
+    byte-put (now (a .tree)) (a .i) 3 (a .group .0) (omega arith)
 
-pub set-owner-spec : {M : Type 1} → statement M
-set-owner-spec =
+pub set-group-spec : {M : Type 1} → statement M
+set-group-spec =
     tie.close (tie.spec mul-tree add-tree add-tree-2 slice-write-tree same-length returns)

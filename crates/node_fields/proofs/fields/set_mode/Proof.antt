@@ -2,9 +2,9 @@
 use mathlib.Core.Path.{_∙_}
 use denote.Ref.{now}
 use borrow.Author.Needs.{needs}
-use Rattle.edits.specs.WrittenLaws.{number-put}
-use Rattle.edits.proofs.fields.set_mode.Statement.{statement}
-use Rattle.edits.proofs.fields.set_mode.Tie as tie
+use Rattle.node_fields.specs.FieldsWrittenLaws.{number-put}
+use Rattle.node_fields.proofs.fields.set_mode.Statement.{statement}
+use Rattle.node_fields.proofs.fields.set_mode.Tie as tie
 
 mul-write-number : tie.Need-mul-write-number
 mul-write-number c = search needs

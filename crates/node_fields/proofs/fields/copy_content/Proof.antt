@@ -3,9 +3,9 @@ use mathlib.Core.Path.{_∙_}
 use native.Mathlib.Omega.{arith}
 use denote.Ref.{now}
 use borrow.Author.Needs.{needs}
-use Rattle.edits.specs.WrittenLaws.{content-copied}
-use Rattle.edits.proofs.fields.copy_content.Statement.{statement}
-use Rattle.edits.proofs.fields.copy_content.Tie as tie
+use Rattle.node_fields.specs.FieldsWrittenLaws.{content-copied}
+use Rattle.node_fields.proofs.fields.copy_content.Statement.{statement}
+use Rattle.node_fields.proofs.fields.copy_content.Tie as tie
 
 mul-source : tie.Need-mul-source
 mul-source c = search needs

@@ -5,10 +5,10 @@ use denote.Ref.{now}
 use Rattle.buffers.specs.Fields.{padded}
 use Rattle.buffers.specs.FieldsLaws.{length-padded}
 use Rattle.tree.specs.Layout.{content-width}
-use Rattle.edits.specs.WrittenLaws.{piece-put}
+use Rattle.node_fields.specs.FieldsWrittenLaws.{piece-put}
 use borrow.Author.Needs.{needs}
-use Rattle.edits.proofs.fields.set_content.Statement.{statement}
-use Rattle.edits.proofs.fields.set_content.Tie as tie
+use Rattle.node_fields.proofs.fields.set_content.Statement.{statement}
+use Rattle.node_fields.proofs.fields.set_content.Tie as tie
 
 mul-write-padded : tie.Need-mul-write-padded
 mul-write-padded c = search needs

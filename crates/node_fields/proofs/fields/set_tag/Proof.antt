@@ -7,10 +7,10 @@ use lib.Seq.{paste}
 use denote.Ref.{now}
 use Rattle.buffers.specs.Fields.{two-bytes}
 use Rattle.tree.specs.Layout.{row-start, tag-revision-offset}
-use Rattle.edits.specs.WrittenLaws.{tag-put}
+use Rattle.node_fields.specs.FieldsWrittenLaws.{tag-put}
 use borrow.Author.Needs.{needs}
-use Rattle.edits.proofs.fields.set_tag.Statement.{statement}
-use Rattle.edits.proofs.fields.set_tag.Tie as tie
+use Rattle.node_fields.proofs.fields.set_tag.Statement.{statement}
+use Rattle.node_fields.proofs.fields.set_tag.Tie as tie
 
 mul-at : tie.Need-mul-at
 mul-at c = search needs

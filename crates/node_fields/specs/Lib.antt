@@ -1,0 +1,2 @@
+pub mod FieldsWrittenLaws
+pub mod FieldEditLaws
