@@ -1,18 +1,15 @@
 -- What the commands on entries come to on the store's tree, for the person's account and the session's: the machine's steps with those two
--- accounts in place of the session. Then where the code finds their nodes among the rows, and what the code of a command promises.
+-- accounts in place of the session. Then where the code finds their nodes among the rows.
 use mathlib.Core.Path.{_≡_}
 use mathlib.Core.List.{List}
-use mathlib.Core.Option.{some}
+use mathlib.Core.Option.{none, some}
 use mathlib.Core.Bool.{Bool, false, not}
 use Prim.Native.Nat.{ℕ, suc}
 use lib.Dec.{eqb}
-use Rattle.buffers.specs.Text.{Text}
 use Rattle.accounts.specs.declared.Account.{Account}
-use Rattle.accounts.specs.declared.Caller.{Caller}
 use Rattle.accounts.specs.declared.Right.{Right}
 use Rattle.accounts.specs.declared.Right.the-variants.{R, W}
-use Rattle.syntax.specs.Path.{Path, Entry-path, parent, in-rep, entry-location, entry-path}
-use Rattle.setup.specs.Setup.{Setup}
+use Rattle.syntax.specs.Path.{Path, Entry-path, parent, in-rep, entry-location}
 use Rattle.tree.specs.declared.Cause.the-variants.{Access, WrongKind, NotEmpty, Stale, Untagged, RevisionsSpent}
 use Rattle.tree.specs.Result.{Result, refused, done, _>>=_, _>>_, require, present, Outcome}
 use Rattle.tree.specs.Forest.{Place, is-empty, update, alter, drop}
@@ -21,14 +18,8 @@ use Rattle.tree.specs.Walk.{by-modes, walk}
 use Rattle.tree.specs.WellFormed.{last-revision}
 use Rattle.tree.specs.RowPlaces.{index-of}
 use Rattle.tree.specs.TreeBytes.{At}
-use Rattle.walks.specs.RowWalk.{Spot}
-use Rattle.walks.specs.WalkBytes.{spot-of}
-use Rattle.shell.specs.declared.Answer.{Answer}
-use Rattle.shell.specs.CommandBytes.{Follows-silently}
-use Rattle.store.specs.State.{Store}
 use Rattle.machine.specs.Machine.{tagged}
 use Rattle.machine.specs.StoreMachine.{next-node}
-use Rattle.machine.specs.Acting.{Acting, on-tree-steps}
 use Rattle.entries.specs.declared.Links.{Links}
 use Rattle.entries.specs.declared.Links.the-variants.{To, Refused}
 
@@ -117,6 +108,21 @@ after-up t l =
 unfoldable pub after-del : Place Node → Entry-path → Place Node
 after-del t e = update (in-rep (e .folder)) (drop (e .name)) t
 
+-- ---- the commands
+
+-- steps that end in a change of the tree, and tell nothing
+abbrev pub changing : {A : Type 0} → Result A → (A → Place Node) → Result (Outcome (Place Node))
+changing steps after = steps >>= λ x. done (record { text = none; state = after x })
+
+abbrev pub commit-steps : Account → Account → Place Node → Path → Result (Outcome (Place Node))
+commit-steps person account t w = changing (commit-link person account t w) (after-commit t)
+
+abbrev pub up-steps : Account → Account → Place Node → Path → Result (Outcome (Place Node))
+up-steps person account t w = changing (link person W account t w) (after-up t)
+
+abbrev pub del-steps : Account → Place Node → Entry-path → Result (Outcome (Place Node))
+del-steps account t e = changing (del-walk account t e) (λ d. after-del t e)
+
 -- ---- among the rows
 
 -- the rows of a working file, of its entry, and of the directory above that
@@ -155,9 +161,3 @@ pub record Linked (b : List ℕ) (t : Place Node) (l : Link) (working entry : �
 -- the rows are linked, in whatever tree
 abbrev pub Some-link : List ℕ → ℕ → ℕ → Type 0
 Some-link b working entry = (t : Place Node) × (l : Link) × Linked b t l working entry
-
--- ---- promises
-
--- what is answered and left is what the steps come to, in whatever session of the caller's with that account
-abbrev pub In-session : List ℕ → Caller → Account → (Setup → Store → Result (Outcome Store)) → Answer → List ℕ → Type 0
-In-session b c a steps r b′ = (j : Acting b c a) → Follows-silently (on-tree-steps (steps (j .setup) (j .state))) b r b′

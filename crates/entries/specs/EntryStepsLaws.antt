@@ -16,7 +16,7 @@ use Rattle.syntax.specs.Path.{Path, _▹_, Entry-path, in-rep, entry-location}
 use Rattle.setup.specs.Setup.{Setup}
 use Rattle.tree.specs.declared.Cause.{Cause}
 use Rattle.tree.specs.declared.Cause.the-variants.{Access, NotEmpty, Stale, Untagged, RevisionsSpent}
-use Rattle.tree.specs.Result.{Result, refused, done, _>>=_, _>>_, require, present, Outcome}
+use Rattle.tree.specs.Result.{Result, refused, done, _>>=_, _>>_, require, present}
 use Rattle.tree.specs.ResultLaws.{then-then, then-bind, present-of, present-none, done-then, refused-then, done-bind, refused-bind, require-true, require-false}
 use Rattle.tree.specs.Forest.{Place, is-empty}
 use Rattle.tree.specs.Node.{is-directory, Tag, Node, allows}
@@ -27,12 +27,14 @@ use Rattle.tree.specs.UpdateLaws.{by-option}
 use Rattle.tree.specs.WellFormed.{last-revision}
 use Rattle.copying.specs.Copying.{below-rep}
 use Rattle.walks.specs.WalkBytesLaws.{by-result}
+use Rattle.shell.specs.declared.Answer.{Answer}
+use Rattle.shell.specs.CommandBytes.{Follows-silently}
 use Rattle.store.specs.State.{Store}
 use Rattle.machine.specs.Machine.{Working, session, working-file, original, run-commit, run-up, run-del}
 use Rattle.machine.specs.StoreMachine.{store}
 use Rattle.machine.specs.Acting.{Acting, on-tree-steps}
 use Rattle.entries.specs.LinkLaws.{link-on-missing, link-on-done, link-on-refused}
-use Rattle.entries.specs.EntrySteps.{file-tests, judged-walk, file-walk, link, commit-tests, commit-link, del-tests, del-walk, after-commit, after-up, after-del}
+use Rattle.entries.specs.EntrySteps.{file-tests, judged-walk, file-walk, link, commit-tests, commit-link, del-tests, del-walk, after-commit, after-up, after-del, changing, commit-steps, up-steps, del-steps}
 
 -- a file is readable with r
 readable-file : (a : Account) (n : Node) → is-directory (n .kind) ≡ false → by-modes a .readable n ≡ allows a R n
@@ -83,7 +85,7 @@ module _ (u : Setup) (s : Store) (c : Caller) (z : Bounded-role) (e : session st
   account = service (u .pairs) z
 
   up-is : (w : Path) → on-tree-steps (run-up store u s c w)
-      ≡ (link (c .account) W account (s .tree) w >>= λ l. done (record { text = none; state = after-up (s .tree) l }))
+      ≡ up-steps (c .account) account (s .tree) w
   unfolding on-tree-steps run-up link after-up
   up-is w =
       let t = s .tree in
@@ -96,7 +98,7 @@ module _ (u : Setup) (s : Store) (c : Caller) (z : Bounded-role) (e : session st
       (λ f p. simp (q, done-bind, tag-found h, original-is u s c z (g .path), p, link-on-done account t w d h p)))))
 
   commit-is : (w : Path) → on-tree-steps (run-commit store u s c w)
-      ≡ (commit-link (c .account) account (s .tree) w >>= λ l. done (record { text = none; state = after-commit (s .tree) l }))
+      ≡ commit-steps (c .account) account (s .tree) w
   unfolding on-tree-steps run-commit commit-link link commit-tests after-commit
   commit-is w =
       let t = s .tree in
@@ -112,7 +114,7 @@ module _ (u : Setup) (s : Store) (c : Caller) (z : Bounded-role) (e : session st
       (three-tests (require (allows account W (v .here)) Access) (require (eqb (g .revision) (f .here .revision)) Stale)
       (require (not (eqb (f .here .revision) last-revision)) RevisionsSpent) _ _ _ _ refl))))))
 
-  del-is : (p : Entry-path) → on-tree-steps (run-del store u s c p) ≡ (del-walk account (s .tree) p >>= λ d. done (record { text = none; state = after-del (s .tree) p }))
+  del-is : (p : Entry-path) → on-tree-steps (run-del store u s c p) ≡ del-steps account (s .tree) p
   unfolding on-tree-steps run-del del-walk del-tests after-del below-rep in-rep entry-location
   del-is p =
       let t = s .tree in
@@ -125,26 +127,27 @@ module _ (u : Setup) (s : Store) (c : Caller) (z : Bounded-role) (e : session st
       simp (y, v .1, done-bind, writable-by-modes account (v .0 .here))
       (three-tests (require (j .readable (d .here)) Access) (require (allows account W (v .0 .here)) Access) (require (is-empty (d .below)) NotEmpty) _ _ _ _ refl)))
 
+-- ---- what steps come to that end in a change
+
+module _ {A : Type 0} (steps : Result A) (after : A → Place Node) where
+  pub comes-to : {x : A} → steps ≡ done x → changing steps after ≡ done (record { text = none; state = after x })
+  comes-to {x} e = rw (e, done-bind)
+
+  pub comes-not : {k : Cause} → steps ≡ refused k → changing steps after ≡ refused k
+  comes-not {k} e = rw (e, refused-bind)
+
 -- ---- in a session
 
--- what steps come to that end in a change
-module _ {A : Type 0} {S : Result (Outcome (Place Node))} (steps : Result A) (f : A → Place Node)
-    (is : S ≡ (steps >>= λ l. done (record { text = none; state = f l }))) where
-  pub comes-to : {x : A} → steps ≡ done x → S ≡ done (record { text = none; state = f x })
-  comes-to {x} e = is ∙ rw (e, done-bind)
+-- what follows the steps by the session's account follows the command
+module _ {b : List ℕ} {c : Caller} {a : Account} (j : Acting b c a) {r : Answer} {b′ : List ℕ} where
+  pub commit-acts : (w : Path) → Follows-silently (commit-steps (c .account) a (j .state .tree) w) b r b′
+      → Follows-silently (on-tree-steps (run-commit store (j .setup) (j .state) c w)) b r b′
+  commit-acts w f = rw (commit-is (j .setup) (j .state) c (j .role) (j .session) w, ← j .served) f
 
-  pub comes-not : {k : Cause} → steps ≡ refused k → S ≡ refused k
-  comes-not {k} e = is ∙ rw (e, refused-bind)
+  pub up-acts : (w : Path) → Follows-silently (up-steps (c .account) a (j .state .tree) w) b r b′
+      → Follows-silently (on-tree-steps (run-up store (j .setup) (j .state) c w)) b r b′
+  up-acts w f = rw (up-is (j .setup) (j .state) c (j .role) (j .session) w, ← j .served) f
 
-module _ {b : List ℕ} {c : Caller} {a : Account} (j : Acting b c a) where
-  pub commit-steps : (w : Path) → on-tree-steps (run-commit store (j .setup) (j .state) c w)
-      ≡ (commit-link (c .account) a (j .state .tree) w >>= λ l. done (record { text = none; state = after-commit (j .state .tree) l }))
-  commit-steps w = rw (j .served) (commit-is (j .setup) (j .state) c (j .role) (j .session) w)
-
-  pub up-steps : (w : Path) → on-tree-steps (run-up store (j .setup) (j .state) c w)
-      ≡ (link (c .account) W a (j .state .tree) w >>= λ l. done (record { text = none; state = after-up (j .state .tree) l }))
-  up-steps w = rw (j .served) (up-is (j .setup) (j .state) c (j .role) (j .session) w)
-
-  pub del-steps : (p : Entry-path) → on-tree-steps (run-del store (j .setup) (j .state) c p)
-      ≡ (del-walk a (j .state .tree) p >>= λ d. done (record { text = none; state = after-del (j .state .tree) p }))
-  del-steps p = rw (j .served) (del-is (j .setup) (j .state) c (j .role) (j .session) p)
+  pub del-acts : (e : Entry-path) → Follows-silently (del-steps a (j .state .tree) e) b r b′
+      → Follows-silently (on-tree-steps (run-del store (j .setup) (j .state) c e)) b r b′
+  del-acts e f = rw (del-is (j .setup) (j .state) c (j .role) (j .session) e, ← j .served) f

@@ -3,6 +3,3 @@ pub mod LinkLaws
 pub mod RemovalLaws
 pub mod EntryStepsLaws
 pub mod TestsLaws
-pub mod AddSteps
-pub mod AddLaws
-pub mod AddRowLaws

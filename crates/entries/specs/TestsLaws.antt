@@ -7,15 +7,14 @@ use Rattle.accounts.specs.declared.Account.{Account}
 use Rattle.accounts.specs.declared.Right.{Right}
 use Rattle.accounts.specs.declared.Right.the-variants.{W}
 use Rattle.tree.specs.declared.Kind.the-variants.{File, Directory}
-use Rattle.tree.specs.declared.Cause.the-variants.{Access, WrongKind, NotEmpty, Reserved, Stale, RevisionsSpent}
+use Rattle.tree.specs.declared.Cause.the-variants.{Access, WrongKind, NotEmpty, Stale, RevisionsSpent}
 use Rattle.tree.specs.Result.{refused, done}
 use Rattle.tree.specs.ResultLaws.{done-then, refused-then, require-true, require-false}
-use Rattle.tree.specs.Node.{Node, allows, owns}
+use Rattle.tree.specs.Node.{Node, allows}
 use Rattle.tree.specs.JudgeLaws.{file-is-none, directory-is-one}
 use Rattle.tree.specs.Walk.{by-modes}
 use Rattle.tree.specs.WellFormed.{last-revision}
 use Rattle.entries.specs.EntrySteps.{file-tests, commit-tests, del-tests, passing}
-use Rattle.entries.specs.AddSteps.{add-tests}
 
 module _ {A : Type 0} (x : A) (a : Account) where
   -- ---- a file
@@ -71,22 +70,3 @@ module _ {A : Type 0} (x : A) (a : Account) where
     pub del-open : by-modes a .readable n ≡ true → allows a W above ≡ true → empty ≡ true → done x ≡ passing (del-tests a n above empty) x
     unfolding del-tests
     del-open e f g = simp (e, f, g, require-true, done-then)
-
-  -- ---- `add`
-
-  module _ (dominated : Bool) (n : Node) where
-    pub add-foreign : owns a n ≡ false → refused Reserved ≡ passing (add-tests a dominated n) x
-    unfolding add-tests
-    add-foreign e = simp (e, require-false, refused-then)
-
-    pub add-unread : owns a n ≡ true → by-modes a .readable n ≡ false → refused Access ≡ passing (add-tests a dominated n) x
-    unfolding add-tests
-    add-unread e f = simp (e, f, require-true, done-then, require-false, refused-then)
-
-    pub add-undominated : owns a n ≡ true → by-modes a .readable n ≡ true → dominated ≡ false → refused Reserved ≡ passing (add-tests a dominated n) x
-    unfolding add-tests
-    add-undominated e f g = simp (e, f, g, require-true, done-then, require-false, refused-then)
-
-    pub add-open : owns a n ≡ true → by-modes a .readable n ≡ true → dominated ≡ true → done x ≡ passing (add-tests a dominated n) x
-    unfolding add-tests
-    add-open e f g = simp (e, f, g, require-true, done-then)

@@ -1,17 +1,14 @@
 // A working file and its entry: `commit` files its content, `up` brings it up to the entry's.
 ghost use mathlib.Core.Path.{_≡_};
-ghost use mathlib.Core.Option.{some};
 ghost use Prim.Native.Nat.{_<_};
-ghost use Rattle.syntax.specs.Path.{Path, path};
 ghost use Rattle.tree.specs.Forest.{Place};
 ghost use Rattle.tree.specs.Node.{Node};
 ghost use Rattle.tree.specs.Encoding.{encode-tree};
 ghost use Rattle.tree.specs.RowAt.{row-at, tag-number-at};
 ghost use Rattle.tree.specs.WellFormed.{last-revision};
 ghost use Rattle.tree.specs.TreeBytes.{Has-row, Whole, Path-text, Whichever};
-ghost use Rattle.machine.specs.Machine.{run-commit, run-up};
-ghost use Rattle.machine.specs.StoreMachine.{store};
-ghost use Rattle.entries.specs.EntrySteps.{commit-tests, commit-link, after-commit, after-up, three-rows, link-rows-from, passing, links-told, Link, Linked, Some-link, In-session};
+ghost use Rattle.shell.specs.CommandBytes.{Follows-silently};
+ghost use Rattle.entries.specs.EntrySteps.{commit-tests, commit-link, after-commit, after-up, commit-steps, up-steps, three-rows, link-rows-from, passing, links-told, Link, Linked, Some-link};
 use crate::Links;
 use crate::tagged::linked_rows;
 use accounts::Account;
@@ -96,8 +93,8 @@ fn bring_up(tree: &mut [u8], working: usize, entry: usize)
 pub fn commit(tree: &mut [u8], caller: Caller, account: Account, working: &[u8]) -> Answer
     requires { ⌜ Whole (now tree) ⌝ }
     requires { ⌜ Path-text (now working) ⌝ }
-    ensures { λ r. ⌜ ((w : Path) → path (now (working .entry)) ≡ some w
-        → In-session (now (tree .entry)) caller account (λ u s. run-commit store u s caller w) r (now (tree .exit))) ⌝ }
+    ensures { λ r. ⌜ Whichever (now (tree .entry)) (now (working .entry)) (λ t w. Follows-silently (commit-steps (caller .account) account t w)
+        (now (tree .entry)) r (now (tree .exit))) ⌝ }
 {
     let person = caller.account;
     match commit_rows(tree, person, account, working) {
@@ -117,8 +114,8 @@ pub fn commit(tree: &mut [u8], caller: Caller, account: Account, working: &[u8])
 pub fn up(tree: &mut [u8], caller: Caller, account: Account, working: &[u8]) -> Answer
     requires { ⌜ Whole (now tree) ⌝ }
     requires { ⌜ Path-text (now working) ⌝ }
-    ensures { λ r. ⌜ ((w : Path) → path (now (working .entry)) ≡ some w
-        → In-session (now (tree .entry)) caller account (λ u s. run-up store u s caller w) r (now (tree .exit))) ⌝ }
+    ensures { λ r. ⌜ Whichever (now (tree .entry)) (now (working .entry)) (λ t w. Follows-silently (up-steps (caller .account) account t w)
+        (now (tree .entry)) r (now (tree .exit))) ⌝ }
 {
     let person = caller.account;
     match linked_rows(tree, person, Right::W, account, working) {

@@ -1,10 +1,8 @@
 // The repository commands on entries.
-mod adding;
 mod filing;
 mod removal;
 mod tagged;
 
-pub use adding::add;
 pub use filing::commit;
 pub use filing::up;
 pub use removal::del;

@@ -2,7 +2,6 @@
 ghost use mathlib.Core.Path.{_≡_};
 ghost use mathlib.Core.Option.{some};
 ghost use mathlib.Core.Bool.{not};
-ghost use Rattle.accounts.specs.declared.Caller.{Caller};
 ghost use Rattle.syntax.specs.Path.{Entry-path, entry-location, entry-path};
 ghost use Rattle.tree.specs.Forest.{Place};
 ghost use Rattle.tree.specs.Node.{Node};
@@ -10,10 +9,9 @@ ghost use Rattle.tree.specs.RowAt.{row-at, all-rows};
 ghost use Rattle.tree.specs.TreeBytes.{Has-row, Used, Whole, Encodes, Entry-path-text};
 ghost use Rattle.walks.specs.RowBelow.{has-children-in};
 ghost use Rattle.walks.specs.RowWalk.{spot, outcome};
-ghost use Rattle.machine.specs.Machine.{run-del};
-ghost use Rattle.machine.specs.StoreMachine.{store};
+ghost use Rattle.shell.specs.CommandBytes.{Follows-silently};
 ghost use Rattle.walks.specs.WalkBytes.{spot-from};
-ghost use Rattle.entries.specs.EntrySteps.{del-tests, del-walk, passing, In-session};
+ghost use Rattle.entries.specs.EntrySteps.{del-tests, del-walk, del-steps, passing};
 use accounts::Account;
 use accounts::Right;
 use edits::take_rows;
@@ -61,8 +59,8 @@ fn walk_del(tree: &[u8], account: Account, entry: &[u8]) -> Walked
 pub fn del(tree: &mut [u8], account: Account, entry: &[u8]) -> Answer
     requires { ⌜ Whole (now tree) ⌝ }
     requires { ⌜ Entry-path-text (now entry) ⌝ }
-    ensures { λ r. ⌜ ((c : Caller) (e : Entry-path) → entry-path (now (entry .entry)) ≡ some e
-        → In-session (now (tree .entry)) c account (λ u s. run-del store u s c e) r (now (tree .exit))) ⌝ }
+    ensures { λ r. ⌜ ((t : Place Node) (e : Entry-path) → Encodes (now (tree .entry)) t → entry-path (now (entry .entry)) ≡ some e
+        → Follows-silently (del-steps account t e) (now (tree .entry)) r (now (tree .exit))) ⌝ }
 {
     match walk_del(tree, account, entry) {
         Walked::To { row, above: _ } => {

@@ -8,7 +8,7 @@ use accounts::Dominance;
 use accounts::Session;
 use checkout::co;
 use commands::Command;
-use entries::add;
+use adding::add;
 use entries::commit;
 use entries::del;
 use entries::up;

@@ -4,7 +4,7 @@ use Rattle.accounts.specs.declared.Right.the-variants.{W}
 use Rattle.shell.specs.CommandBytesLaws.{refusal-follows, silence-follows}
 use Rattle.entries.specs.EntrySteps.{link, after-up}
 use Rattle.entries.specs.LinkLaws.{links-to, links-not, link-facts, linked}
-use Rattle.entries.specs.EntryStepsLaws.{comes-to, comes-not, up-steps}
+use Rattle.entries.specs.EntryStepsLaws.{comes-to, comes-not}
 use borrow.Author.Needs.{needs}
 use Rattle.entries.proofs.filing.up.Statement.{statement}
 use Rattle.entries.proofs.filing.up.Tie as tie
@@ -44,11 +44,10 @@ same-length c = search needs
 returns : tie.Need-returns
 returns c = let k = c .before .before .before .before .before .before .before in
     let a = k .before .before .before .before .before .args in
-    λ w e j.
-    let t = j .state .tree in
-    let x = links-to t (link (a .caller .account) W (a .account) t w) (k .linked-rows .ensures t w (j .tree) e) (c .before .before .before .before .before .row .given .1) in
-    let l = linked (j .tree) (link-facts (a .caller .account) (a .account) W t w (x .1)) (x .2) in
-    silence-follows (now (a .tree)) (c .before .before .bring-up .last .0) (comes-to (link (a .caller .account) W (a .account) t w) (after-up t) (up-steps j w) (x .1)) (c .before .before .bring-up .ensures t (x .0) l)
+    λ t w tree e.
+    let x = links-to t (link (a .caller .account) W (a .account) t w) (k .linked-rows .ensures t w tree e) (c .before .before .before .before .before .row .given .1) in
+    let l = linked tree (link-facts (a .caller .account) (a .account) W t w (x .1)) (x .2) in
+    silence-follows (now (a .tree)) (c .before .before .bring-up .last .0) (comes-to (link (a .caller .account) W (a .account) t w) (after-up t) (x .1)) (c .before .before .bring-up .ensures t (x .0) l)
 
 -- src/filing.rt:117:1
 same-length-2 : tie.Need-same-length-2
@@ -58,9 +57,8 @@ same-length-2 c = search needs
 returns-2 : tie.Need-returns-2
 returns-2 c = let k = c .before .before .before in
     let a = k .before .before .before .before .before .args in
-    λ w e j.
-    let t = j .state .tree in
-    refusal-follows (now (a .tree)) (comes-not (link (a .caller .account) W (a .account) t w) (after-up t) (up-steps j w) (links-not t (link (a .caller .account) W (a .account) t w) (k .linked-rows .ensures t w (j .tree) e) (c .before .cause .given .1)))
+    λ t w tree e.
+    refusal-follows (now (a .tree)) (comes-not (link (a .caller .account) W (a .account) t w) (after-up t) (links-not t (link (a .caller .account) W (a .account) t w) (k .linked-rows .ensures t w tree e) (c .before .cause .given .1)))
 
 pub up-spec : {M : Type 1} → statement M
 up-spec =

@@ -4,7 +4,7 @@ use denote.Ref.{now}
 use Rattle.shell.specs.CommandBytesLaws.{refusal-follows, silence-follows}
 use Rattle.entries.specs.EntrySteps.{del-walk, after-del}
 use Rattle.entries.specs.RemovalLaws.{del-to, del-not, del-row, del-law}
-use Rattle.entries.specs.EntryStepsLaws.{comes-to, comes-not, del-steps}
+use Rattle.entries.specs.EntryStepsLaws.{comes-to, comes-not}
 use borrow.Author.Needs.{needs}
 use Rattle.entries.proofs.removal.del.Statement.{statement}
 use Rattle.entries.proofs.removal.del.Tie as tie
@@ -43,10 +43,9 @@ returns : tie.Need-returns
 returns c = let k = c .before .before .before .before .before .before .before in
     let s = k .before .before .before .before .args in
     let a = s .account in
-    λ who e read j.
-    let t = j .state .tree in
-    let x = del-to a t e (j .tree) (k .walk-del .ensures t e (j .tree) read) (c .before .before .before .before .before .row .given .1) in
-    silence-follows (now (s .tree)) (c .before .before .take-rows .last .0) (comes-to (del-walk a t e) (λ d. after-del t e) (del-steps j e) (x .walked)) (c .before .before .take-rows .ensures ∙ del-law a t e x)
+    λ t e tree read.
+    let x = del-to a t e tree (k .walk-del .ensures t e tree read) (c .before .before .before .before .before .row .given .1) in
+    silence-follows (now (s .tree)) (c .before .before .take-rows .last .0) (comes-to (del-walk a t e) (λ d. after-del t e) (x .walked)) (c .before .before .take-rows .ensures ∙ del-law a t e x)
 
 -- src/removal.rt:60:1
 same-length-2 : tie.Need-same-length-2
@@ -57,9 +56,8 @@ returns-2 : tie.Need-returns-2
 returns-2 c = let k = c .before .before .before in
     let s = k .before .before .before .before .args in
     let a = s .account in
-    λ who e read j.
-    let t = j .state .tree in
-    refusal-follows (now (s .tree)) (comes-not (del-walk a t e) (λ d. after-del t e) (del-steps j e) (del-not a t e (j .tree) (k .walk-del .ensures t e (j .tree) read) (c .before .cause .given .1)))
+    λ t e tree read.
+    refusal-follows (now (s .tree)) (comes-not (del-walk a t e) (λ d. after-del t e) (del-not a t e tree (k .walk-del .ensures t e tree read) (c .before .cause .given .1)))
 
 pub del-spec : {M : Type 1} → statement M
 del-spec =

@@ -10,26 +10,25 @@ use Rattle.buffers.specs.Text.{Text}
 use Rattle.accounts.specs.declared.Account.{Account}
 use Rattle.accounts.specs.declared.Caller.{Caller}
 use Rattle.accounts.specs.declared.Role.{Role}
-use Rattle.accounts.specs.Dominance.{Bounded-role, dominates}
+use Rattle.accounts.specs.Dominance.{Bounded-role}
 use Rattle.accounts.specs.Service.{service-uid, service-gid}
 use Rattle.syntax.specs.Path.{Path, Entry-path, in-rep, entry-location, entry-path}
 use Rattle.tree.specs.declared.Kind.{Kind}
 use Rattle.tree.specs.declared.Cause.the-variants.{Access, Reserved, Full}
 use Rattle.tree.specs.Layout.{most-rows}
-use Rattle.tree.specs.Result.{Result, done, _>>=_, _>>_, require}
+use Rattle.tree.specs.Result.{Result, done, _>>=_, _>>_, require, Outcome}
 use Rattle.tree.specs.Forest.{Place, update, put, leaf}
 use Rattle.tree.specs.Node.{Node, owns}
 use Rattle.tree.specs.Walk.{by-modes, room}
 use Rattle.tree.specs.WellFormed.{most-nodes, nodes}
-use Rattle.tree.specs.TreeBytes.{At}
+use Rattle.tree.specs.TreeBytes.{Encodes, At}
 use Rattle.edits.specs.declared.Fresh.{Fresh}
 use Rattle.gaps.specs.GapsLaws.{Standing}
 use Rattle.shell.specs.declared.Answer.{Answer}
 use Rattle.shell.specs.CommandBytes.{Follows-silently}
-use Rattle.machine.specs.Machine.{tagged, run-add}
+use Rattle.machine.specs.Machine.{tagged}
 use Rattle.machine.specs.StoreMachine.{entry-mode, entry-node, store}
-use Rattle.machine.specs.Acting.{Acting, on-tree-steps}
-use Rattle.entries.specs.EntrySteps.{judged-walk}
+use Rattle.entries.specs.EntrySteps.{judged-walk, changing}
 
 -- ---- the steps
 
@@ -57,6 +56,11 @@ add-room a t e = do
 unfoldable pub after-add : Place Node → Path → Entry-path → Bounded-role → Place Node → Place Node
 after-add t w e z found =
     tagged w e 1 (update (in-rep (e .folder)) (put (e .name) (leaf (entry-node (found .here .kind) z 1 (found .here .content)))) t)
+
+-- ---- the command
+
+abbrev pub add-steps : Account → Account → Bool → Bounded-role → Place Node → Path → Entry-path → Result (Outcome (Place Node))
+add-steps person account dominated z t w e = add-walk person dominated t w >>= λ d. changing (add-room account t e) (λ f. after-add t w e z d)
 
 -- ---- the entry's row
 
@@ -93,7 +97,7 @@ pub record Addition (b : List ℕ) (entry : Text) (working at k : ℕ) : Type 0 
 
 -- ---- promises
 
--- what is answered and left is what `add` comes to, in whatever session of the caller's with that account and that dominance of the role
+-- what is answered and left is what the steps come to
 abbrev pub Adds : List ℕ → Caller → Account → Bool → Role → Path → Entry-path → Answer → List ℕ → Type 0
-Adds b c a dominated role w e r b′ = (z : Bounded-role) (j : Acting b c a) → z .role ≡ role
-    → dominated ≡ dominates (j .setup .pairs) (j .role .role) role → Follows-silently (on-tree-steps (run-add store (j .setup) (j .state) c w e z)) b r b′
+Adds b c a dominated role w e r b′ = (t : Place Node) (z : Bounded-role) → Encodes b t → z .role ≡ role
+    → Follows-silently (add-steps (c .account) a dominated z t w e) b r b′

@@ -1,9 +1,9 @@
--- `entries::adding::new_entry` meets its contract: owner and group are counted from 16 by role, and the mode goes by the kind.
+-- `adding::new_entry` meets its contract: owner and group are counted from 16 by role, and the mode goes by the kind.
 use Rattle.accounts.specs.Service.{service-uid, service-gid}
-use Rattle.entries.specs.AddSteps.{fresh-entry}
+use Rattle.adding.specs.AddSteps.{fresh-entry}
 use borrow.Author.Needs.{needs}
-use Rattle.entries.proofs.adding.new_entry.Statement.{statement}
-use Rattle.entries.proofs.adding.new_entry.Tie as tie
+use Rattle.adding.proofs.new_entry.Statement.{statement}
+use Rattle.adding.proofs.new_entry.Tie as tie
 
 add-number : tie.Need-add-number
 add-number c = search needs

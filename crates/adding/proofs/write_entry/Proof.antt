@@ -1,14 +1,14 @@
--- `entries::adding::write_entry` meets its contract: the row of a new node, and then the content over its zeros.
+-- `adding::write_entry` meets its contract: the row of a new node, and then the content over its zeros.
 use mathlib.Core.Path.{ap}
 use native.Mathlib.Omega.{arith}
 use lib.ListN.{length}
 use denote.Ref.{now}
 use Rattle.tree.specs.RowAt.{row-at}
 use Rattle.tree.specs.RowAtLaws.{row-content-fits}
-use Rattle.entries.specs.AddRowLaws.{entry-written}
+use Rattle.adding.specs.AddRowLaws.{entry-written}
 use borrow.Author.Needs.{needs}
-use Rattle.entries.proofs.adding.write_entry.Statement.{statement}
-use Rattle.entries.proofs.adding.write_entry.Tie as tie
+use Rattle.adding.proofs.write_entry.Statement.{statement}
+use Rattle.adding.proofs.write_entry.Tie as tie
 
 write-head-requires : tie.Need-write-head-requires
 write-head-requires c κs = search needs

@@ -1,4 +1,4 @@
--- `entries::adding::entry_room` meets its contract: no room, 256 nodes, or the room.
+-- `adding::entry_room` meets its contract: no room, 256 nodes, or the room.
 use mathlib.Core.Path.{sym, _∙_, ap}
 use native.Mathlib.Omega.{arith}
 use denote.Ref.{now}
@@ -7,11 +7,11 @@ use Rattle.syntax.specs.PathLaws.{entry-reads}
 use Rattle.tree.specs.TreeBytesLaws.{encoded-count}
 use Rattle.gaps.specs.Gaps.{gap-from, gap-told}
 use Rattle.gaps.specs.GapsLaws.{told-not, room-to, room-not}
-use Rattle.entries.specs.AddSteps.{add-room}
-use Rattle.entries.specs.AddLaws.{add-stops, add-full, add-goes}
+use Rattle.adding.specs.AddSteps.{add-room}
+use Rattle.adding.specs.AddLaws.{add-stops, add-full, add-goes}
 use borrow.Author.Needs.{needs}
-use Rattle.entries.proofs.adding.entry_room.Statement.{statement}
-use Rattle.entries.proofs.adding.entry_room.Tie as tie
+use Rattle.adding.proofs.entry_room.Statement.{statement}
+use Rattle.adding.proofs.entry_room.Tie as tie
 
 room-for-requires : tie.Need-room-for-requires
 room-for-requires c κs = let s = c .before .before in

@@ -1,9 +1,9 @@
--- `entries::adding::entry_mode` meets its contract: a mode for each kind.
+-- `adding::entry_mode` meets its contract: a mode for each kind.
 use mathlib.Core.Path.{sym, ap}
 use Rattle.machine.specs.StoreMachine.{entry-mode}
 use borrow.Author.Needs.{needs}
-use Rattle.entries.proofs.adding.entry_mode.Statement.{statement}
-use Rattle.entries.proofs.adding.entry_mode.Tie as tie
+use Rattle.adding.proofs.entry_mode.Statement.{statement}
+use Rattle.adding.proofs.entry_mode.Tie as tie
 
 enum-told : tie.Need-enum-told
 enum-told c = search needs

@@ -10,14 +10,13 @@ use borrow.Author.Tests.{leb-true, le-leb, lt-leb}
 use Rattle.buffers.specs.Text.{Text}
 use Rattle.accounts.specs.declared.Account.{Account}
 use Rattle.accounts.specs.declared.Caller.{Caller}
-use Rattle.accounts.specs.declared.Role.{Role}
 use Rattle.accounts.specs.Dominance.{Bounded-role, dominates}
 use Rattle.accounts.specs.Service.{service}
 use Rattle.syntax.specs.Path.{Path, Entry-path, last, is-top, in-rep, entry-location, entry-path}
 use Rattle.setup.specs.Setup.{Setup}
 use Rattle.tree.specs.declared.Cause.{Cause}
 use Rattle.tree.specs.declared.Cause.the-variants.{Full}
-use Rattle.tree.specs.Result.{Result, refused, done, _>>=_, Outcome}
+use Rattle.tree.specs.Result.{Result, refused, done, Outcome}
 use Rattle.tree.specs.ResultLaws.{bind-done, refused-before, done-then, refused-then, done-bind, refused-bind, require-true, require-false, then-then, then-bind, bind-bind}
 use Rattle.tree.specs.Outcomes.{gives, Ensures}
 use Rattle.tree.specs.GivesLaws.{done-with, then-check, then-do}
@@ -33,13 +32,15 @@ use Rattle.gaps.specs.declared.Room.{Room}
 use Rattle.gaps.specs.declared.Room.the-variants
 use Rattle.gaps.specs.Gaps.{gap-of, gap-from, gap-told}
 use Rattle.gaps.specs.GapsLaws.{told-refused, told-gap, Standing, room-to}
+use Rattle.shell.specs.declared.Answer.{Answer}
 use Rattle.shell.specs.Steps.{fit}
+use Rattle.shell.specs.CommandBytes.{Follows-silently}
 use Rattle.store.specs.State.{Store}
 use Rattle.machine.specs.Machine.{session, run-add}
 use Rattle.machine.specs.StoreMachine.{store}
 use Rattle.machine.specs.Acting.{Acting, on-tree-steps}
 use Rattle.entries.specs.EntrySteps.{judged-walk}
-use Rattle.entries.specs.AddSteps.{add-tests, add-walk, add-room, after-add, Addition}
+use Rattle.adding.specs.AddSteps.{add-tests, add-walk, add-room, after-add, add-steps, Addition}
 
 -- ---- the room for the entry
 
@@ -89,36 +90,37 @@ addition-of {t = t} {w} {e} {d} {a} {row = row} s file reads stands few =
 
 -- ---- the steps
 
-module _ (u : Setup) (s : Store) (c : Caller) (y : Bounded-role) (e : session store u s c ≡ done y) where
-  add-is : (w : Path) (p : Entry-path) (z : Bounded-role) → on-tree-steps (run-add store u s c w p z)
-      ≡ (add-walk (c .account) (dominates (u .pairs) (y .role) (z .role)) (s .tree) w
-      >>= λ d. add-room (service (u .pairs) y) (s .tree) p >>= λ f. done (record { text = none; state = after-add (s .tree) w p z d }))
-  unfolding on-tree-steps run-add judged-walk add-tests add-room after-add fit below-rep in-rep entry-location is-top last
-  add-is w p z =
-      let a = service (u .pairs) y in
-      rw (e, done-bind, room-by-modes a (s .tree) (entry-location p))
-      (simp (bind-bind, then-bind, then-then, done-bind, require-true, done-then, writable-by-modes, add-zero))
-
-module _ {b : List ℕ} {c : Caller} {a : Account} (j : Acting b c a) (role : Role) (dominated : Bool)
-    (is : dominated ≡ dominates (j .setup .pairs) (j .role .role) role) (w : Path) (p : Entry-path) (z : Bounded-role) (q : z .role ≡ role) where
+-- what they come to
+module _ (person account : Account) (dominated : Bool) (z : Bounded-role) (t : Place Node) (w : Path) (e : Entry-path) where
   abbrev steps : Result (Outcome (Place Node))
-  steps = on-tree-steps (run-add store (j .setup) (j .state) c w p z)
-
-  abbrev found-at : Result (Place Node)
-  found-at = add-walk (c .account) dominated (j .state .tree) w
-
-  add-steps : steps ≡ (found-at >>= λ d. add-room a (j .state .tree) p >>= λ f. done (record { text = none; state = after-add (j .state .tree) w p z d }))
-  add-steps = rw (is, ← q, j .served) (add-is (j .setup) (j .state) c (j .role) (j .session) w p z)
+  steps = add-steps person account dominated z t w e
 
   -- the person's walk is refused
-  pub add-unwalked : {k : Cause} → found-at ≡ refused k → steps ≡ refused k
-  add-unwalked h = add-steps ∙ rw (h, refused-bind)
+  pub add-unwalked : {k : Cause} → add-walk person dominated t w ≡ refused k → steps ≡ refused k
+  add-unwalked h = rw (h, refused-bind)
 
-  module _ {d : Place Node} (h : found-at ≡ done d) where
+  module _ {d : Place Node} (h : add-walk person dominated t w ≡ done d) where
     -- there is no room
-    pub add-unroomed : {k : Cause} → add-room a (j .state .tree) p ≡ refused k → steps ≡ refused k
-    add-unroomed g = add-steps ∙ rw (h, done-bind, g, refused-bind)
+    pub add-unroomed : {k : Cause} → add-room account t e ≡ refused k → steps ≡ refused k
+    add-unroomed g = rw (h, done-bind, g, refused-bind)
 
     -- the entry is made
-    pub add-made : {f : Place Node} → add-room a (j .state .tree) p ≡ done f → steps ≡ done (record { text = none; state = after-add (j .state .tree) w p z d })
-    add-made g = add-steps ∙ rw (h, done-bind, g, done-bind)
+    pub add-made : {f : Place Node} → add-room account t e ≡ done f → steps ≡ done (record { text = none; state = after-add t w e z d })
+    add-made g = rw (h, done-bind, g, done-bind)
+
+-- in a session the machine's are these
+module _ (u : Setup) (s : Store) (c : Caller) (y : Bounded-role) (q : session store u s c ≡ done y) where
+  add-is : (w : Path) (e : Entry-path) (z : Bounded-role) → on-tree-steps (run-add store u s c w e z)
+      ≡ add-steps (c .account) (service (u .pairs) y) (dominates (u .pairs) (y .role) (z .role)) z (s .tree) w e
+  unfolding on-tree-steps run-add judged-walk add-tests add-room after-add fit below-rep in-rep entry-location is-top last
+  add-is w e z =
+      let a = service (u .pairs) y in
+      rw (q, done-bind, room-by-modes a (s .tree) (entry-location e))
+      (simp (bind-bind, then-bind, then-then, done-bind, require-true, done-then, writable-by-modes, add-zero))
+
+-- what follows the steps by the session's account and dominance follows the command
+pub add-acts : {b : List ℕ} {c : Caller} {a : Account} (j : Acting b c a) {dominated : Bool} (w : Path) (e : Entry-path) (z : Bounded-role)
+    → dominated ≡ dominates (j .setup .pairs) (j .role .role) (z .role) → {r : Answer} {b′ : List ℕ}
+    → Follows-silently (add-steps (c .account) a dominated z (j .state .tree) w e) b r b′
+    → Follows-silently (on-tree-steps (run-add store (j .setup) (j .state) c w e z)) b r b′
+add-acts {c = c} j w e z is f = rw (add-is (j .setup) (j .state) c (j .role) (j .session) w e z, ← is, ← j .served) f

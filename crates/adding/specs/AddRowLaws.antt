@@ -51,8 +51,8 @@ use Rattle.copying.specs.CopyBytesLaws.{bytes-copied}
 use Rattle.machine.specs.Machine.{tagged}
 use Rattle.machine.specs.StoreMachine.{entry-node}
 use Rattle.machine.specs.EntryRangeLaws.{entry-fits}
 use Rattle.entries.specs.LinkLaws.{at-node}
-use Rattle.entries.specs.AddSteps.{after-add, fresh-entry, filled-node, Addition}
+use Rattle.adding.specs.AddSteps.{after-add, fresh-entry, filled-node, Addition}
 
 -- ---- the row
 

@@ -1,13 +1,13 @@
--- `entries::adding::walk_add` meets its contract: the tests at the row that the walk came to are those at its place.
+-- `adding::walk_add` meets its contract: the tests at the row that the walk came to are those at its place.
 use mathlib.Core.Path.{_∙_}
 use denote.Ref.{now}
 use Rattle.walks.specs.RowWalkLaws.{outcome-refused}
 use Rattle.walks.specs.WalkBytesLaws.{walk-to, walk-not}
-use Rattle.entries.specs.AddSteps.{add-tests}
+use Rattle.adding.specs.AddSteps.{add-tests}
 use Rattle.entries.specs.LinkLaws.{at-has-row, judged-came, judged-refused}
 use borrow.Author.Needs.{needs}
-use Rattle.entries.proofs.adding.walk_add.Statement.{statement}
-use Rattle.entries.proofs.adding.walk_add.Tie as tie
+use Rattle.adding.proofs.walk_add.Statement.{statement}
+use Rattle.adding.proofs.walk_add.Tie as tie
 
 walk-requires : tie.Need-walk-requires
 walk-requires c κs = search needs

@@ -1,4 +1,4 @@
--- `entries::adding::file_entry` meets its contract: its row is that of the entry, and the tag and the row make the tree of the law.
+-- `adding::file_entry` meets its contract: its row is that of the entry, and the tag and the row make the tree of the law.
 use mathlib.Core.Path.{refl, ap, _∙_}
 use native.Mathlib.Omega.{arith}
 use lib.ListN.{length}
@@ -8,12 +8,12 @@ use Rattle.syntax.specs.PathLaws.{entry-reads}
 use Rattle.syntax.specs.PathTextLaws.{text-begins}
 use Rattle.tree.specs.declared.Kind.{Kind}
 use Rattle.gaps.specs.GapsLaws.{last-in-text, last-fits}
 use Rattle.entries.specs.LinkLaws.{at-has-row}
-use Rattle.entries.specs.AddSteps.{fresh-entry}
-use Rattle.entries.specs.AddRowLaws.{addition-fits, addition-insertable, add-law}
+use Rattle.adding.specs.AddSteps.{fresh-entry}
+use Rattle.adding.specs.AddRowLaws.{addition-fits, addition-insertable, add-law}
 use borrow.Author.Needs.{needs}
-use Rattle.entries.proofs.adding.file_entry.Statement.{statement}
-use Rattle.entries.proofs.adding.file_entry.Tie as tie
+use Rattle.adding.proofs.file_entry.Statement.{statement}
+use Rattle.adding.proofs.file_entry.Tie as tie
 
 kind-at-requires : tie.Need-kind-at-requires
 kind-at-requires c κs = at-has-row (c .before .before .before .pre .0 .file)

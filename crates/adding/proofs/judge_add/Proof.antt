@@ -1,4 +1,4 @@
--- `entries::adding::judge_add` meets its contract: one law of the tests for each return.
+-- `adding::judge_add` meets its contract: one law of the tests for each return.
 use mathlib.Core.Path.{refl, _∙_}
 use denote.Ref.{now}
 use Rattle.buffers.specs.Cases.{answers-false, answers-true}
@@ -6,10 +6,10 @@ use Rattle.tree.specs.declared.Cause.the-variants.{Access, Reserved}
 use Rattle.tree.specs.RowAt.{row-at}
 use Rattle.walks.specs.RowWalk.{spot}
 use Rattle.walks.specs.RowWalkLaws.{outcome-at, outcome-refused}
-use Rattle.entries.specs.TestsLaws.{add-foreign, add-unread, add-undominated, add-open}
+use Rattle.adding.specs.AddTestsLaws.{add-foreign, add-unread, add-undominated, add-open}
 use borrow.Author.Needs.{needs}
-use Rattle.entries.proofs.adding.judge_add.Statement.{statement}
-use Rattle.entries.proofs.adding.judge_add.Tie as tie
+use Rattle.adding.proofs.judge_add.Statement.{statement}
+use Rattle.adding.proofs.judge_add.Tie as tie
 
 owns-at-requires : tie.Need-owns-at-requires
 owns-at-requires c κs = search needs

@@ -1,0 +1,4 @@
+pub mod AddSteps
+pub mod AddTestsLaws
+pub mod AddRowLaws
+pub mod AddLaws
