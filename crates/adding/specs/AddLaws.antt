@@ -10,6 +10,7 @@ use borrow.Author.Tests.{leb-true, le-leb, lt-leb}
 use Rattle.buffers.specs.Text.{Text}
 use Rattle.accounts.specs.declared.Account.{Account}
 use Rattle.accounts.specs.declared.Caller.{Caller}
+use Rattle.accounts.specs.declared.Role.{Role}
 use Rattle.accounts.specs.Dominance.{Bounded-role, dominates}
 use Rattle.accounts.specs.Service.{service}
 use Rattle.syntax.specs.Path.{Path, Entry-path, last, is-top, in-rep, entry-location, entry-path}
@@ -120,7 +121,9 @@ module _ (u : Setup) (s : Store) (c : Caller) (y : Bounded-role) (q : session st
 
 -- what follows the steps by the session's account and dominance follows the command
 pub add-acts : {b : List ℕ} {c : Caller} {a : Account} (j : Acting b c a) {dominated : Bool} (w : Path) (e : Entry-path) (z : Bounded-role)
-    → dominated ≡ dominates (j .setup .pairs) (j .role .role) (z .role) → {r : Answer} {b′ : List ℕ}
+    → {role : Role} → z .role ≡ role → dominated ≡ dominates (j .setup .pairs) (j .role .role) role → {r : Answer} {b′ : List ℕ}
     → Follows-silently (add-steps (c .account) a dominated z (j .state .tree) w e) b r b′
     → Follows-silently (on-tree-steps (run-add store (j .setup) (j .state) c w e z)) b r b′
-add-acts {c = c} j w e z is f = rw (add-is (j .setup) (j .state) c (j .role) (j .session) w e z, ← is, ← j .served) f
+add-acts {c = c} j {dominated} w e z q is f =
+    let own : dominated ≡ dominates (j .setup .pairs) (j .role .role) (z .role) = is ∙ ap (dominates (j .setup .pairs) (j .role .role)) (sym q) in
+    rw (add-is (j .setup) (j .state) c (j .role) (j .session) w e z, ← own, ← j .served) f

@@ -6,11 +6,9 @@ ghost use lib.ListN.{length};
 ghost use Rattle.accounts.specs.Dominance.{Bounded-role};
 ghost use Rattle.syntax.specs.Path.{Path, Entry-path, entry-location, path, entry-path};
 ghost use Rattle.tree.specs.Layout.{row-width, name-width};
-ghost use Rattle.tree.specs.Forest.{Place};
-ghost use Rattle.tree.specs.Node.{Node};
 ghost use Rattle.tree.specs.Encoding.{row-bytes, encode-tree};
 ghost use Rattle.tree.specs.RowAt.{row-at};
-ghost use Rattle.tree.specs.TreeBytes.{Has-row, Whole, Path-text, Whichever, Encodes, Entry-path-text};
+ghost use Rattle.tree.specs.TreeBytes.{Has-row, Whole, Path-text, Whichever, Entry-path-text, Whichever-entry};
 ghost use Rattle.walks.specs.RowWalk.{spot, outcome};
 ghost use Rattle.gaps.specs.Gaps.{gap-from, gap-told};
 ghost use Rattle.machine.specs.StoreMachine.{entry-mode};
@@ -26,11 +24,11 @@ use buffers::clear;
 use buffers::write_padded;
 use edits::Fresh;
 use edits::put_rows;
-use node_fields::set_tag;
 use edits::write_head;
 use gaps::Room;
 use gaps::last_name;
 use gaps::room_for;
+use node_fields::set_tag;
 use shell::Answer;
 use tree::BEHIND_NAME;
 use tree::CONTENT;
@@ -89,8 +87,8 @@ fn walk_add(tree: &[u8], person: Account, dominated: bool, working: &[u8]) -> Wa
 fn entry_room(tree: &[u8], account: Account, entry: &[u8]) -> Room
     requires { ⌜ Whole (now tree) ⌝ }
     requires { ⌜ Entry-path-text (now entry) ⌝ }
-    ensures { λ r. ⌜ ((t : Place Node) (e : Entry-path) → Encodes (now (tree .entry)) t → entry-path (now (entry .entry)) ≡ some e
-        → gap-told r ≡ gap-from t (entry-location e) (add-room account t e)) ⌝ }
+    ensures { λ r. ⌜ Whichever-entry (now (tree .entry)) (now (entry .entry)) (λ t e.
+        gap-told r ≡ gap-from t (entry-location e) (add-room account t e)) ⌝ }
 {
     match room_for(tree, account, entry) {
         Room::Refused(cause) => Room::Refused(cause),

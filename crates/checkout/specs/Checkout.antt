@@ -15,7 +15,7 @@ use Rattle.tree.specs.Forest.{Place, update, put, size, height}
 use Rattle.tree.specs.Node.{Node}
 use Rattle.tree.specs.Walk.{by-modes, walk, room}
 use Rattle.tree.specs.Encoding.{encode-tree}
-use Rattle.tree.specs.TreeBytes.{Wide, Insertable, Encodes, At}
+use Rattle.tree.specs.TreeBytes.{Wide, Insertable, At, Whichever-entry}
 use Rattle.walks.specs.RowWalk.{Spot}
 use Rattle.walks.specs.WalkBytes.{spot-of}
 use Rattle.edits.specs.Changes.{rows-put}
@@ -47,6 +47,10 @@ put-copies c t d copies = do
   require (fit c 0 t (suc (size (copies .below)))) Full
   done (record { text = none; state = update (parent d) (put (last d) copies) t })
 
+-- one who checks out: the session's account reads, and the caller takes the copies
+abbrev pub copier : Account → Caller → Copier
+copier account caller = record { reader = account; caller = caller }
+
 -- the steps of `co` once the session's account is known, which reads
 unfoldable pub co-steps : Copier → Place Node → Entry-path → Path → Result (Outcome (Place Node))
 co-steps w t e d = do
@@ -56,11 +60,7 @@ co-steps w t e d = do
 
 -- ---- texts
 
--- for whatever tree the bytes are, and whatever entry path the text reads as
-abbrev pub Whichever-entry : List ℕ → Text → (Place Node → Entry-path → Type 0) → Type 0
-Whichever-entry b s P = (t : Place Node) (e : Entry-path) → Encodes b t → entry-path s ≡ some e → P t e
-
--- and whatever path another text reads as
+-- whatever tree the bytes are of, entry path the one text reads as, and path the other
 abbrev pub Whichever-copy : List ℕ → Text → Text → (Place Node → Entry-path → Path → Type 0) → Type 0
 Whichever-copy b entry to P = Whichever-entry b entry (λ t e. (d : Path) → path to ≡ some d → P t e d)
 

@@ -38,7 +38,7 @@ use Rattle.copying.specs.RowsWrittenLaws.{written-as, written-width, written-pi
 use Rattle.copying.specs.DepthLaws.{deepest-of-place}
 use Rattle.checkout.specs.declared.Copies.{Copies}
 use Rattle.checkout.specs.declared.Copies.the-variants as answers
-use Rattle.checkout.specs.Checkout.{readable-walk, put-copies, co-steps, Checkout, checkout-copies, Ready-for, Prepared}
+use Rattle.checkout.specs.Checkout.{readable-walk, put-copies, co-steps, Checkout, checkout-copies, Prepared}
 use Rattle.checkout.specs.CheckoutLaws.{co-goes-on, put-too-deep, put-too-many, put-done, prepared-ready, prepared-not}
 
 -- the first checks have passed

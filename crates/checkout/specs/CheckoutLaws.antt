@@ -2,13 +2,12 @@
 --
 -- In order: the account's walk (walk-refused-entry to entry-not); the parts of the command (co-no-room to co-goes-on); the copies judged
 -- (put-too-deep to put-done), and ready (prepared-ready to ready-follows).
-use mathlib.Core.Path.{_≡_, refl, sym, _∙_, ap}
+use mathlib.Core.Path.{_≡_, sym, _∙_, ap}
 use mathlib.Core.List.{List}
 use mathlib.Core.Option.{none, some}
 use mathlib.Core.Bool.{Bool, true, false}
 use Prim.Native.Nat.{ℕ, suc, _+_, _≤_, _<_}
 use native.Mathlib.Omega.{arith}
-use lib.Dec.{leb}
 use lib.ListN as L
 use borrow.Author.Tests.{le-leb, lt-leb}
 use Rattle.buffers.specs.Text.{Text}
@@ -18,7 +17,7 @@ use Rattle.syntax.specs.Path.{Path, Entry-path, parent, last, depth, entry-path
 use Rattle.syntax.specs.PathLaws.{entry-reads}
 use Rattle.tree.specs.declared.Cause.{Cause}
 use Rattle.tree.specs.declared.Cause.the-variants.{Access, Full, TooDeep}
-use Rattle.tree.specs.Result.{Result, refused, done, _>>=_, _>>_, require, Outcome}
+use Rattle.tree.specs.Result.{Result, refused, done, _>>_, require, Outcome}
 use Rattle.tree.specs.ResultLaws.{bind-done, then-done, done-then, refused-then, done-bind, refused-bind, require-true, require-false}
 use Rattle.tree.specs.Forest.{Place, update, put, place-at, size, height}
 use Rattle.tree.specs.Node.{Node}
@@ -26,7 +25,6 @@ use Rattle.tree.specs.Walk.{by-modes, walk, room}
 use Rattle.tree.specs.UpdateLaws.{walked-at}
 use Rattle.tree.specs.WellFormed.{nodes}
 use Rattle.tree.specs.WellFormedLaws.{most-nodes-is}
-use Rattle.tree.specs.Encoding.{encode-tree}
 use Rattle.tree.specs.RowAt.{row-at, all-rows}
 use Rattle.tree.specs.TreeBytes.{Has-row, Encodes}
 use Rattle.tree.specs.TreeBytesLaws.{at-used, at-here}

@@ -22,7 +22,7 @@ use Rattle.store.specs.State.{Store}
 use Rattle.machine.specs.Machine.{session, run-co}
 use Rattle.machine.specs.StoreMachine.{store}
 use Rattle.machine.specs.Acting.{Acting, on-tree-steps}
-use Rattle.checkout.specs.Checkout.{readable-walk, put-copies, co-steps}
+use Rattle.checkout.specs.Checkout.{copier, readable-walk, put-copies, co-steps}
 
 -- steps are on the tree what each of them is there
 module _ {A : Type 0} (a : Result A) (f : A → Result (Outcome Store)) (h : A → Result (Outcome (Place Node))) (each : (x : A) → on-tree-steps (f x) ≡ h x) where
@@ -49,7 +49,7 @@ on-tree-done o = done-bind o (λ x. done (record { text = x .text; state = x .st
 module _ (u : Setup) (s : Store) (c : Caller) (e : Entry-path) (d : Path) where
   -- behind the session, the steps of the store's machine are those by the session's account
   co-in-session : {z : Bounded-role} {a : Account} → session store u s c ≡ done z → a ≡ service (u .pairs) z
-      → on-tree-steps (run-co store u s c e d) ≡ co-steps (record { reader = a; caller = c }) (s .tree) e d
+      → on-tree-steps (run-co store u s c e d) ≡ co-steps (copier a c) (s .tree) e d
   unfolding run-co co-steps readable-walk put-copies below-rep in-rep entry-location
   co-in-session {z} {a} in-session is-account =
       rw (in-session, done-bind, is-account)
@@ -74,6 +74,6 @@ module _ (u : Setup) (s : Store) (c : Caller) (e : Entry-path) (d : Path) where
 
 -- what follows the steps by the session's account follows the command
 pub co-acts : {b : List ℕ} {c : Caller} {a : Account} (j : Acting b c a) (e : Entry-path) (d : Path) {r : Answer} {b′ : List ℕ}
-    → Follows-silently (co-steps (record { reader = a; caller = c }) (j .state .tree) e d) b r b′
+    → Follows-silently (co-steps (copier a c) (j .state .tree) e d) b r b′
     → Follows-silently (on-tree-steps (run-co store (j .setup) (j .state) c e d)) b r b′
 co-acts {c = c} j e d f = rw (co-in-session (j .setup) (j .state) c e d (j .session) (j .served)) f

@@ -4,8 +4,7 @@ ghost use lib.ListN.{drop};
 ghost use Rattle.tree.specs.TreeBytes.{Whole, Wide, Insertable, Path-text, Entry-path-text};
 ghost use Rattle.edits.specs.Changes.{rows-put};
 ghost use Rattle.shell.specs.CommandBytes.{Follows-silently};
-ghost use Rattle.checkout.specs.CheckedOut.{Checked-out};
-ghost use Rattle.checkout.specs.Checkout.{co-steps, Whichever-copy};
+ghost use Rattle.checkout.specs.Checkout.{copier, co-steps, Whichever-copy};
 use crate::Copies;
 use crate::prepare::prepare;
 use accounts::Account;
@@ -50,7 +49,8 @@ pub fn co(tree: &mut [u8], caller: Caller, account: Account, entry: &[u8], to: &
     requires { ⌜ Whole (now tree) ⌝ }
     requires { ⌜ Entry-path-text (now entry) ⌝ }
     requires { ⌜ Path-text (now to) ⌝ }
-    ensures { λ r. ⌜ Checked-out (now (tree .entry)) caller account (now (entry .entry)) (now (to .entry)) r (now (tree .exit)) ⌝ }
+    ensures { λ r. ⌜ Whichever-copy (now (tree .entry)) (now (entry .entry)) (now (to .entry))
+        (λ t e d. Follows-silently (co-steps (copier account caller) t e d) (now (tree .entry)) r (now (tree .exit))) ⌝ }
 {
     let mut out = [0u8; WIDTH];
     let who = Copier {

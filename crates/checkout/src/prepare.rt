@@ -1,8 +1,8 @@
 // The decision of `co`: the room for the copies, the entry, and the copies made in a buffer and judged there. The tree stays as it is.
 ghost use mathlib.Core.Path.{_≡_};
-ghost use Rattle.tree.specs.TreeBytes.{Whole, Wide, Path-text, Entry-path-text};
+ghost use Rattle.tree.specs.TreeBytes.{Whole, Wide, Path-text, Entry-path-text, Whichever-entry};
 ghost use Rattle.walks.specs.RowWalk.{outcome};
-ghost use Rattle.checkout.specs.Checkout.{entry-spot, put-copies, co-steps, Whichever-entry, Whichever-copy, Checkout, checkout-copies, Prepared};
+ghost use Rattle.checkout.specs.Checkout.{entry-spot, put-copies, co-steps, Whichever-copy, Checkout, checkout-copies, Prepared};
 use crate::Copies;
 use accounts::Account;
 use copying::Copier;

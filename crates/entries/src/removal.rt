@@ -1,12 +1,9 @@
 // `del`: an entry taken out.
 ghost use mathlib.Core.Path.{_≡_};
-ghost use mathlib.Core.Option.{some};
 ghost use mathlib.Core.Bool.{not};
-ghost use Rattle.syntax.specs.Path.{Entry-path, entry-location, entry-path};
-ghost use Rattle.tree.specs.Forest.{Place};
-ghost use Rattle.tree.specs.Node.{Node};
+ghost use Rattle.syntax.specs.Path.{entry-location};
 ghost use Rattle.tree.specs.RowAt.{row-at, all-rows};
-ghost use Rattle.tree.specs.TreeBytes.{Has-row, Used, Whole, Encodes, Entry-path-text};
+ghost use Rattle.tree.specs.TreeBytes.{Has-row, Used, Whole, Entry-path-text, Whichever-entry};
 ghost use Rattle.walks.specs.RowBelow.{has-children-in};
 ghost use Rattle.walks.specs.RowWalk.{spot, outcome};
 ghost use Rattle.shell.specs.CommandBytes.{Follows-silently};
@@ -46,8 +43,8 @@ fn judge_del(tree: &[u8], account: Account, row: usize, above: usize) -> Walked
 fn walk_del(tree: &[u8], account: Account, entry: &[u8]) -> Walked
     requires { ⌜ Whole (now tree) ⌝ }
     requires { ⌜ Entry-path-text (now entry) ⌝ }
-    ensures { λ r. ⌜ ((t : Place Node) (e : Entry-path) → Encodes (now (tree .entry)) t → entry-path (now (entry .entry)) ≡ some e
-        → outcome r ≡ spot-from t (entry-location e) (del-walk account t e)) ⌝ }
+    ensures { λ r. ⌜ Whichever-entry (now (tree .entry)) (now (entry .entry)) (λ t e.
+        outcome r ≡ spot-from t (entry-location e) (del-walk account t e)) ⌝ }
 {
     match walk(tree, account, entry) {
         Walked::To { row, above } => judge_del(tree, account, row, above),
@@ -59,8 +56,8 @@ fn walk_del(tree: &[u8], account: Account, entry: &[u8]) -> Walked
 pub fn del(tree: &mut [u8], account: Account, entry: &[u8]) -> Answer
     requires { ⌜ Whole (now tree) ⌝ }
     requires { ⌜ Entry-path-text (now entry) ⌝ }
-    ensures { λ r. ⌜ ((t : Place Node) (e : Entry-path) → Encodes (now (tree .entry)) t → entry-path (now (entry .entry)) ≡ some e
-        → Follows-silently (del-steps account t e) (now (tree .entry)) r (now (tree .exit))) ⌝ }
+    ensures { λ r. ⌜ Whichever-entry (now (tree .entry)) (now (entry .entry)) (λ t e.
+        Follows-silently (del-steps account t e) (now (tree .entry)) r (now (tree .exit))) ⌝ }
 {
     match walk_del(tree, account, entry) {
         Walked::To { row, above: _ } => {

@@ -14,7 +14,8 @@ use Rattle.header.specs.declared.Known.{Known}
 use Rattle.header.specs.HeaderBytes.{known}
 use Rattle.machine.specs.Machine.{run}
 use Rattle.machine.specs.StoreMachine.{store}
-use Rattle.runner.specs.Runner.{Meant, Stored, Carries}
+use Rattle.shell_runner.specs.Meaning.{Meant}
+use Rattle.runner.specs.Runner.{Stored, Carries}
 
 -- the answer is whom the setup knows, whichever store's bytes these are
 abbrev pub Caller-told : List ℕ → Uid → Known → Type 0

@@ -118,4 +118,3 @@ content-copied b from to e h =
     let l : 80 ≤ length D = omega (arith, length-drop (row-start from + content-offset) b) in
     ap (λ (s : List ℕ). take (row-start to + content-offset) b ++ s ++ drop (row-start to + content-offset + 80) b) (sym (take-take 80 80 D (omega arith)))
     ∙ piece-put b to 72 (take 80 D) 80 (length-take-le 80 D l)
-

@@ -2,7 +2,7 @@
 use mathlib.Core.Path.{_≡_}
 use mathlib.Core.List.{List}
 use mathlib.Core.Option.{none, some}
-use mathlib.Core.Bool.{Bool, true, false}
+use mathlib.Core.Bool.{true}
 use Prim.Native.Nat.{ℕ}
 use lib.ListN.{length, take, drop, getD}
 use Rattle.buffers.specs.Text.{Text}
@@ -15,34 +15,22 @@ use Rattle.accounts.specs.declared.Uid.{Uid}
 use Rattle.accounts.specs.Closure.{rows-of}
 use Rattle.accounts.specs.Dominance.{Bounded-role}
 use Rattle.commands.specs.declared.Command.{Command as Parts}
-use Rattle.commands.specs.Command.{Shell-command, Repository-command, login, logout, add, co, commit, up, del, Command, shell, repository, is-command}
-use Rattle.commands.specs.Parsed.{Means}
+use Rattle.commands.specs.Command.{Shell-command, Repository-command, login, logout, Command, shell, repository}
 use Rattle.setup.specs.Setup.{Setup}
 use Rattle.tree.specs.Result.{Result, refused, done, Outcome}
-use Rattle.tree.specs.Forest.{Place}
-use Rattle.tree.specs.Node.{Node}
 use Rattle.tree.specs.TreeBytes.{Encodes}
 use Rattle.shell.specs.declared.Answer.{Answer}
-use Rattle.shell.specs.Steps.{run-shell}
 use Rattle.shell.specs.Replies.{reply, answer-of, written}
-use Rattle.shell.specs.CommandBytes.{Follows, Follows-silently}
+use Rattle.shell.specs.CommandBytes.{Follows-silently}
 use Rattle.store.specs.State.{Store, State, state-of}
 use Rattle.store.specs.StoreBytes.{header-width, store-width, encode}
+use Rattle.shell_runner.specs.Meaning.{Meant, needs-session}
 use Rattle.header.specs.HeaderBytes.{Heads, session-held}
 use Rattle.machine.specs.Machine.{run-login, run-logout, run-repository, run}
 use Rattle.machine.specs.StoreMachine.{store}
 use Rattle.machine.specs.Acting.{Acting, on-tree-steps}
 
 -- ---- what is asked
-
--- the command k is that of the parts of the line t, and in range
-pub record Meant (t : Text) (c : Parts) (k : Command) : Type 0 where
-  pub means : Means t c k
-  pub in-range : is-command k ≡ true
-
--- the parts are those of some command
-abbrev pub Meaningful : Text → Parts → Type 0
-Meaningful t c = (k : Command) × Meant t c k
 
 -- the bytes of a store in the state s: those of a header, then those of a tree
 pub record Stored (b : List ℕ) (s : State) : Type 0 where
@@ -53,16 +41,6 @@ pub record Stored (b : List ℕ) (s : State) : Type 0 where
 -- the bytes of some store
 abbrev pub Some-store : List ℕ → Type 0
 Some-store b = (s : State) × Stored b s
-
--- whether a command acts in a session
-unfoldable pub needs-session : Repository-command → Bool
-needs-session (login z password) = false
-needs-session logout = false
-needs-session (add w e z) = true
-needs-session (co e d) = true
-needs-session (commit w) = true
-needs-session (up w) = true
-needs-session (del e) = true
 
 -- ---- what is promised
 
@@ -99,10 +77,7 @@ module _ (c : Caller) where
 
   -- a command that the parts of a line mean
   module _ (line : Text) (command : Parts) where
-    -- the shell's, on a tree's bytes and on a store's
-    abbrev pub Shell-done : List ℕ → List ℕ → Answer → List ℕ → List ℕ → Type 0
-    Shell-done b a r b′ a′ = (t : Place Node) (k : Shell-command) → Encodes b t → Meant line command (shell k) → Follows (run-shell c 0 t k) b a r b′ a′
-
+    -- the shell's
     abbrev pub Store-shell-done : List ℕ → List ℕ → Answer → List ℕ → List ℕ → Type 0
     Store-shell-done b a r b′ a′ = (s : State) (k : Shell-command) → Stored b s → Meant line command (shell k)
         → Carries (s .setup) (run store (s .setup) (s .store) c (shell k)) b a r b′ a′

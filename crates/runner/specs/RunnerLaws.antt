@@ -2,32 +2,22 @@
 -- tree or on the header.
 use mathlib.Core.Path.{_≡_, refl, sym, subst, _∙_, ap, ap₂}
 use mathlib.Core.List.{List, [], _++_, append-nil}
-use mathlib.Core.Option.{Option, none, some}
-use mathlib.Core.Bool.{true, _&&_}
+use mathlib.Core.Option.{none, some}
 use Prim.Native.Nat.{ℕ, _-_, _≤_, _<_}
 use native.Mathlib.Omega.{arith}
 use lib.ListN.{length, take, drop, take-append-drop, length-drop, drop-of-length-le}
 use lib.Seq.{take-at, take-all, length-take-le}
 use borrow.Author.Tests.{ltb-true}
-use Rattle.buffers.specs.Cases.{and-both}
 use Rattle.buffers.specs.Text.{Text}
 use Rattle.accounts.specs.declared.Caller.{Caller}
 use Rattle.accounts.specs.declared.Role.{Role}
 use Rattle.accounts.specs.Dominance.{Bounded-role}
-use Rattle.syntax.specs.declared.Span.{Span}
-use Rattle.syntax.specs.Parts.{span-text}
-use Rattle.syntax.specs.Path.{Path, is-path}
-use Rattle.syntax.specs.Field.{is-content}
-use Rattle.syntax.specs.FieldLaws.{content-fits}
-use Rattle.commands.specs.declared.Command.{Command as Parts}
-use Rattle.commands.specs.Command.{Shell-command, Repository-command, write, Command, shell, repository, is-shell-command, is-command}
-use Rattle.commands.specs.Parsed.{Part-reads, Means}
+use Rattle.commands.specs.Command.{Shell-command, Repository-command, shell, repository}
 use Rattle.setup.specs.Setup.{Setup}
 use Rattle.tree.specs.Result.{Result, refused, done, _>>=_, Outcome}
 use Rattle.tree.specs.ResultLaws.{bind-done}
 use Rattle.tree.specs.Forest.{Place}
 use Rattle.tree.specs.Node.{Node}
-use Rattle.tree.specs.Layout.{content-width}
 use Rattle.tree.specs.Encoding.{encode-tree}
 use Rattle.tree.specs.TreeBytes.{Encodes, Whole}
 use Rattle.shell.specs.declared.Answer.{Answer}
@@ -46,7 +36,7 @@ use Rattle.machine.specs.Machine.{run-login, run-logout, run-repository, run}
 use Rattle.machine.specs.StoreMachine.{store}
 use Rattle.machine.specs.LoginLaws.{run-login-is, run-logout-is}
 use Rattle.machine.specs.Acting.{on-tree-steps}
-use Rattle.runner.specs.Runner.{Meant, Stored, Some-store, store-after, Carries, Carries-silently}
+use Rattle.runner.specs.Runner.{Stored, Some-store, store-after, Carries, Carries-silently}
 
 -- bytes that are read as a state are that store's
 pub read-stored : (b : List ℕ) (s : State) → decode b ≡ some s → Stored b s
@@ -196,33 +186,14 @@ module _ {b : List ℕ} {s : State} (h : Stored b s) where
       lent-carries (run store (s .setup) (s .store) c (shell k)) (shell-keeps-sessions (s .setup) (s .store) c k) a a′ r T
       (λ e. rw (shell-on-tree (s .setup) (s .store) c k) (f e))
 
--- ---- what the parts of a command read as
-
--- the command of parts that are known
-pub meant-as : {t : Text} {c d : Parts} {k : Command} → c ≡ d → Meant t c k → Means t d k
-meant-as {t} {c} {d} {k} e m = subst (λ (x : Parts). Means t x k) e (m .means)
-
--- a part as it was cut out of the line
-pub part-read : {A : Type 0} {read : Text → Option A} {t : Text} {s : Span} {q : A} (x : Text) → x ≡ span-text t s → Part-reads read t s q → read x ≡ some q
-part-read {read = read} x e h = ap read e ∙ h .reads
+-- ---- in a session
 
 -- what follows one command follows the same one
-pub same-shell : (c : Caller) (t : Place Node) {k l : Shell-command} {b a b′ a′ : List ℕ} {r : Answer} → shell k ≡ shell l
-    → Follows (run-shell c 0 t l) b a r b′ a′ → Follows (run-shell c 0 t k) b a r b′ a′
-same-shell c t {k} {l} {b} {a} {b′} {a′} {r} e f = let q : k ≡ l = cc in subst (λ (x : Shell-command). Follows (run-shell c 0 t x) b a r b′ a′) (sym q) f
-
-pub same-entry : (c : Caller) (u : Setup) (s : Store) {k l : Repository-command} {b b′ : List ℕ} {r : Answer} → repository k ≡ repository l
+pub same-repository : (c : Caller) (u : Setup) (s : Store) {k l : Repository-command} {b b′ : List ℕ} {r : Answer} → repository k ≡ repository l
     → Follows-silently (on-tree-steps (run-repository store u s c l)) b r b′ → Follows-silently (on-tree-steps (run-repository store u s c k)) b r b′
-same-entry c u s {k} {l} {b} {b′} {r} e f =
+same-repository c u s {k} {l} {b} {b′} {r} e f =
     let q : k ≡ l = cc in
     subst (λ (x : Repository-command). Follows-silently (on-tree-steps (run-repository store u s c x)) b r b′) (sym q) f
-
--- a content that is to be written fits
-pub content-room : {k : Command} {q : Path} {x : Text} → is-command k ≡ true → k ≡ shell (write q x) → length x ≤ content-width
-unfolding is-command is-shell-command
-content-room {k} {q} {x} i e =
-    let w : (is-path q && is-content x) ≡ true = rw (← ap is-command e) i in
-    content-fits x (and-both (is-path q) (is-content x) w .1) .0
 
 -- a role that is bounded is below 8
 pub role-low : {r : Role} (z : Bounded-role) → z .role ≡ r → r .0 < 8

@@ -32,7 +32,8 @@ use Rattle.shell.specs.CommandBytes.{Follows-silently}
 use Rattle.machine.specs.Acting.{Acting, on-tree-steps}
 use Rattle.machine.specs.ActingLaws.{add-keeps-sessions, commit-keeps-sessions, up-keeps-sessions, del-keeps-sessions}
 use Rattle.checkout.specs.CheckoutRunLaws.{co-keeps-sessions}
-use Rattle.runner.specs.Runner.{Stored, needs-session, store-after, Carries-silently}
+use Rattle.shell_runner.specs.Meaning.{needs-session}
+use Rattle.runner.specs.Runner.{Stored, store-after, Carries-silently}
 use Rattle.runner.specs.RunnerLaws.{lent-tree, tree-back, lent-carries}
 
 -- no session is held where none is, and a role's where it is

@@ -1,18 +1,19 @@
 // The commands on entries in a session, on a tree's bytes.
 ghost use Rattle.tree.specs.TreeBytes.{Whole};
-ghost use Rattle.runner.specs.Runner.{Meaningful, Entry-done};
-use crate::line_part::part;
+ghost use Rattle.shell_runner.specs.Meaning.{Meaningful};
+ghost use Rattle.runner.specs.Runner.{Entry-done};
 use accounts::Account;
 use accounts::Caller;
 use accounts::Dominance;
 use accounts::Session;
+use adding::add;
 use checkout::co;
 use commands::Command;
-use adding::add;
 use entries::commit;
 use entries::del;
 use entries::up;
 use shell::Answer;
+use shell_runner::part;
 use tree::Cause;
 
 // One of the commands that act in a session, for the session's account; another is not meant to come here.

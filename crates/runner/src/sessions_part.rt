@@ -1,6 +1,7 @@
 // The commands that act in a session, on a store's bytes.
 ghost use Prim.Native.Nat.{_<_};
-ghost use Rattle.runner.specs.Runner.{Meaningful, Some-store, Session-of, Rows-of, Role-done, Session-done};
+ghost use Rattle.shell_runner.specs.Meaning.{Meaningful};
+ghost use Rattle.runner.specs.Runner.{Some-store, Session-of, Rows-of, Role-done, Session-done};
 use crate::entry_part::entry_command;
 use accounts::Caller;
 use accounts::Dominance;

@@ -2,16 +2,17 @@
 ghost use Prim.Native.Nat.{_≤_, _<_};
 ghost use lib.ListN.{length};
 ghost use Rattle.syntax.specs.Parts.{Inside, span-text};
-ghost use Rattle.runner.specs.Runner.{Meaningful, Some-store, Login-done, Logout-done, Store-shell-done, Command-done};
-use crate::line_part::part;
+ghost use Rattle.shell_runner.specs.Meaning.{Meaningful, Shell-meaning};
+ghost use Rattle.runner.specs.Runner.{Some-store, Login-done, Logout-done, Store-shell-done, Command-done};
 use crate::sessions_part::in_session;
-use crate::tree_part::shell_command;
 use accounts::Caller;
 use accounts::Role;
 use commands::Command;
 use header::login;
 use header::logout;
 use shell::Answer;
+use shell_runner::part;
+use shell_runner::shell_command;
 use store::HEADER;
 use syntax::Span;
 
@@ -51,7 +52,7 @@ fn in_shell(
     answer: &mut [u8],
 ) -> Answer
     requires { ⌜ Some-store (now store) ⌝ }
-    requires { ⌜ Meaningful (now line) command ⌝ }
+    requires { ⌜ Shell-meaning (now line) command ⌝ }
     requires { ⌜ 4096 ≤ length (now answer) ⌝ }
     ensures { λ r. ⌜ Store-shell-done caller (now (line .entry)) command
         (now (store .entry)) (now (answer .entry)) r (now (store .exit)) (now (answer .exit)) ⌝ }

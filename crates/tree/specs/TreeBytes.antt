@@ -66,6 +66,10 @@ Path-text s = (p : Path) × (path s ≡ some p)
 abbrev pub Whichever : List ℕ → Text → (Place Node → Path → Type 0) → Type 0
 Whichever b s P = (t : Place Node) (p : Path) → Encodes b t → path s ≡ some p → P t p
 
+-- and whatever entry path
+abbrev pub Whichever-entry : List ℕ → Text → (Place Node → Entry-path → Type 0) → Type 0
+Whichever-entry b s P = (t : Place Node) (e : Entry-path) → Encodes b t → entry-path s ≡ some e → P t e
+
 -- in which row i is that of the place d at the path p
 pub record At (b : List ℕ) (t : Place Node) (p : Path) (i : ℕ) (d : Place Node) : Type 0 where
   pub tree : Encodes b t

@@ -1,5 +1,4 @@
--- `checkout::command::co` meets its contract: the steps by the session's account are the command's.
-use Rattle.checkout.specs.CheckoutRunLaws.{co-acts}
+-- `checkout::command::co` meets its contract: a buffer for the copies is lent.
 use borrow.Author.Needs.{needs}
 use Rattle.checkout.proofs.command.co.Statement.{statement}
 use Rattle.checkout.proofs.command.co.Tie as tie
@@ -14,7 +13,7 @@ same-length : tie.Need-same-length
 same-length c = search needs
 
 returns : tie.Need-returns
-returns c j e d reads-entry reads = co-acts j e d (c .before .before .before .co-by .ensures (j .state .tree) e (j .tree) reads-entry d reads)
+returns c = c .before .before .before .co-by .ensures
 
 pub co-spec : {M : Type 1} → statement M
 co-spec = tie.close (tie.spec slice-aggregate-co-by co-by-requires same-length returns)

@@ -3,9 +3,13 @@ use mathlib.Core.Path.{_∙_}
 use denote.Ref.{now}
 use Rattle.commands.specs.Parsed.{Means}
 use Rattle.machine.specs.Machine.{run-repository}
-use Rattle.runner.specs.RunnerLaws.{meant-as, part-read, same-entry, role-low}
+use Rattle.entries.specs.EntryStepsLaws.{commit-acts, up-acts, del-acts}
+use Rattle.adding.specs.AddLaws.{add-acts}
+use Rattle.checkout.specs.CheckoutRunLaws.{co-acts}
+use Rattle.shell_runner.specs.MeaningLaws.{meant-as, part-read}
+use Rattle.runner.specs.RunnerLaws.{same-repository, role-low}
 use Rattle.runner.specs.SessionStepLaws.{session-tells}
-use Rattle.runner.proofs.Tags.{no-entry-case}
+use Rattle.shell_runner.specs.CasesLaws.{no-entry-case}
 use borrow.Author.Needs.{needs}
 use Rattle.runner.proofs.entry_part.entry_command.Statement.{statement}
 use Rattle.runner.proofs.entry_part.entry_command.Tie as tie
@@ -117,8 +121,9 @@ returns c j k held rows n m =
     let tells = session-tells (j .setup .pairs) (a .dominance .rows) rows (j .role) (i .2) held (i .5) in
     let working = part-read _ (c .before .before .before .before .part .ensures) (i .3) in
     let entry = part-read _ (c .before .before .before .part2 .ensures) (i .4) in
-    same-entry (a .caller) (j .setup) (j .state) (i .6)
-    (c .before .before .add .ensures (i .0) (i .1) working entry (i .2) j (i .5) (c .before .before .before .before .before .dominates .ensures ∙ tells))
+    same-repository (a .caller) (j .setup) (j .state) (i .6)
+    (add-acts j (i .0) (i .1) (i .2) (i .5) (c .before .before .before .before .before .dominates .ensures ∙ tells)
+    (c .before .before .add .ensures (i .0) (i .1) working entry (j .state .tree) (i .2) (j .tree) (i .5)))
 
 same-length-2 : tie.Need-same-length-2
 same-length-2 c = c .before .before .co .kept .0
@@ -130,7 +135,7 @@ returns-2 c j k held rows n m =
     let i = meant-as (c .before .before .before .before .before .before .before .command2 .given .1) m in
     let entry = part-read _ (c .before .before .before .before .part3 .ensures) (i .2) in
     let to = part-read _ (c .before .before .before .part4 .ensures) (i .3) in
-    same-entry (a .caller) (j .setup) (j .state) (i .4) (c .before .before .co .ensures j (i .0) (i .1) entry to)
+    same-repository (a .caller) (j .setup) (j .state) (i .4) (co-acts j (i .0) (i .1) (c .before .before .co .ensures (j .state .tree) (i .0) (j .tree) entry (i .1) to))
 
 same-length-3 : tie.Need-same-length-3
 same-length-3 c = c .before .before .commit .kept .0
@@ -141,7 +146,7 @@ returns-3 c j k held rows n m =
     let a = c .before .before .before .before .before .before .before .before .before .before .args in
     let i = meant-as (c .before .before .before .before .before .before .command3 .given .1) m in
     let q = part-read _ (c .before .before .before .part5 .ensures) (i .1) in
-    same-entry (a .caller) (j .setup) (j .state) (i .2) (c .before .before .commit .ensures (i .0) q j)
+    same-repository (a .caller) (j .setup) (j .state) (i .2) (commit-acts j (i .0) (c .before .before .commit .ensures (j .state .tree) (i .0) (j .tree) q))
 
 same-length-4 : tie.Need-same-length-4
 same-length-4 c = c .before .before .up .kept .0
@@ -152,7 +157,7 @@ returns-4 c j k held rows n m =
     let a = c .before .before .before .before .before .before .before .before .before .before .args in
     let i = meant-as (c .before .before .before .before .before .before .command4 .given .1) m in
     let q = part-read _ (c .before .before .before .part6 .ensures) (i .1) in
-    same-entry (a .caller) (j .setup) (j .state) (i .2) (c .before .before .up .ensures (i .0) q j)
+    same-repository (a .caller) (j .setup) (j .state) (i .2) (up-acts j (i .0) (c .before .before .up .ensures (j .state .tree) (i .0) (j .tree) q))
 
 same-length-5 : tie.Need-same-length-5
 same-length-5 c = c .before .before .del .kept .0
@@ -163,7 +168,7 @@ returns-5 c j k held rows n m =
     let a = c .before .before .before .before .before .before .before .before .before .before .args in
     let i = meant-as (c .before .before .before .before .before .before .command5 .given .1) m in
     let q = part-read _ (c .before .before .before .part7 .ensures) (i .1) in
-    same-entry (a .caller) (j .setup) (j .state) (i .2) (c .before .before .del .ensures (a .caller) (i .0) q j)
+    same-repository (a .caller) (j .setup) (j .state) (i .2) (del-acts j (i .0) (c .before .before .del .ensures (j .state .tree) (i .0) (j .tree) q))
 
 returns-6 : tie.Need-returns-6
 returns-6 c j k held rows n m =

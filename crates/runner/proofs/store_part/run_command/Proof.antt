@@ -2,8 +2,9 @@
 use denote.Ref.{now}
 use Rattle.commands.specs.Parsed.{Means}
 use Rattle.machine.specs.Machine.{run-repository, run}
-use Rattle.runner.specs.RunnerLaws.{meant-as, role-low}
-use Rattle.runner.proofs.Tags.{shell-case, entry-case}
+use Rattle.shell_runner.specs.MeaningLaws.{meant-as}
+use Rattle.runner.specs.RunnerLaws.{role-low}
+use Rattle.shell_runner.specs.CasesLaws.{shell-case, entry-case}
 use borrow.Author.Needs.{needs}
 use Rattle.runner.proofs.store_part.run_command.Statement.{statement}
 use Rattle.runner.proofs.store_part.run_command.Tie as tie
@@ -28,7 +29,11 @@ in-session-requires : tie.Need-in-session-requires
 in-session-requires c κs = search needs
 
 in-shell-requires : tie.Need-in-shell-requires
-in-shell-requires c κs = search needs
+in-shell-requires c κs =
+    let s = c .before .before .before .before .before .before in
+    let m = s .pre .1 .0 .1 in
+    let i = shell-case (now (s .args .line)) (s .args .command) (c .before .before .match .keys4) (m .means) in
+    (s .pre .0, ((i .0, rw (i .1) at m), s .pre .1 .1 .0))
 
 same-length : tie.Need-same-length
 same-length c = search needs

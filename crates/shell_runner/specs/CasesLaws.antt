@@ -19,37 +19,37 @@ use Rattle.commands.specs.Command.{Shell-command, create, mkdir, read, write, r
 use Rattle.commands.specs.Command.{Repository-command, login, logout, add, co, commit, up, del, Command, shell, repository}
 use Rattle.commands.specs.Parsed.{Means}
 use Rattle.commands.proofs.Command.{the-type}
-use Rattle.runner.specs.Runner.{needs-session}
+use Rattle.shell_runner.specs.Meaning.{needs-session}
 
 -- the number of a case
 abbrev case-of : Parts → ℕ
 case-of c = tagOf the-type c
 
 -- which command a case may be
-data Sorted (n : ℕ) (k : Command) : Type 0 where
-  of-shell : (e : Shell-command) → n < 10 → k ≡ shell e → Sorted n k
-  of-sessions : (e : Repository-command) → n < 12 → 10 ≤ n → needs-session e ≡ false → k ≡ repository e → Sorted n k
-  of-entries : (e : Repository-command) → 12 ≤ n → needs-session e ≡ true → k ≡ repository e → Sorted n k
+data Sort (n : ℕ) (k : Command) : Type 0 where
+  of-shell : (e : Shell-command) → n < 10 → k ≡ shell e → Sort n k
+  of-sessions : (e : Repository-command) → n < 12 → 10 ≤ n → needs-session e ≡ false → k ≡ repository e → Sort n k
+  of-entries : (e : Repository-command) → 12 ≤ n → needs-session e ≡ true → k ≡ repository e → Sort n k
 
-sorted : (t : Text) (c : Parts) (k : Command) → Means t c k → Sorted (case-of c) k
+sort-of : (t : Text) (c : Parts) (k : Command) → Means t c k → Sort (case-of c) k
 unfolding Means needs-session
-sorted t (Create p m) k h = of-shell (create (h .0) m) (omega arith) (h .2)
-sorted t (Mkdir p m) k h = of-shell (mkdir (h .0) m) (omega arith) (h .2)
-sorted t (Read p) k h = of-shell (read (h .0)) (omega arith) (h .2)
-sorted t (Write p x) k h = of-shell (write (h .0) _) (omega arith) (h .3)
-sorted t (Rm p) k h = of-shell (rm (h .0)) (omega arith) (h .2)
-sorted t (Rmdir p) k h = of-shell (rmdir (h .0)) (omega arith) (h .2)
-sorted t (Mv a b) k h = of-shell (mv (h .0) (h .1)) (omega arith) (h .4)
-sorted t (Chmod p m) k h = of-shell (chmod (h .0) m) (omega arith) (h .2)
-sorted t (Chgrp p g) k h = of-shell (chgrp (h .0) g) (omega arith) (h .2)
-sorted t (Chown p u) k h = of-shell (chown (h .0) u) (omega arith) (h .2)
-sorted t (Login r w) k h = of-sessions (login (h .0) _) (omega arith) (omega arith) refl (h .3)
-sorted t Logout k h = of-sessions logout (omega arith) (omega arith) refl h
-sorted t (Add w e r) k h = of-entries (add (h .0) (h .1) (h .2)) (omega arith) refl (h .6)
-sorted t (Co e d) k h = of-entries (co (h .0) (h .1)) (omega arith) refl (h .4)
-sorted t (Commit w) k h = of-entries (commit (h .0)) (omega arith) refl (h .2)
-sorted t (Up w) k h = of-entries (up (h .0)) (omega arith) refl (h .2)
-sorted t (Del e) k h = of-entries (del (h .0)) (omega arith) refl (h .2)
+sort-of t (Create p m) k h = of-shell (create (h .0) m) (omega arith) (h .2)
+sort-of t (Mkdir p m) k h = of-shell (mkdir (h .0) m) (omega arith) (h .2)
+sort-of t (Read p) k h = of-shell (read (h .0)) (omega arith) (h .2)
+sort-of t (Write p x) k h = of-shell (write (h .0) _) (omega arith) (h .3)
+sort-of t (Rm p) k h = of-shell (rm (h .0)) (omega arith) (h .2)
+sort-of t (Rmdir p) k h = of-shell (rmdir (h .0)) (omega arith) (h .2)
+sort-of t (Mv a b) k h = of-shell (mv (h .0) (h .1)) (omega arith) (h .4)
+sort-of t (Chmod p m) k h = of-shell (chmod (h .0) m) (omega arith) (h .2)
+sort-of t (Chgrp p g) k h = of-shell (chgrp (h .0) g) (omega arith) (h .2)
+sort-of t (Chown p u) k h = of-shell (chown (h .0) u) (omega arith) (h .2)
+sort-of t (Login r w) k h = of-sessions (login (h .0) _) (omega arith) (omega arith) refl (h .3)
+sort-of t Logout k h = of-sessions logout (omega arith) (omega arith) refl h
+sort-of t (Add w e r) k h = of-entries (add (h .0) (h .1) (h .2)) (omega arith) refl (h .6)
+sort-of t (Co e d) k h = of-entries (co (h .0) (h .1)) (omega arith) refl (h .4)
+sort-of t (Commit w) k h = of-entries (commit (h .0)) (omega arith) refl (h .2)
+sort-of t (Up w) k h = of-entries (up (h .0)) (omega arith) refl (h .2)
+sort-of t (Del e) k h = of-entries (del (h .0)) (omega arith) refl (h .2)
 
 -- one of several keys passes the test that all pass
 key-passes : (test : ℕ → Bool) (k : ℕ) (ks : List ℕ) (x : ℕ) → every test (k ∷ ks) ≡ true → OneOf (k ∷ ks) x → test x ≡ true
@@ -77,7 +77,7 @@ module _ (t : Text) (c : Parts) where
   unfolding every
   shell-case {k} key m =
       let low = ltb-true (case-of c) 10 (key-passes (λ n. ltb n 10) 0 of-shell-keys (case-of c) refl key) in
-      elim (sorted t c k m) [
+      elim (sort-of t c k m) [
         | of-shell e i q ↦ (e, q)
         | of-sessions e j i n q ↦ absurd (omega arith)
         | of-entries e i n q ↦ absurd (omega arith)
@@ -89,7 +89,7 @@ module _ (t : Text) (c : Parts) where
   unfolding every
   entry-case {k} key m =
       let high = leb-true 12 (case-of c) (key-passes (leb 12) 12 of-entry-keys (case-of c) refl key) in
-      elim (sorted t c k m) [
+      elim (sort-of t c k m) [
         | of-shell e i q ↦ absurd (omega arith)
         | of-sessions e j i n q ↦ absurd (omega arith)
         | of-entries e i n q ↦ (e, n, q)
@@ -100,7 +100,7 @@ module _ (t : Text) (c : Parts) where
   unfolding every
   no-shell-case e key m =
       let high = leb-true 10 (case-of c) (key-passes (leb 10) 10 not-shell-keys (case-of c) refl key) in
-      elim (sorted t c (shell e) m) [
+      elim (sort-of t c (shell e) m) [
         | of-shell f i q ↦ absurd (omega arith)
         | of-sessions f j i n q ↦ contra {b = true} refl (cc)
         | of-entries f i n q ↦ contra {b = true} refl (cc)
@@ -111,7 +111,7 @@ module _ (t : Text) (c : Parts) where
   unfolding every
   no-entry-case e s key m =
       let low = ltb-true (case-of c) 12 (key-passes (λ n. ltb n 12) 0 not-entry-keys (case-of c) refl key) in
-      elim (sorted t c (repository e) m) [
+      elim (sort-of t c (repository e) m) [
         | of-shell f i q ↦ contra {b = true} refl (cc)
         | of-sessions f j i n q ↦ let same : e ≡ f = cc in contra s (rw same n)
         | of-entries f i n q ↦ absurd (omega arith)

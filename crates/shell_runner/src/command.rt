@@ -2,8 +2,8 @@
 ghost use Prim.Native.Nat.{_≤_};
 ghost use lib.ListN.{length};
 ghost use Rattle.tree.specs.TreeBytes.{Whole};
-ghost use Rattle.runner.specs.Runner.{Meaningful, Shell-done};
-use crate::line_part::part;
+ghost use Rattle.shell_runner.specs.Meaning.{Shell-meaning, Shell-done};
+use crate::line::part;
 use accounts::Caller;
 use attributes::chgrp;
 use attributes::chmod;
@@ -18,7 +18,7 @@ use shell::Answer;
 use tree::Cause;
 use tree::Kind;
 
-// One of the shell's commands; another is not meant to come here.
+// One of the shell's commands.
 pub fn shell_command(
     tree: &mut [u8],
     caller: Caller,
@@ -27,7 +27,7 @@ pub fn shell_command(
     answer: &mut [u8],
 ) -> Answer
     requires { ⌜ Whole (now tree) ⌝ }
-    requires { ⌜ Meaningful (now line) command ⌝ }
+    requires { ⌜ Shell-meaning (now line) command ⌝ }
     requires { ⌜ 4096 ≤ length (now answer) ⌝ }
     ensures { λ r. ⌜ Shell-done caller (now (line .entry)) command (now (tree .entry)) (now (answer .entry)) r (now (tree .exit)) (now (answer .exit)) ⌝ }
 {
