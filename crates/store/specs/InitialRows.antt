@@ -1,12 +1,13 @@
 -- What the contracts of the code that writes the initial tree say.
 use mathlib.Core.Path.{_≡_}
 use mathlib.Core.List.{List}
-use mathlib.Core.Option.{Option, none}
+use mathlib.Core.Option.{Option, none, some}
 use mathlib.Core.Bool.{Bool, true}
 use Prim.Native.Nat.{ℕ, _<_}
 use lib.Dec.{ltb}
+use Rattle.buffers.specs.Text.{Text}
 use Rattle.accounts.specs.declared.Uid.{Uid}
-use Rattle.syntax.specs.Path.{Name, is-name}
+use Rattle.syntax.specs.Path.{Name, root, _▹_, is-name, path}
 use Rattle.setup.specs.declared.Person.{Person as Slot}
 use Rattle.setup.specs.Setup.{Person, Setup}
 use Rattle.tree.specs.Layout.{most-rows}
@@ -32,9 +33,14 @@ pub record Opens (b : List ℕ) (n : Name) (t : Place Node) : Type 0 where
   pub tree : Encodes b t
   pub ready : Open n t
 
--- the bytes before and after a node is put in below `/`: of whatever tree they were that is open to its name, they are the one with it
-abbrev pub Node-put : List ℕ → Name → Node → List ℕ → Type 0
-Node-put b n x c = (t : Place Node) → Opens b n t → c ≡ encode-tree (put n (leaf x) t)
+-- the same, with the text of the path that has this one name
+pub record Opens-at (b : List ℕ) (s : Text) (n : Name) (t : Place Node) : Type 0 where
+  pub reads : path s ≡ some (root ▹ n)
+  pub opens : Opens b n t
+
+-- the bytes before and after a node is put in at a path: of whatever tree they were that is open to its one name, they are the one with it
+abbrev pub Node-put : List ℕ → Text → Node → List ℕ → Type 0
+Node-put b s x c = (n : Name) (t : Place Node) → Opens-at b s n t → c ≡ encode-tree (put n (leaf x) t)
 
 -- and so with the home of an account, if it is a person's
 abbrev pub Home-put : List ℕ → Uid → Option Person → List ℕ → Type 0

@@ -1,4 +1,4 @@
--- The initial tree as the code writes it: a row for each directory, put in where its name belongs.
+-- The initial tree as the code writes it: a row for each directory, put in where root finds room for it.
 --
 -- In order: a directory put in below `/`; `/` and `/rep`; the home of an account; the accounts one after another.
 use mathlib.Core.Path.{_≡_, refl, sym, _∙_, ap}
@@ -12,40 +12,44 @@ use lib.Dec.{eqb}
 use lib.ListN.{length, getD, List·getD-map}
 use borrow.Author.Tests.{eqb-true, eq-eqb, ne-eqb, ltb-true, lt-ltb, le-ltb}
 use Rattle.buffers.specs.Cases.{case}
-use Rattle.buffers.specs.Text.{every}
+use Rattle.buffers.specs.Text.{Text, every}
 use Rattle.buffers.specs.TextLaws.{every-getD}
 use Rattle.accounts.specs.declared.Uid.{Uid}
+use Rattle.accounts.specs.declared.Account.{Account}
+use Rattle.accounts.specs.Access.{is-root}
 use Rattle.syntax.specs.Pieces.{bytes}
 use Rattle.syntax.specs.Number.{octal, digits-before, decimal-text}
-use Rattle.syntax.specs.Path.{Name, root, depth, rep}
-use Rattle.syntax.specs.PathLaws.{name-fits}
+use Rattle.syntax.specs.Path.{Name, root, _▹_, parent, last, depth, is-top, rep, is-name, most-names, has-names, is-path, path, names-text, path-text}
+use Rattle.syntax.specs.PathLaws.{path-of-text}
 use Rattle.syntax.specs.FormLaws.{no-answer, answered}
 use Rattle.setup.specs.declared.Person.{Person as Slot}
 use Rattle.setup.specs.Setup.{Person, Setup, accounts, person, is-setup}
 use Rattle.setup.specs.Reader.{slot-value}
 use Rattle.setup.specs.ReaderLaws.{no-slot}
-use Rattle.tree.specs.declared.Child.the-variants.{Found, Missing}
+use Rattle.tree.specs.declared.Cause.{Cause}
 use Rattle.tree.specs.Layout.{name-width}
-use Rattle.tree.specs.Forest.{Forest, nil, Place, insert, put, leaf, size}
+use Rattle.tree.specs.Result.{done}
+use Rattle.tree.specs.ResultLaws.{not-done}
+use Rattle.tree.specs.Forest.{Forest, nil, Place, insert, put, leaf}
 use Rattle.tree.specs.Node.{Node}
+use Rattle.tree.specs.Walk.{by-modes, room}
+use Rattle.tree.specs.RoomLaws.{root-room}
+use Rattle.tree.specs.UpdateLaws.{place-at-root}
 use Rattle.tree.specs.WellFormed.{is-tree}
-use Rattle.tree.specs.RowScan.{child-in}
-use Rattle.tree.specs.RowPlaces.{lesser}
-use Rattle.tree.specs.RowAt.{all-rows}
-use Rattle.tree.specs.TreeBytes.{At, Used, Insertable, Encodes}
-use Rattle.tree.specs.TreeBytesLaws.{encodes, encoded-count, at-root, at-used, at-found, at-missing}
+use Rattle.tree.specs.WellFormedLaws.{top-directory}
+use Rattle.tree.specs.TreeBytes.{Insertable, Encodes, Whichever}
+use Rattle.tree.specs.TreeBytesLaws.{encodes}
 use Rattle.tree.specs.PlaceLaws.{put-here, put-below, update-root}
 use Rattle.tree.specs.Encoding.{row-bytes, encode-tree}
 use Rattle.edits.specs.declared.Fresh.{Fresh}
 use Rattle.edits.specs.Changes.{rows-put, fresh-node, fresh-row}
-use Rattle.edits.specs.EditLaws.{spot-bound, child-law}
+use Rattle.gaps.specs.declared.Room.{Room}
+use Rattle.gaps.specs.declared.Room.the-variants
+use Rattle.gaps.specs.Gaps.{gap-from, gap-told, behind-slash}
+use Rattle.gaps.specs.GapsLaws.{last-in-text, last-fits, Standing, room-to, room-not, stands-insertable, stands-child}
 use Rattle.store.specs.Initial.{directory-of, top-node, rep-node, home-node, home-name, with-home, homes, topped, initial-tree}
-use Rattle.store.specs.InitialRows.{slot-in-range, Opens}
+use Rattle.store.specs.InitialRows.{slot-in-range, Opens, Opens-at}
 use Rattle.store.specs.InitialLaws.{top-alone, rep-alone, Primaries, setup-primaries, top-whole, rep-open, homes-whole, home-open, initial-by-persons}
-
--- a name may be given in other words
-pub opens-named : {b : List ℕ} {n m : Name} {t : Place Node} → n ≡ m → Opens b m t → Opens b n t
-opens-named e h = rw e h
 
 -- ---- a directory put in
 
@@ -57,47 +61,55 @@ put-topped n e F = λ i. record { here = put-here n e (topped F) i; below = put-
 encoding : {b : List ℕ} {t : Place Node} → b ≡ encode-tree t → is-tree t ≡ true → Encodes b t
 encoding e h = rw e (encodes h)
 
-module _ (b : List ℕ) (n : Name) (t : Place Node) (h : Opens b n t) where
-  top-at : At b t root 0 t
-  top-at = at-root (h .tree)
+-- `/` and a name are the text of the path that has this one name
+name-reads : (n : Name) → is-name n ≡ true → path (47 ∷ n) ≡ some (root ▹ n)
+unfolding path-text names-text is-path has-names depth most-names
+name-reads n h = path-of-text (root ▹ n) (rw h)
 
-  -- the row of `/` is in use
-  pub top-used : Used b 0
-  top-used = at-used top-at
+-- so where a tree is open to a name, a text of `/` and the name is such a path's
+pub opens-at : {b : List ℕ} {n : Name} {t : Place Node} (s : Text) → s ≡ 47 ∷ n → Opens b n t → Opens-at b s n t
+opens-at {n = n} s e h = record { reads = ap path e ∙ name-reads n (h .ready .named); opens = h }
 
-  -- the name fits its field
-  pub opens-short : length n ≤ name-width
-  opens-short = name-fits n (h .ready .named) .0
+module _ (b : List ℕ) (s : Text) (n : Name) (t : Place Node) (h : Opens-at b s n t) where
+  tree : Encodes b t
+  tree = h .opens .tree
 
-  -- the search does not find it
-  pub not-found : (j : ℕ) → Found j ≡ child-in (all-rows b) 0 n → ⊥
-  not-found j e = let f = at-found top-at n {j = j} e in no-answer (sym (h .ready .free) ∙ f .1)
+  -- the room that root finds is `/`
+  top-room : (a : Account) → is-root (a .uid) ≡ true → room (by-modes a) t (root ▹ n) ≡ done t
+  unfolding parent last is-top
+  top-room a top = root-room a t (root ▹ n) top (tree .whole) (place-at-root t) (top-directory t (tree .whole)) (h .opens .ready .free) refl
 
-  module _ (j : ℕ) (found : Missing j ≡ child-in (all-rows b) 0 n) where
-    found-spot : j ≡ suc (0 + size (lesser n (t .below)))
-    found-spot = at-missing top-at n {j = j} found .1
+  module _ (a : Account) {r : Room} (told : Whichever b s (λ t p. gap-told r ≡ gap-from t p (room (by-modes a) t p))) where
+    -- so it is not refused
+    pub not-refused : is-root (a .uid) ≡ true → {k : Cause} → r ≡ the-variants.Refused k → ⊥
+    not-refused top e = not-done (sym (room-not tree a (root ▹ n) (told t (root ▹ n) tree (h .reads)) e) ∙ top-room a top)
 
-    -- where it says that the row belongs there is a gap for it
-    pub spot-opens : Insertable b j 1
-    spot-opens = record {
-      wide = h .tree .sized .wide;
-      inside = rw found-spot (spot-bound top-at n (h .ready .free));
-      room = omega (arith, encoded-count (h .tree), h .ready .room);
-    }
+    module _ {row at k : ℕ} (e : r ≡ the-variants.At row at k) where
+      stands : Standing b t (root ▹ n) a row at k
+      stands = room-to tree a (root ▹ n) (told t (root ▹ n) tree (h .reads)) e
 
-    -- and the row put in there is the directory put in
-    pub directory-put : (f : Fresh) → rows-put b j 1 (row-bytes (fresh-row 1 n f)) ≡ encode-tree (put n (leaf (fresh-node f)) t)
-    unfolding depth
-    directory-put f =
-        ap (λ (i : ℕ). rows-put b i 1 (row-bytes (fresh-row 1 n f))) found-spot
-        ∙ child-law top-at n f (h .ready .free) (h .ready .named) (h .ready .room)
-        ∙ ap encode-tree (update-root (put n (leaf (fresh-node f))) t)
+      -- where room is found, the row may be put in
+      pub spot-opens : Insertable b at 1
+      spot-opens = stands-insertable stands 1 (omega (arith, h .opens .ready .room))
+
+      -- with its name
+      pub spot-named : length (behind-slash s) ≤ name-width
+      spot-named = last-fits s (h .reads) (stands .roomed .below-top)
+
+      -- and is then the directory put in
+      pub directory-put : (m : Name) → m ≡ behind-slash s → (f : Fresh) → rows-put b at 1 (row-bytes (fresh-row k m f)) ≡ encode-tree (put n (leaf (fresh-node f)) t)
+      unfolding parent last
+      directory-put m q f =
+          ap (λ (x : Name). rows-put b at 1 (row-bytes (fresh-row k x f))) (q ∙ last-in-text s (h .reads))
+          ∙ stands-child stands s (h .reads) f (omega (arith, h .opens .ready .room))
+          ∙ ap encode-tree (update-root (put n (leaf (fresh-node f))) t)
 
 -- ---- `/` and `/rep`
 
 -- `/` alone is open to `/rep`
-pub planted-opens : (b : List ℕ) → b ≡ encode-tree (leaf top-node) → Opens b rep (topped nil)
-planted-opens b e = record { tree = encoding (e ∙ ap encode-tree top-alone) top-whole; ready = rep-open }
+pub planted-opens : (b : List ℕ) → b ≡ encode-tree (leaf top-node) → Opens-at b (bytes "/rep") rep (topped nil)
+unfolding rep bytes
+planted-opens b e = opens-at (bytes "/rep") refl (record { tree = encoding (e ∙ ap encode-tree top-alone) top-whole; ready = rep-open })
 
 -- and with it there are the homes of no account
 pub rep-put : (u : Setup) → put rep (leaf rep-node) (topped nil) ≡ topped (homes u 0)
@@ -106,10 +118,10 @@ rep-put u = put-topped rep (leaf rep-node) nil ∙ ap topped rep-alone
 
 -- ---- homes
 
--- the name of a home is `u` and one digit
-pub short-name : (v : Uid) → v .0 < 10 → 117 ∷ (48 + v .0) ∷ [] ≡ home-name v
+-- the path of a home is `/u` and one digit
+pub short-path : (v : Uid) → v .0 < 10 → 47 ∷ 117 ∷ (48 + v .0) ∷ [] ≡ 47 ∷ home-name v
 unfolding home-name bytes decimal-text digits-before
-short-name v h = let m : v .0 % 10 ≡ v .0 = omega arith in rw (lt-ltb (v .0) 10 h, m)
+short-path v h = let m : v .0 % 10 ≡ v .0 = omega arith in rw (lt-ltb (v .0) 10 h, m)
 
 -- or two, of which the first is 1
 two-digits : (fuel n : ℕ) → 10 ≤ n → n < 16 → digits-before (suc (suc fuel)) n [] ≡ 49 ∷ (48 + (n - 10)) ∷ []
@@ -119,11 +131,11 @@ two-digits fuel n h k =
     let m : n % 10 ≡ n - 10 = omega arith in
     rw (le-ltb n 10 h, d, m)
 
-pub long-name : (v : Uid) → 10 ≤ v .0 → v .0 < 16 → 117 ∷ 49 ∷ (48 + (v .0 - 10)) ∷ [] ≡ home-name v
+pub long-path : (v : Uid) → 10 ≤ v .0 → v .0 < 16 → 47 ∷ 117 ∷ 49 ∷ (48 + (v .0 - 10)) ∷ [] ≡ 47 ∷ home-name v
 unfolding home-name bytes decimal-text
-long-name v h k =
+long-path v h k =
     let e : v .0 ≡ suc (v .0 - 1) = omega arith in
-    ap (λ (t : List ℕ). 117 ∷ t) (sym (ap (λ (fuel : ℕ). digits-before (suc fuel) (v .0) []) e ∙ two-digits (v .0 - 1) (v .0) h k))
+    ap (λ (t : List ℕ). 47 ∷ 117 ∷ t) (sym (ap (λ (fuel : ℕ). digits-before (suc fuel) (v .0) []) e ∙ two-digits (v .0 - 1) (v .0) h k))
 
 module _ (v : Uid) (p : Slot) (F : Forest Node) where
   -- an account without a person gets no home
@@ -132,13 +144,10 @@ module _ (v : Uid) (p : Slot) (F : Forest Node) where
   no-home e = rw (eq-eqb (p .primary .0) 0 e)
 
   -- a person does
-  pub home-put : (n : Name) → n ≡ home-name v → (p .primary .0 ≡ 0 → ⊥)
-      → put n (leaf (directory-of v (p .primary) (octal 0 7 5 5))) (topped F) ≡ topped (with-home v (slot-value p) F)
+  pub home-put : (p .primary .0 ≡ 0 → ⊥)
+      → put (home-name v) (leaf (directory-of v (p .primary) (octal 0 7 5 5))) (topped F) ≡ topped (with-home v (slot-value p) F)
   unfolding with-home slot-value home-node
-  home-put n e h =
-      ap (λ (m : Name). put m (leaf (directory-of v (p .primary) (octal 0 7 5 5))) (topped F)) e
-      ∙ put-topped (home-name v) (leaf (directory-of v (p .primary) (octal 0 7 5 5))) F
-      ∙ rw (ne-eqb (p .primary .0) 0 h)
+  home-put h = put-topped (home-name v) (leaf (directory-of v (p .primary) (octal 0 7 5 5))) F ∙ rw (ne-eqb (p .primary .0) 0 h)
 
 -- ---- the accounts one after another
 

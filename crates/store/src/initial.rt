@@ -4,6 +4,7 @@ ghost use mathlib.Core.Bool.{true};
 ghost use mathlib.Core.List.{map};
 ghost use Prim.Native.Nat.{_<_};
 ghost use Rattle.buffers.specs.Text.{every};
+ghost use Rattle.syntax.specs.Path.{Name};
 ghost use Rattle.setup.specs.Setup.{Setup};
 ghost use Rattle.setup.specs.Reader.{slot-value};
 ghost use Rattle.tree.specs.Forest.{Forest, Place};
@@ -11,25 +12,32 @@ ghost use Rattle.tree.specs.Node.{Node};
 ghost use Rattle.tree.specs.Encoding.{encode-tree};
 ghost use Rattle.tree.specs.TreeBytes.{Wide};
 ghost use Rattle.store.specs.Initial.{directory-of, home-name, homes, topped};
-ghost use Rattle.store.specs.InitialRows.{slot-in-range, Opens, Node-put, Home-put, Initial-written};
+ghost use Rattle.store.specs.InitialRows.{slot-in-range, Opens, Opens-at, Node-put, Home-put, Initial-written};
+use accounts::Account;
 use accounts::Gid;
+use accounts::Groups;
 use accounts::Uid;
 use edits::Fresh;
 use edits::plant;
 use edits::put_child;
+use gaps::Room;
+use gaps::last_name;
+use gaps::room_for;
 use setup::Person;
-use tree::Child;
 use tree::Kind;
-use tree::find_child;
 
 // The mode of a home, 0755.
 const HOME: u16 = 0o755;
 
-// Puts a directory in below `/`, where its name is not used yet.
-fn put_directory(tree: &mut [u8], name: &[u8], owner: Uid, group: Gid, mode: u16)
-    requires { ⌜ ((t : Place Node) × Opens (now tree) (now name) t) ⌝ }
-    ensures { λ _. ⌜ Node-put (now (tree .entry)) (now (name .entry)) (directory-of owner group mode) (now (tree .exit)) ⌝ }
+// Puts a directory in at a path of one name that is not used yet. Root finds the room: it may write in every directory.
+fn put_directory(tree: &mut [u8], path: &[u8], owner: Uid, group: Gid, mode: u16)
+    requires { ⌜ ((n : Name) × (t : Place Node) × Opens-at (now tree) (now path) n t) ⌝ }
+    ensures { λ _. ⌜ Node-put (now (tree .entry)) (now (path .entry)) (directory-of owner group mode) (now (tree .exit)) ⌝ }
 {
+    let root = Account {
+        uid: Uid(0),
+        groups: Groups(0),
+    };
     let node = Fresh {
         kind: Kind::Directory,
         owner,
@@ -37,9 +45,9 @@ fn put_directory(tree: &mut [u8], name: &[u8], owner: Uid, group: Gid, mode: u16
         mode,
         revision: 0,
     };
-    match find_child(tree, 0, name) {
-        Child::Found(_) => {}
-        Child::Missing(j) => put_child(tree, j, 1, name, node),
+    match room_for(tree, root, path) {
+        Room::At { row: _, at, depth } => put_child(tree, at, depth, last_name(path), node),
+        Room::Refused(_) => {}
     }
 }
 
@@ -56,7 +64,7 @@ fn write_top(tree: &mut [u8])
         revision: 0,
     };
     plant(tree, top);
-    put_directory(tree, b"rep", Uid(16), Gid(24), 0o750);
+    put_directory(tree, b"/rep", Uid(16), Gid(24), 0o750);
 }
 
 // Puts the home of an account in, if it is a person's.
@@ -69,12 +77,12 @@ fn put_home(tree: &mut [u8], uid: Uid, person: Person)
         return;
     }
     if uid.0 < 10 {
-        let name = [b'u', b'0' + uid.0];
-        put_directory(tree, &name, uid, group, HOME);
+        let path = [b'/', b'u', b'0' + uid.0];
+        put_directory(tree, &path, uid, group, HOME);
         return;
     }
-    let name = [b'u', b'1', b'0' + (uid.0 - 10)];
-    put_directory(tree, &name, uid, group, HOME);
+    let path = [b'/', b'u', b'1', b'0' + (uid.0 - 10)];
+    put_directory(tree, &path, uid, group, HOME);
 }
 
 // Writes the initial tree: `/`, `/rep`, and a home for each person, whatever stood there.

@@ -1,61 +1,73 @@
--- `store::initial::put_directory` meets its contract: the row is put in where the search says that it belongs.
-use mathlib.Core.Path.{sym, _∙_}
+-- `store::initial::put_directory` meets its contract: root finds the room, and the row is put in there.
+use mathlib.Core.Path.{refl, ap, _∙_}
+use native.Mathlib.Omega.{arith}
+use lib.ListN.{length}
 use denote.Ref.{now}
+use Rattle.accounts.specs.Access.{is-root}
+use Rattle.syntax.specs.Path.{root, _▹_}
+use Rattle.syntax.specs.PathTextLaws.{text-begins}
 use Rattle.edits.specs.Changes.{fresh-node}
 use Rattle.store.specs.Initial.{directory-of}
-use Rattle.store.specs.InitialRowsLaws.{top-used, opens-short, not-found, spot-opens, directory-put}
+use Rattle.store.specs.InitialRowsLaws.{not-refused, spot-opens, spot-named, directory-put}
 use borrow.Author.Needs.{needs}
 use Rattle.store.proofs.initial.put_directory.Statement.{statement}
 use Rattle.store.proofs.initial.put_directory.Tie as tie
 
-find-child-requires : tie.Need-find-child-requires
-find-child-requires c κs =
-    let s = c .before .before .before in
-    top-used (now (s .args .tree)) (now (s .args .name)) (s .pre .0) (s .pre .1)
+room-for-requires : tie.Need-room-for-requires
+room-for-requires c κs = search needs
 
-enum-told : tie.Need-enum-told
-enum-told c = search needs
+enum-known-at : tie.Need-enum-known-at
+enum-known-at c = search needs
 
-enum-known-j : tie.Need-enum-known-j
-enum-known-j c = search needs
+last-name-requires : tie.Need-last-name-requires
+last-name-requires c κs =
+    let s = c .before .before .before .before .before .before .before .before in
+    text-begins (now (s .args .path)) (root ▹ s .pre .0) (s .pre .2 .reads)
 
 put-child-requires : tie.Need-put-child-requires
 put-child-requires c κs =
-    let s = c .before .before .before .before .before .before .before .before in
+    let s = c .before .before .before .before .before .before .before .before .before in
     let b = now (s .args .tree) in
-    let n = now (s .args .name) in
-    let k = c .before .before .j .given in
-    let found = sym (k .1) ∙ c .before .before .before .before .find-child .ensures in
-    (spot-opens b n (s .pre .0) (s .pre .1) (k .0 .0) found, opens-short b n (s .pre .0) (s .pre .1))
+    let p = now (s .args .path) in
+    let told = c .before .before .before .before .before .room-for .ensures in
+    let e = c .before .before .before .at .given .1 in (
+      spot-opens b p (s .pre .0) (s .pre .1) (s .pre .2) _ told e,
+      omega (arith, ap length (c .last-name .ensures), spot-named b p (s .pre .0) (s .pre .1) (s .pre .2) _ told e),
+    )
+
+enum-told : tie.Need-enum-told
+enum-told c = search needs
 
 same-length : tie.Need-same-length
 same-length c = search needs
 
 returns : tie.Need-returns
-returns c t h =
-    let s = c .before .before .before .before .before .before in
-    let k = c .enum-told .given in
-    absurd (not-found (now (s .args .tree)) (now (s .args .name)) t h (k .0 .0) (sym (k .1) ∙ c .before .before .find-child .ensures))
+unfolding directory-of fresh-node
+returns c n t h =
+    let a = c .before .before .before .before .before .before .before .before .before .before .before .before .args in
+    let told = c .before .before .before .before .before .before .before .before .room-for .ensures in
+    let e = c .before .before .before .before .before .before .at .given .1 in
+    let name = c .before .before .before .last-name in
+    c .before .before .put-child .ensures ∙ directory-put (now (a .tree)) (now (a .path)) n t h _ told e (now (name .result)) (name .ensures) _
 
 same-length-2 : tie.Need-same-length-2
 same-length-2 c = search needs
 
 returns-2 : tie.Need-returns-2
-unfolding directory-of fresh-node
-returns-2 c t h =
-    let s = c .before .before .before .before .before .before .before .before .before .before .before in
-    let k = c .before .before .before .before .before .j .given in
-    let found = sym (k .1) ∙ c .before .before .before .before .before .before .before .find-child .ensures in
-    c .before .before .put-child .ensures ∙ directory-put (now (s .args .tree)) (now (s .args .name)) t h (k .0 .0) found _
+unfolding is-root
+returns-2 c n t h =
+    let a = c .before .before .before .before .before .before .args in
+    absurd (not-refused (now (a .tree)) (now (a .path)) n t h _ (c .before .before .room-for .ensures) refl (c .enum-told .given .1))
 
 pub put-directory-spec : {M : Type 1} → statement M
 put-directory-spec =
     tie.close
     (tie.spec
-    find-child-requires
-    enum-told
-    enum-known-j
+    room-for-requires
+    enum-known-at
+    last-name-requires
     put-child-requires
+    enum-told
     same-length
     returns
     same-length-2

@@ -21,7 +21,7 @@ put-directory-requires : tie.Need-put-directory-requires
 unfolding rep bytes top-node directory-of fresh-node
 put-directory-requires c κs =
     let p = c .before .before .before .before .plant in
-    (topped nil, planted-opens (p .last .0) (p .ensures))
+    (rep, topped nil, planted-opens (p .last .0) (p .ensures))
 
 same-length : tie.Need-same-length
 same-length c = search needs
@@ -30,7 +30,7 @@ returns : tie.Need-returns
 unfolding rep bytes top-node rep-node directory-of fresh-node
 returns c u =
     let p = c .before .before .before .before .before .before .before .plant in
-    c .before .before .put-directory .ensures (topped nil) (planted-opens (p .last .0) (p .ensures)) ∙ ap encode-tree (rep-put u)
+    c .before .before .put-directory .ensures rep (topped nil) (planted-opens (p .last .0) (p .ensures)) ∙ ap encode-tree (rep-put u)
 
 pub write-top-spec : {M : Type 1} → statement M
 write-top-spec =
