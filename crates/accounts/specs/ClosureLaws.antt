@@ -8,15 +8,15 @@ use Prim.Native.Nat.{ℕ, zero, suc, _+_, _*_, _^_, _≤_, _<_}
 use native.Mathlib.Omega.{arith}
 use native.Mathlib.Nat.{zero-add, add-zero, suc-add, add-suc, one-mul, zero-mul, pow-suc, div-eq-of-lt, lt-of-lt-of-le, le-of-suc-le-suc, not-suc-le-zero}
 use lib.Dec.{ltb}
-use lib.Bits.{bitOr, or-block, or-shifted-r}
-use lib.ListN.{getD}
-use borrow.Author.Tests.{ltb-true, eqb-true, eqb-false}
+use lib.Bits.{bitOr, or-block, or-shifted-r, or-zero-r}
+use lib.ListN.{length, getD, List·getD-eq-default}
+use borrow.Author.Tests.{ltb-true, ltb-false, eqb-true, eqb-false}
 use lib.Pow.{pow-mono, pow-lt, pow-add}
 use Rattle.buffers.specs.Cases.{case, and-both}
 use Rattle.accounts.specs.declared.Role.{Role}
 use Rattle.accounts.specs.declared.Pair.{Pair}
 use Rattle.accounts.specs.Groups.{same-gid, member, no-groups, with-group, member-with}
-use Rattle.accounts.specs.Dominance.{Bounded-role, Listed, first, later, Dominates, self, down, same-role, same-role-is, juniors, any-role, chain, dominates, dominates-is, falls, all-fall, all-fall-is}
+use Rattle.accounts.specs.Dominance.{Bounded-role, Listed, first, later, Dominates, self, down, same-role, same-role-is, juniors, any-role, chain, dominates, dominates-is, dominates-falls, Falling, falls, all-fall, all-fall-is}
 use Rattle.accounts.specs.Service.{service-gid, all-services, service-groups, service, service-uid}
 use Rattle.accounts.specs.Closure.{has-role, row-of, rows-from, rows-of, own-rows, grown-row, grown-rows, row-dominates, row-account}
 
@@ -225,9 +225,54 @@ unfolding rows-from
 rows-grow ps p h e b k zero = refl
 rows-grow ps p h e b k (suc n) = rw (row-grows ps p h e b (record { 0 = k }), rows-grow ps p h e b (suc k) n)
 
--- one pair more grows the rows to those of the longer list
-pub grown-rows-are : (ps : List Pair) (p : Pair) → all-fall ps ≡ true → falls p ≡ true → ltb (p .junior .0) 8 ≡ true → grown-rows p (rows-of ps) ≡ rows-of (ps ++ (p ∷ []))
+-- ---- a pair whose junior is past the eight roles
+
+-- with nothing to take a row stays
+grown-same : (s : Role) (row : ℕ) → grown-row s 0 row ≡ row
+unfolding grown-row
+grown-same s row = case (has-role row s) (λ t. rw (t, or-zero-r row)) (λ t. rw t)
+
+-- and so do all rows
+map-same : (f : ℕ → ℕ) (rows : List ℕ) → ((x : ℕ) → f x ≡ x) → rows ≡ map f rows
+map-same f [] h = refl
+map-same f (x ∷ xs) h = λ i. sym (h x) i ∷ map-same f xs h i
+
+-- a junior past the last row has nothing
+pub none-grown : (p : Pair) (rows : List ℕ) → length rows ≡ 8 → 8 ≤ p .junior .0 → rows ≡ grown-rows p rows
 unfolding grown-rows
-grown-rows-are ps p h e b =
-    let l : p .junior .0 < 8 = ltb-true (p .junior .0) 8 b in
-    rw (role-row ps (p .junior) l) (unfold rows-of in rows-grow ps p h e l 0 8)
+none-grown p rows l h =
+    let past : length rows ≤ p .junior .0 = omega arith in
+    rw (List·getD-eq-default rows 0 past) (map-same (grown-row (p .senior) 0) rows (grown-same (p .senior)))
+
+-- and leads down to none of the eight
+dominates-beyond : (ps : List Pair) (p : Pair) → all-fall ps ≡ true → falls p ≡ true → 8 ≤ p .junior .0 → (s r : Role) → r .0 < 8 →
+    dominates ps s r ≡ dominates (ps ++ (p ∷ [])) s r
+dominates-beyond ps p h e b s r l =
+    let f : Falling ps = all-fall-is ps h in
+    let new : _ = dominates-is (ps ++ (p ∷ [])) (all-fall-is (ps ++ (p ∷ [])) (fall-more ps p h e)) s r (omega arith) in
+    let old : _ = dominates-is ps f s r (omega arith) in
+    one-test (dominates ps s r) (dominates (ps ++ (p ∷ [])) s r)
+    (λ d. new .1 (dominates-more p (old .0 d)))
+    (λ d. elim (split ps p (new .0 d)) [
+      | inl a ↦ old .1 a
+      | inr a ↦ let z : ⊥ = omega (arith, dominates-falls ps f (a .1)) in absurd z
+    ])
+
+-- so it changes no row
+rows-beyond : (ps : List Pair) (p : Pair) → all-fall ps ≡ true → falls p ≡ true → 8 ≤ p .junior .0 → (k n : ℕ) →
+    rows-from ps k n ≡ rows-from (ps ++ (p ∷ [])) k n
+unfolding rows-from
+rows-beyond ps p h e b k zero = refl
+rows-beyond ps p h e b k (suc n) =
+    let s : Role = record { 0 = k } in
+    rw (row-same (dominates ps s) (dominates (ps ++ (p ∷ [])) s) 8 (dominates-beyond ps p h e b s), rows-beyond ps p h e b (suc k) n)
+
+-- ---- one pair more grows the rows to those of the longer list
+
+pub grown-rows-are : (ps : List Pair) (p : Pair) → all-fall ps ≡ true → falls p ≡ true → grown-rows p (rows-of ps) ≡ rows-of (ps ++ (p ∷ []))
+unfolding rows-of
+grown-rows-are ps p h e = case (ltb (p .junior .0) 8)
+    (λ b. let l : p .junior .0 < 8 = ltb-true (p .junior .0) 8 b in
+    unfold grown-rows in rw (role-row ps (p .junior) l) (rows-grow ps p h e l 0 8))
+    (λ b. let l : 8 ≤ p .junior .0 = ltb-false (p .junior .0) 8 b in
+    sym (none-grown p (rows-of ps) (unfold rows-from in refl) l) ∙ rows-beyond ps p h e l 0 8)

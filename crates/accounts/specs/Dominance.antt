@@ -104,7 +104,7 @@ chain-sound (suc k) ps s r h = case (same-role s r)
     (λ t. let w : _ = any-listed (λ j. chain k ps j r) s ps (rw t at h) in down (w .1) (chain-sound k ps (w .0) r (w .2)))
 
 -- the relation leads down too
-dominates-falls : (ps : List Pair) → Falling ps → {s r : Role} → Dominates ps s r → s .0 ≤ r .0
+pub dominates-falls : (ps : List Pair) → Falling ps → {s r : Role} → Dominates ps s r → s .0 ≤ r .0
 unfolding Falling
 dominates-falls ps f self = omega arith
 dominates-falls ps f (down l d) = omega (arith, f _ _ l, dominates-falls ps f d)

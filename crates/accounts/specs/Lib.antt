@@ -5,4 +5,5 @@ pub mod Dominance
 pub mod Service
 pub mod Closure
 pub mod ClosureLaws
+pub mod PairBytes
 pub mod Compute

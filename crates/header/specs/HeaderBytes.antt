@@ -3,14 +3,13 @@ use mathlib.Core.Path.{_≡_}
 use mathlib.Core.List.{List}
 use mathlib.Core.Option.{Option, none, some}
 use mathlib.Core.Bool.{Bool, true, _&&_}
-use Prim.Native.Nat.{ℕ, _+_, _*_}
+use Prim.Native.Nat.{ℕ, _+_}
 use lib.ListN.{length, getD, set}
 use Rattle.buffers.specs.Text.{Text, same-text}
 use Rattle.buffers.specs.Fields.{text-at}
 use Rattle.accounts.specs.declared.Caller.{Caller}
 use Rattle.accounts.specs.declared.Uid.{Uid}
 use Rattle.accounts.specs.declared.Role.{Role}
-use Rattle.accounts.specs.declared.Pair.{Pair}
 use Rattle.accounts.specs.declared.Session.{Session}
 use Rattle.accounts.specs.declared.Session.the-variants.{Nobody as No-session, As as Session-as}
 use Rattle.accounts.specs.Access.{same-uid}
@@ -20,7 +19,7 @@ use Rattle.tree.specs.declared.Cause.the-variants.{UnknownCaller}
 use Rattle.tree.specs.Result.{Result, refused, done, _>>=_, Outcome}
 use Rattle.shell.specs.declared.Answer.{Answer}
 use Rattle.shell.specs.Replies.{reply, answer-of, written}
-use Rattle.store.specs.HeaderLayout.{pairs-offset, pair-width, grants-offset, grant-width, password-offset, password-width, spare-offset, spare-width, pair-start, grant-start}
+use Rattle.store.specs.HeaderLayout.{password-offset, password-width, spare-offset, spare-width, grant-start}
 use Rattle.store.specs.State.{Sessions}
 use Rattle.store.specs.StoreBytes.{header-bytes}
 use Rattle.store.specs.Callers.{granted}
@@ -63,10 +62,6 @@ Bounded-session s = (o : Option Bounded-role) × (s ≡ session-held o)
 -- the bytes before and after an account's session is replaced
 abbrev pub Session-put : List ℕ → Uid → Session → List ℕ → Type 0
 Session-put b uid session b′ = Whose b (λ u z. (o : Option Bounded-role) → session ≡ session-held o → b′ ≡ header-bytes u (set z (uid .0) o))
-
--- the pair of an index
-abbrev pub pair-at : List ℕ → ℕ → Pair
-pair-at b i = record { senior = record { 0 = getD b (pair-start i) 0 }; junior = record { 0 = getD b (pair-start i + 1) 0 } }
 
 -- the grant of an index
 abbrev pub grant-in : List ℕ → ℕ → Grant

@@ -2,7 +2,7 @@
 --
 -- In order: the fields of a value that stands among other bytes; a table by index; the header whole; an account's slot; an
 -- account's session; the role pairs; the grants.
-use mathlib.Core.Path.{_≡_, refl, sym, _∙_, ap}
+use mathlib.Core.Path.{_≡_, refl, sym, _∙_, ap, ap₂}
 use mathlib.Core.List.{List, [], append-nil}
 use mathlib.Core.Option.{Option, none, some}
 use Prim.Native.Nat.{ℕ, suc, _+_, _*_, _≤_, _<_}
@@ -14,15 +14,16 @@ use Rattle.buffers.specs.Fields.{number-at, unpadded, text-at, table-from}
 use Rattle.buffers.specs.FieldsLaws.{part-of-take}
 use Rattle.buffers.specs.TableLaws.{length-all-from, all-from-at}
 use Rattle.accounts.specs.declared.Uid.{Uid}
-use Rattle.accounts.specs.declared.Pair.{Pair}
 use Rattle.accounts.specs.Dominance.{Bounded-role}
+use Rattle.accounts.specs.PairBytes.{pair-of}
+use Rattle.dominance.specs.PairsIn.{pairs-in}
 use Rattle.setup.specs.Setup.{Grant, Setup, accounts, person}
 use Rattle.setup.specs.SetupLaws.{apart}
-use Rattle.store.specs.HeaderLayout.{slot-width, sessions-offset, pairs-offset, pair-width, grants-offset, grant-width, pair-start, grant-start}
+use Rattle.store.specs.HeaderLayout.{slot-width, sessions-offset, pairs-offset, pair-width, grants-offset, grant-width, grant-start}
 use Rattle.store.specs.State.{Sessions}
-use Rattle.store.specs.StoreBytes.{header-width, slot-of, session-byte, pair-of, grant-of, header-bytes, setup-of}
+use Rattle.store.specs.StoreBytes.{header-width, slot-of, session-byte, grant-of, header-bytes, setup-of}
 use Rattle.store.specs.HeaderLaws.{length-header, setup-of-header, session-in-header, header-with-session}
-use Rattle.header.specs.HeaderBytes.{Wide-header, Heads, Headed, pair-at, grant-in}
+use Rattle.header.specs.HeaderBytes.{Wide-header, Heads, Headed, grant-in}
 
 -- ---- the value of n bytes from o on
 
@@ -127,16 +128,9 @@ module _ {b : List ℕ} {u : Setup} {z : Sessions} (h : Heads b u z) where
   pub pairs-counted : getD b pairs-offset 0 ≡ length (u .pairs)
   pairs-counted = table-count pair-width pair-of b pairs-offset ∙ ap length (sym pairs-read)
 
-  pub pair-stands : (i : ℕ) (d : Pair) → i < length (u .pairs) → getD (u .pairs) i d ≡ pair-at b i
-  unfolding pair-of
-  pair-stands i d l =
-      let o = pair-start i in
-      ap (λ (ps : List Pair). getD ps i d) pairs-read
-      ∙ table-value pair-width pair-of b pairs-offset i d (omega (arith, ap length pairs-read))
-      ∙ (λ j. record {
-        senior = record { 0 = byte-there b o 2 0 o (omega arith) (omega arith) j };
-        junior = record { 0 = byte-there b o 2 1 (o + 1) (omega arith) refl j };
-      })
+  pub pairs-stand : u .pairs ≡ pairs-in (getD b pairs-offset 0) (drop (pairs-offset + 1) b)
+  unfolding table-from
+  pairs-stand = pairs-read ∙ ap₂ pairs-in (getD-drop pairs-offset b 0 0) (drop-drop 1 pairs-offset b)
 
   -- ---- the grants
 

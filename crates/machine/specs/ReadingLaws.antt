@@ -1,23 +1,22 @@
 -- A role dominates another just if its account may read every entry that the other's account may, and more pairs take no
 -- permission away.
 use mathlib.Core.Path.{_≡_, refl, sym, _∙_, ap}
-use mathlib.Core.List.{List, [], _∷_}
+use mathlib.Core.List.{List, []}
 use mathlib.Core.Option.{some}
 use mathlib.Core.Bool.{true, _&&_}
 use Prim.Native.Nat.{_≤_}
 use native.Mathlib.Omega.{arith}
 use borrow.Author.Tests.{ltb-true}
-use lib.Dec.{ltb}
 use Rattle.buffers.specs.Cases.{and-both}
 use Rattle.buffers.specs.Text.{every}
 use Rattle.accounts.specs.declared.Role.{Role}
 use Rattle.accounts.specs.declared.Pair.{Pair}
-use Rattle.accounts.specs.Dominance.{Bounded-role, Listed, Dominates, self, down, Falling, falls, all-fall, all-fall-is, dominates-is, dominates-self, dominates-trans}
+use Rattle.accounts.specs.Dominance.{Bounded-role, Listed, Dominates, self, down, Falling, all-fall-is, dominates-is, dominates-self, dominates-trans}
 use Rattle.syntax.specs.Pieces.{bytes}
 use Rattle.syntax.specs.Path.{Path, Entry-path, root, _▹_, depth, rep, in-rep, name-byte, is-name}
 use Rattle.syntax.specs.Field.{content-limit, is-content}
-use Rattle.setup.specs.Setup.{Setup, is-pair, is-setup}
-use Rattle.setup.specs.SetupLaws.{apart}
+use Rattle.setup.specs.Setup.{Setup, is-setup}
+use Rattle.setup.specs.SetupLaws.{pairs-fall}
 use Rattle.tree.specs.declared.Kind.{Kind}
 use Rattle.tree.specs.declared.Kind.the-variants.{File}
 use Rattle.tree.specs.Result.{done}
@@ -50,16 +49,9 @@ use Rattle.machine.specs.EntryAccess.{May-read, Reads-all, More-pairs}
 
 -- ---- dominance
 
-all-pairs-fall : (ps : List Pair) → every is-pair ps ≡ true → all-fall ps ≡ true
-unfolding every is-pair all-fall
-all-pairs-fall [] h = refl
-all-pairs-fall (p ∷ ps) h =
-    let a = and-both (is-pair p) (every is-pair ps) h in
-    rw (and-both (falls p) (ltb (p .junior .0) 8) (a .0) .0) (all-pairs-fall ps (a .1))
-
 -- the pairs of a setup in range lead down
 setup-falls : (u : Setup) → is-setup u ≡ true → Falling (u .pairs)
-setup-falls u s = all-fall-is (u .pairs) (all-pairs-fall (u .pairs) (apart u s .all-pairs))
+setup-falls u s = all-fall-is (u .pairs) (pairs-fall u s)
 
 role-bound : (z : Bounded-role) → z .role .0 ≤ 7
 role-bound z = omega (arith, ltb-true (z .role .0) 8 (z .bound))

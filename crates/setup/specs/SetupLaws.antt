@@ -21,7 +21,7 @@ use Rattle.accounts.specs.declared.Role.{Role}
 use Rattle.accounts.specs.declared.Pair.{Pair}
 use Rattle.accounts.specs.Groups.{no-groups, with-group}
 use Rattle.accounts.specs.Access.{is-root}
-use Rattle.accounts.specs.Dominance.{falls}
+use Rattle.accounts.specs.Dominance.{falls, all-fall}
 use Rattle.syntax.specs.Pieces.{bytes, comma, newline, pieces}
 use Rattle.syntax.specs.Form.{_>>=_, _>>_, check, is-some}
 use Rattle.syntax.specs.FormLaws.{no-answer, both-read, checked, answered, both, Answers-pass, two-gives, three-gives, Forms-give, no-form, _also_, by-form-gives}
@@ -283,6 +283,18 @@ read-keeps (t ∷ (u ∷ us)) n d s r e = case (same-text t (bytes "end"))
 nothing : is-setup no-setup ≡ true
 unfolding is-setup no-setup accounts most-pairs most-grants is-slot is-some every
 nothing = refl
+
+-- pairs in range fall
+falling-pairs : (ps : List Pair) → every is-pair ps ≡ true → all-fall ps ≡ true
+unfolding every is-pair all-fall
+falling-pairs [] h = refl
+falling-pairs (p ∷ ps) h =
+    let a = and-both (is-pair p) (every is-pair ps) h in
+    rw (and-both (falls p) (ltb (p .junior .0) 8) (a .0) .0) (falling-pairs ps (a .1))
+
+-- and so do those of a setup in range
+pub pairs-fall : (u : Setup) → is-setup u ≡ true → all-fall (u .pairs) ≡ true
+pairs-fall u h = falling-pairs (u .pairs) (apart u h .all-pairs)
 
 -- an accepted setup is in range
 pub accepted-is-setup : (t : Text) (s : Setup) → setup t ≡ accepted s → is-setup s ≡ true

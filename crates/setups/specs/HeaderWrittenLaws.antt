@@ -16,6 +16,7 @@ use Rattle.buffers.specs.Fields.{two-bytes, padded, all-bytes, table-bytes}
 use Rattle.buffers.specs.FieldsLaws.{length-two-bytes, length-padded}
 use Rattle.buffers.specs.PasteLaws.{paste-join, set-paste, set-behind}
 use Rattle.accounts.specs.declared.Pair.{Pair}
+use Rattle.accounts.specs.PairBytes.{pair-bytes}
 use Rattle.syntax.specs.Parts.{span-text}
 use Rattle.setup.specs.declared.Person.{Person as Slot}
 use Rattle.setup.specs.declared.Grant.{Grant as Held-grant}
@@ -23,7 +24,7 @@ use Rattle.setup.specs.Setup.{Setup, accounts, most-pairs, most-grants, is-setu
 use Rattle.setup.specs.Reader.{slot-value, grant-value}
 use Rattle.store.specs.HeaderLayout.{pair-width, grant-width}
 use Rattle.store.specs.Initial.{no-sessions}
-use Rattle.store.specs.StoreBytes.{slot-bytes, session-byte, pair-bytes, grant-bytes, header-bytes}
+use Rattle.store.specs.StoreBytes.{slot-bytes, session-byte, grant-bytes, header-bytes}
 use Rattle.store.specs.HeaderLaws.{part-widths}
 
 -- ---- one value

@@ -20,12 +20,13 @@ use Rattle.buffers.specs.FieldsLaws.{length-two-bytes, length-padded}
 use Rattle.buffers.specs.TableLaws.{length-all-from, all-from-at}
 use Rattle.accounts.specs.Access.{is-root}
 use Rattle.accounts.specs.Dominance.{falls}
+use Rattle.accounts.specs.PairBytes.{pair-bytes, pair-of}
 use Rattle.syntax.specs.Path.{is-name}
 use Rattle.syntax.specs.Form.{is-some}
 use Rattle.syntax.specs.Field.{bounded, bounded-by}
 use Rattle.setup.specs.Setup.{Setup, accounts, most-pairs, most-grants, person, is-person, is-slot, is-pair, is-grant, is-setup}
 use Rattle.soundness.specs.RowTestLaws.{eqb-flip, length-text-at, same-filled, same-zeros-at}
-use Rattle.store.specs.StoreBytes.{slot-bytes, slot-of, session-byte, session-of, pair-bytes, pair-of, grant-bytes, grant-of, header-bytes, setup-of, sessions-of, is-header}
+use Rattle.store.specs.StoreBytes.{slot-bytes, slot-of, session-byte, session-of, grant-bytes, grant-of, header-bytes, setup-of, sessions-of, is-header}
 use Rattle.store.specs.HeaderLayout.{pair-start, grant-start}
 use Rattle.sound_store.specs.HeaderTests.{Header-wide, passes-from, slot-start, is-slot-at, has-slots, is-session-at, has-sessions, is-pair-at, has-pairs, named-at, is-password-at, is-grant-at, has-grants, header-test}
 use Rattle.sound_store.specs.PassesLaws.{passes-both, passes-same, stretch, opened, all-pass, all-same, table-count, table-values, table-same}

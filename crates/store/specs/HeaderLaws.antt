@@ -18,6 +18,7 @@ use Rattle.buffers.specs.TableLaws.{length-all-bytes, length-table, all-from-by
 use Rattle.accounts.specs.declared.Pair.{Pair}
 use Rattle.accounts.specs.Access.{is-root}
 use Rattle.accounts.specs.Dominance.{Bounded-role}
+use Rattle.accounts.specs.PairBytes.{pair-bytes, pair-of}
 use Rattle.syntax.specs.Path.{is-name}
 use Rattle.syntax.specs.PathLaws.{name-fits}
 use Rattle.syntax.specs.Field.{bounded, bounded-by}
@@ -26,7 +27,7 @@ use Rattle.setup.specs.Setup.{Person, Grant, Setup, accounts, most-pairs, most-
 use Rattle.setup.specs.SetupLaws.{apart}
 use Rattle.store.specs.HeaderLayout.{sessions-offset, pair-width, grant-width}
 use Rattle.store.specs.State.{Sessions}
-use Rattle.store.specs.StoreBytes.{header-width, slot-bytes, slot-of, session-byte, session-of, pair-bytes, pair-of, grant-bytes, grant-of, header-bytes, setup-of, sessions-of}
+use Rattle.store.specs.StoreBytes.{header-width, slot-bytes, slot-of, session-byte, session-of, grant-bytes, grant-of, header-bytes, setup-of, sessions-of}
 
 -- ---- one value
 

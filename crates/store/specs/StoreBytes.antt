@@ -18,8 +18,8 @@ use lib.Dec.{eqb}
 use lib.ListN.{getD, drop, replicate}
 use Rattle.buffers.specs.Text.{same-text}
 use Rattle.buffers.specs.Fields.{two-bytes, number-at, padded, text-at, all-bytes, all-from, table-bytes, table-from}
-use Rattle.accounts.specs.declared.Pair.{Pair}
 use Rattle.accounts.specs.Dominance.{Bounded-role}
+use Rattle.accounts.specs.PairBytes.{pair-bytes, pair-of}
 use Rattle.syntax.specs.Form.{_>>=_, _>>_, check}
 use Rattle.syntax.specs.Field.{bounded}
 use Rattle.setup.specs.Setup.{Person, Grant, Setup, accounts, most-pairs, most-grants, is-setup}
@@ -47,12 +47,6 @@ session-byte (some z) = suc (z .role .0)
 unfoldable pub session-of : ℕ → Option Bounded-role
 session-of zero = none
 session-of (suc n) = bounded n
-
-unfoldable pub pair-bytes : Pair → List ℕ
-pair-bytes p = p .senior .0 ∷ p .junior .0 ∷ []
-
-unfoldable pub pair-of : List ℕ → Pair
-pair-of b = record { senior = record { 0 = getD b 0 0 }; junior = record { 0 = getD b 1 0 } }
 
 unfoldable pub grant-bytes : Grant → List ℕ
 grant-bytes g = g .uid .0 ∷ g .role .0 ∷ padded password-width (g .password)

@@ -1,19 +1,16 @@
 -- `accounts::Dominance::with` meets its contract. The loop's invariant: the rows below `i` as they are, and the others grown, are all rows grown.
 -- Assumes nothing.
-use mathlib.Core.Path.{_≡_, refl, sym, _∙_}
-use mathlib.Core.List.{List, [], _∷_, _++_, map, append-assoc, append-nil}
+use mathlib.Core.Path.{_≡_, _∙_}
+use mathlib.Core.List.{List, _++_, map, append-assoc, append-nil}
 use Prim.Native.Nat.{ℕ, suc, _≤_, _<_, _-_, _+_}
-use native.Mathlib.Nat.{lt-suc-self, le-trans, le-of-eq}
+use native.Mathlib.Nat.{lt-suc-self}
 use native.Mathlib.Numerals.{add-one}
 use native.Mathlib.Omega.{arith}
-use lib.ListN.{length, take, drop, set, getD, length-set, drop-of-length-le, List·getD-eq-default}
+use lib.ListN.{length, take, drop, set, getD, length-set, drop-of-length-le}
 use lib.Seq.{take-suc-set, drop-set-lt, drop-cons, take-all}
-use lib.Bits.{or-zero-r}
 use borrow.Author.Needs.{needs}
-use Rattle.buffers.specs.Cases.{case}
-use Rattle.accounts.specs.declared.Role.{Role}
-use Rattle.accounts.specs.declared.Pair.{Pair}
-use Rattle.accounts.specs.Closure.{has-role, grown-row, grown-rows}
+use Rattle.accounts.specs.Closure.{grown-row, grown-rows}
+use Rattle.accounts.specs.ClosureLaws.{none-grown}
 use Rattle.accounts.proofs.Dominance.with.Statement.{statement}
 use Rattle.accounts.proofs.Dominance.with.Tie as tie
 
@@ -25,22 +22,6 @@ one-more f rows i w l e = rw (add-one, take-suc-set rows i w l, drop-set-lt (suc
 -- all rows are grown
 all-grown : (f : ℕ → ℕ) (rows : List ℕ) (i : ℕ) → length rows ≤ i → rows ≡ take i rows ++ map f (drop i rows)
 all-grown f rows i l = rw (take-all i rows l, drop-of-length-le rows l, append-nil)
-
--- with nothing to take a row stays
-grown-same : (s : Role) (row : ℕ) → grown-row s 0 row ≡ row
-unfolding grown-row
-grown-same s row = case (has-role row s) (λ t. rw (t, or-zero-r row)) (λ t. rw t)
-
--- and so do all rows
-map-same : (f : ℕ → ℕ) (rows : List ℕ) → ((x : ℕ) → f x ≡ x) → rows ≡ map f rows
-map-same f [] h = refl
-map-same f (x ∷ xs) h = λ i. sym (h x) i ∷ map-same f xs h i
-
--- a junior past the last row has nothing
-none-grown : (p : Pair) (rows : List ℕ) → length rows ≡ 8 → 8 ≤ p .junior .0 → rows ≡ grown-rows p rows
-unfolding grown-rows
-none-grown p rows l h =
-    rw (List·getD-eq-default rows 0 (le-trans (le-of-eq l) h)) (map-same (grown-row (p .senior) 0) rows (grown-same (p .senior)))
 
 abbrev Inv-loop : tie.InvT-loop
 Inv-loop senior j rows₀ add i₀ rows i = (i ≤ 8) × ((length rows ≡ 8) × (take i rows ++ map (grown-row senior add) (drop i rows) ≡ map (grown-row senior add) rows₀))

@@ -1,81 +1,62 @@
--- `header::roles::dominance_of` meets its contract: before the pair at an index the rows are those of the pairs before it.
-use mathlib.Core.Path.{_≡_, ap, _∙_}
+-- `header::roles::dominance_of` meets its contract: the bytes behind the pairs' number say the setup's pairs.
+use mathlib.Core.Path.{_≡_, sym, ap, _∙_}
 use mathlib.Core.List.{List}
-use Prim.Native.Nat.{ℕ, _≤_, _-_}
+use Prim.Native.Nat.{ℕ, _-_}
 use native.Mathlib.Omega.{arith}
-use lib.ListN.{getD, take}
-use Rattle.accounts.specs.declared.Pair.{Pair}
-use Rattle.accounts.specs.Closure.{rows-of, grown-rows}
-use Rattle.store.specs.HeaderLayout.{pairs-offset}
-use Rattle.header.specs.HeaderBytes.{Whose}
-use Rattle.header.specs.HeaderBytesLaws.{headed-wide, pairs-counted}
-use Rattle.header.specs.PairRowsLaws.{few-paired, rows-begin, rows-grow-on, rows-end}
+use lib.ListN.{length, getD, take, drop, length-drop}
+use lib.Seq.{take-all}
+use denote.Ref.{now}
+use Rattle.accounts.specs.Closure.{rows-of}
+use Rattle.dominance.specs.PairsIn.{pairs-in}
+use Rattle.header.specs.HeaderBytesLaws.{headed-wide, pairs-stand}
+use Rattle.header.specs.PairRowsLaws.{few-paired, pairs-in-fall}
 use borrow.Author.Needs.{needs}
 use Rattle.header.proofs.roles.dominance_of.Statement.{statement}
 use Rattle.header.proofs.roles.dominance_of.Tie as tie
 
-record Grown (b rows : List ℕ) (i : ℕ) : Type 0 where
-  le : i ≤ getD b pairs-offset 0
-  are : Whose b (λ u z. rows ≡ rows-of (take i (u .pairs)))
+-- the bytes lent are all that stand there
+behind-number : (b : List ℕ) → take (length b - 65) (drop 65 b) ≡ drop 65 b
+behind-number b = take-all (length b - 65) (drop 65 b) (omega (arith, length-drop 65 b))
 
-abbrev Inv-loop : tie.InvT-loop
-Inv-loop header n dominance₀ i₀ dominance i = Grown header (dominance .rows) i
-
-abbrev μ-loop : tie.MeasureT-loop
-μ-loop header n dominance₀ i₀ dominance i = n - i
-
-shared-slice-read-n : tie.Need-shared-slice-read-n Inv-loop μ-loop
+shared-slice-read-n : tie.Need-shared-slice-read-n
 shared-slice-read-n c = omega (arith, headed-wide (c .before .before .pre))
 
-cast-n : tie.Need-cast-n Inv-loop μ-loop
+cast-n : tie.Need-cast-n
 cast-n c = omega (arith, few-paired (c .before .before .pre))
 
-own-requires : tie.Need-own-requires Inv-loop μ-loop
-own-requires c κs = search needs
+add-closed-bytes : tie.Need-add-closed-bytes
+add-closed-bytes c = search needs
 
-loop-holds : tie.Need-loop-holds Inv-loop μ-loop
-loop-holds c = record { le = omega arith; are = λ u z h. rows-begin h (c .own .result .rows) (c .own .ensures) }
+sub-closed-bytes : tie.Need-sub-closed-bytes
+sub-closed-bytes c = omega (arith, headed-wide (c .before .before .pre))
 
-pair-at-requires : tie.Need-pair-at-requires Inv-loop μ-loop
-pair-at-requires c κs = let p = c .before .before .before .before .before .pre in (headed-wide p, omega (arith, few-paired p))
+part-closed-bytes-start : tie.Need-part-closed-bytes-start
+part-closed-bytes-start c = omega (arith, headed-wide (c .before .before .pre))
 
-with-requires : tie.Need-with-requires Inv-loop μ-loop
-with-requires c κs = search needs
+part-closed-bytes-end : tie.Need-part-closed-bytes-end
+part-closed-bytes-end c = search needs
 
-add-i : tie.Need-add-i Inv-loop μ-loop
-add-i c = omega (arith, few-paired (c .before .before .before .before .before .before .before .pre))
+closed-bytes-requires : tie.Need-closed-bytes-requires
+closed-bytes-requires c κs =
+    let s = c .before .before .before in
+    let b = now (s .args .header) in
+    let few = few-paired (s .pre) in
+    (few, (rw (behind-number b) (omega (arith, few, headed-wide (s .pre), length-drop 65 b)), rw (behind-number b) (pairs-in-fall (s .pre))))
 
-loop-less : tie.Need-loop-less Inv-loop μ-loop
-loop-less c = omega arith
-
-loop-again : tie.Need-loop-again Inv-loop μ-loop
-loop-again c =
-    let l = c .before .before .before .loop in
-    record {
-      le = omega arith;
-      are = λ u z h.
-          rows-grow-on h (l .i) (l .dominance .rows) (c .with .result .rows) (omega (arith, pairs-counted h)) (l .inv .are u z h)
-          (c .with .ensures ∙ ap (λ (p : Pair). grown-rows p (l .dominance .rows)) (c .before .pair-at .ensures));
-    }
-
-returns : tie.Need-returns Inv-loop μ-loop
+returns : tie.Need-returns
 returns c u z h =
-    let l = c .before .loop in
-    rows-end h (l .i) (l .dominance .rows) (omega (arith, pairs-counted h)) (l .inv .are u z h)
+    let b = now (c .before .before .before .before .args .header) in
+    c .closed-bytes .ensures ∙ ap (λ (l : List ℕ). rows-of (pairs-in (getD b 64 0) l)) (behind-number b) ∙ ap rows-of (sym (pairs-stand h))
 
 pub dominance-of-spec : {M : Type 1} → statement M
 dominance-of-spec =
     tie.close
     (tie.spec
-    Inv-loop
-    μ-loop
     shared-slice-read-n
     cast-n
-    own-requires
-    loop-holds
-    pair-at-requires
-    with-requires
-    add-i
-    loop-less
-    loop-again
+    add-closed-bytes
+    sub-closed-bytes
+    part-closed-bytes-start
+    part-closed-bytes-end
+    closed-bytes-requires
     returns)

@@ -4,15 +4,11 @@ use Prim.Native.Nat.{_+_, _-_, _*_}
 use native.Mathlib.Omega.{arith}
 use lib.ListN.{getD, set, length-set}
 use denote.Ref.{now}
-use Rattle.accounts.specs.declared.Pair.{Pair}
+use Rattle.accounts.specs.PairBytes.{pair-bytes, no-pair}
 use Rattle.setup.specs.Setup.{most-pairs}
-use Rattle.store.specs.StoreBytes.{pair-bytes}
 use Rattle.setups.specs.HeaderWrittenLaws.{pair-wide, Values-written, none-written, one-written, table-written}
 use Rattle.setups.proofs.header_parts.write_pairs.Statement.{statement}
 use Rattle.setups.proofs.header_parts.write_pairs.Tie as tie
-
-abbrev no-pair : Pair
-no-pair = record { senior = record { 0 = 0 }; junior = record { 0 = 0 } }
 
 abbrev Inv-loop : tie.InvT-loop
 Inv-loop header₀ n pairs k₀ header k = Values-written pair-bytes 2 65 pairs n header₀ header k

@@ -1,5 +1,5 @@
 -- `setups::header_values::write_pair` meets its contract: a pair is its two roles.
-use Rattle.store.specs.StoreBytes.{pair-bytes}
+use Rattle.accounts.specs.PairBytes.{pair-bytes}
 use borrow.Author.Needs.{needs}
 use Rattle.setups.proofs.header_values.write_pair.Statement.{statement}
 use Rattle.setups.proofs.header_values.write_pair.Tie as tie

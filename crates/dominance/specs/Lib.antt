@@ -1,0 +1,3 @@
+pub mod PairsIn
+pub mod PairsInLaws
+pub mod ClosingLaws
