@@ -41,7 +41,8 @@ pub fn text(s: &[u8], at: usize, width: usize) -> &[u8]
 // Whether the bytes from one place up to another are all 0. Without an early exit, so that many are tested at once: they nearly
 // always are.
 pub fn is_zero(s: &[u8], from: usize, to: usize) -> bool
-    requires { ⌜ (from ≤ to) × (to ≤ length (now s)) ⌝ }
+    requires { ⌜ from ≤ to ⌝ }
+    requires { ⌜ to ≤ length (now s) ⌝ }
     ensures { λ r. ⌜ r ≡ zeros-at from (to - from) (now (s .entry)) ⌝ }
 {
     let mut all: u8 = 0;

@@ -8,7 +8,8 @@ ghost use Rattle.buffers.specs.Fields.{two-bytes, padded};
 
 // Writes the first n bytes of another slice.
 pub fn write(b: &mut [u8], at: usize, s: &[u8], n: usize)
-    requires { ⌜ (at + n ≤ length (now b)) × (n ≤ length (now s)) ⌝ }
+    requires { ⌜ at + n ≤ length (now b) ⌝ }
+    requires { ⌜ n ≤ length (now s) ⌝ }
     ensures { λ _. ⌜ now (b .exit) ≡ paste (now (b .entry)) at (now (s .entry)) n ⌝ }
 {
     let mut i: usize = 0;
@@ -21,7 +22,9 @@ pub fn write(b: &mut [u8], at: usize, s: &[u8], n: usize)
 
 // Writes the first n bytes of another slice by a buffer that holds them on the way.
 fn write_by(b: &mut [u8], at: usize, s: &[u8], n: usize, held: &mut [u8])
-    requires { ⌜ (at + n ≤ length (now b)) × ((n ≤ length (now s)) × (n ≤ length (now held))) ⌝ }
+    requires { ⌜ at + n ≤ length (now b) ⌝ }
+    requires { ⌜ n ≤ length (now s) ⌝ }
+    requires { ⌜ n ≤ length (now held) ⌝ }
     ensures { λ _. ⌜ now (b .exit) ≡ paste (now (b .entry)) at (now (s .entry)) n ⌝ }
     ensures { λ _. ⌜ now (held .exit) ≡ paste (now (held .entry)) 0 (now (s .entry)) n ⌝ }
 {
@@ -31,7 +34,9 @@ fn write_by(b: &mut [u8], at: usize, s: &[u8], n: usize, held: &mut [u8])
 
 // Writes the first n bytes of another slice, many at once: by a local array, which the compiler leaves out, this is one copy.
 pub fn write_many(b: &mut [u8], at: usize, s: &[u8], n: usize)
-    requires { ⌜ (at + n ≤ length (now b)) × ((n ≤ length (now s)) × (n ≤ 65536)) ⌝ }
+    requires { ⌜ at + n ≤ length (now b) ⌝ }
+    requires { ⌜ n ≤ length (now s) ⌝ }
+    requires { ⌜ n ≤ 65536 ⌝ }
     ensures { λ _. ⌜ now (b .exit) ≡ paste (now (b .entry)) at (now (s .entry)) n ⌝ }
 {
     let mut held = [0u8; 65536];
@@ -40,7 +45,9 @@ pub fn write_many(b: &mut [u8], at: usize, s: &[u8], n: usize)
 
 // Moves n bytes by a buffer that holds them on the way.
 fn move_by(b: &mut [u8], from: usize, to: usize, n: usize, held: &mut [u8])
-    requires { ⌜ (from + n ≤ length (now b)) × ((to + n ≤ length (now b)) × (n ≤ length (now held))) ⌝ }
+    requires { ⌜ from + n ≤ length (now b) ⌝ }
+    requires { ⌜ to + n ≤ length (now b) ⌝ }
+    requires { ⌜ n ≤ length (now held) ⌝ }
     ensures { λ _. ⌜ now (b .exit) ≡ paste (now (b .entry)) to (drop from (now (b .entry))) n ⌝ }
     ensures { λ _. ⌜ now (held .exit) ≡ paste (now (held .entry)) 0 (drop from (now (b .entry))) n ⌝ }
 {
@@ -50,7 +57,9 @@ fn move_by(b: &mut [u8], from: usize, to: usize, n: usize, held: &mut [u8])
 
 // Moves n bytes; the two stretches may overlap. By a local array, which the compiler leaves out, this is one move.
 pub fn move_bytes(b: &mut [u8], from: usize, to: usize, n: usize)
-    requires { ⌜ (from + n ≤ length (now b)) × ((to + n ≤ length (now b)) × (n ≤ 65536)) ⌝ }
+    requires { ⌜ from + n ≤ length (now b) ⌝ }
+    requires { ⌜ to + n ≤ length (now b) ⌝ }
+    requires { ⌜ n ≤ 65536 ⌝ }
     ensures { λ _. ⌜ now (b .exit) ≡ paste (now (b .entry)) to (drop from (now (b .entry))) n ⌝ }
 {
     let mut held = [0u8; 65536];
@@ -71,7 +80,8 @@ pub fn clear(b: &mut [u8], at: usize, n: usize)
 
 // Writes a text and fills its field up with zeros.
 pub fn write_padded(b: &mut [u8], at: usize, width: usize, s: &[u8])
-    requires { ⌜ (at + width ≤ length (now b)) × (length (now s) ≤ width) ⌝ }
+    requires { ⌜ at + width ≤ length (now b) ⌝ }
+    requires { ⌜ length (now s) ≤ width ⌝ }
     ensures { λ _. ⌜ now (b .exit) ≡ paste (now (b .entry)) at (padded width (now (s .entry))) width ⌝ }
 {
     let n = s.len();

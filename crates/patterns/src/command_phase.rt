@@ -68,7 +68,8 @@ fn take_line(
     rest: Window,
     answer: &mut [u8],
 ) -> Step
-    requires { ⌜ (w .from ≤ end) × (end ≤ length (now buffer)) ⌝ }
+    requires { ⌜ w .from ≤ end ⌝ }
+    requires { ⌜ end ≤ length (now buffer) ⌝ }
     requires { ⌜ Held rest (length (now buffer)) ⌝ }
     requires { ⌜ Answering (now answer) ⌝ }
     ensures { λ r. ⌜ Stays r (length (now (buffer .entry))) ⌝ }

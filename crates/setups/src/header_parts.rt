@@ -45,7 +45,8 @@ pub fn write_slots(header: &mut [u8], persons: [Person; 16])
 // Writes the first n pairs behind their number, and zeros up to the part's end.
 pub fn write_pairs(header: &mut [u8], pairs: [Pair; 28], n: usize)
     requires { ⌜ 121 ≤ length (now header) ⌝ }
-    requires { ⌜ (length pairs ≡ 28) × (n ≤ 28) ⌝ }
+    requires { ⌜ length pairs ≡ 28 ⌝ }
+    requires { ⌜ n ≤ 28 ⌝ }
     ensures { λ _. ⌜ now (header .exit) ≡ paste (now (header .entry)) pairs-offset (table-bytes pair-width most-pairs pair-bytes (take n pairs)) 57 ⌝ }
 {
     header[PAIRS] = n as u8;
@@ -62,7 +63,8 @@ pub fn write_pairs(header: &mut [u8], pairs: [Pair; 28], n: usize)
 // Writes the first n grants behind their number, and zeros up to the part's end.
 pub fn write_grants(header: &mut [u8], text: &[u8], grants: [Grant; 32], n: usize)
     requires { ⌜ 442 ≤ length (now header) ⌝ }
-    requires { ⌜ (length grants ≡ 32) × (n ≤ 32) ⌝ }
+    requires { ⌜ length grants ≡ 32 ⌝ }
+    requires { ⌜ n ≤ 32 ⌝ }
     requires { ⌜ Grants-fit (now text) grants n ⌝ }
     ensures { λ _. ⌜ now (header .exit) ≡ paste (now (header .entry)) grants-offset (table-bytes grant-width most-grants grant-bytes (map (grant-value (now (text .entry))) (take n grants))) 321 ⌝ }
 {

@@ -69,7 +69,8 @@ fn write_top(tree: &mut [u8])
 
 // Puts the home of an account in, if it is a person's.
 fn put_home(tree: &mut [u8], uid: Uid, person: Person)
-    requires { ⌜ (uid .0 < 16) × ((f : Forest Node) × Opens (now tree) (home-name uid) (topped f)) ⌝ }
+    requires { ⌜ uid .0 < 16 ⌝ }
+    requires { ⌜ ((f : Forest Node) × Opens (now tree) (home-name uid) (topped f)) ⌝ }
     ensures { λ _. ⌜ Home-put (now (tree .entry)) uid (slot-value person) (now (tree .exit)) ⌝ }
 {
     let group = person.primary;

@@ -12,7 +12,9 @@ use crate::text::all_of;
 
 // The value of at most four digits.
 fn value(s: &[u8], base: u16) -> u16
-    requires { ⌜ (length (now s) ≤ 4) × ((base ≤ 10) × (every (digit base) (now s) ≡ true)) ⌝ }
+    requires { ⌜ length (now s) ≤ 4 ⌝ }
+    requires { ⌜ base ≤ 10 ⌝ }
+    requires { ⌜ every (digit base) (now s) ≡ true ⌝ }
     ensures { λ r. ⌜ (r ≡ value-after base 0 (now (s .entry))) × (r < 10000) ⌝ }
 {
     let mut n: u16 = 0;

@@ -33,7 +33,8 @@ pub fn name_at(text: &[u8], s: Span) -> bool
 
 // The decimal number from low to high that a part is.
 pub fn number_at(text: &[u8], s: Span, low: u16, high: u16) -> Number
-    requires { ⌜ (Inside s (now text)) × (high < 10000) ⌝ }
+    requires { ⌜ Inside s (now text) ⌝ }
+    requires { ⌜ high < 10000 ⌝ }
     ensures { λ r. ⌜ number-of r ≡ between-of low high (span-text (now (text .entry)) s) ⌝ }
 {
     let start = s.start;

@@ -29,7 +29,7 @@ write-grants-requires c κs =
     let s = c .before .before .before .before .before .before .before .before .before .before .before .before .before .before .before .before .before .before in
     let w = s .pre .1 in (
       omega (arith, c .before .before .before .write-pairs .kept .0, c .before .before .before .before .before .before .before .clear .kept .0, c .before .before .before .before .before .before .before .before .before .before .before .write-slots .kept .0),
-      ((w .held .room-for-grants, w .held .few-grants), grants-fit (now (s .args .text)) (s .args .setup) w),
+      (w .held .room-for-grants, (w .held .few-grants, grants-fit (now (s .args .text)) (s .args .setup) w)),
     )
 
 sub-clear : tie.Need-sub-clear

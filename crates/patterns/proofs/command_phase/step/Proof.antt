@@ -12,7 +12,7 @@ enum-known-end c = search needs
 take-line-requires : tie.Need-take-line-requires
 take-line-requires c κs =
     let k = rw (c .before .before .before .before .end .given .1) at (c .before .before .before .before .before .before .next-turn .ensures) in
-    ((k .begins, k .ends), (k .behind, c .before .before .before .before .before .before .before .before .before .before .before .pre .1))
+    (k .begins, (k .ends, (k .behind, c .before .before .before .before .before .before .before .before .before .before .before .pre .1)))
 
 enum-told : tie.Need-enum-told
 enum-told c = search needs

@@ -48,7 +48,7 @@ write-grant-requires c κs =
     let l = c .before .before .before .loop in
     let i = l .inv in
     let s = c .before .before .before .before .before .before in
-    (omega (arith, length-set (now (s .args .header)) 121 (s .args .n)), s .pre .1 .1 (l .k) (omega arith))
+    (omega (arith, length-set (now (s .args .header)) 121 (s .args .n)), s .pre .1 .1 .1 (l .k) (omega arith))
 
 add-k : tie.Need-add-k Inv-loop μ-loop
 add-k c = omega arith
@@ -62,7 +62,7 @@ loop-again c =
     let l = c .before .before .before .before .before .before .loop in
     let s = c .before .before .before .before .before .before .before .before .before in
     let a = s .args in
-    let short = s .pre .1 .1 (l .k) (omega arith) .short in
+    let short = s .pre .1 .1 .1 (l .k) (omega arith) .short in
     one-written (λ g. grant-bytes (grant-value (now (a .text)) g)) 10 122 (a .t3) (a .n) (set (now (a .header)) 121 (a .n)) (l .header) (w .last .0) (l .k) (122 + 10 * l .k) no-grant (l .inv)
     (omega arith) (omega arith) (grant-wide (now (a .text)) (getD (a .t3) (l .k) no-grant) short) refl (omega (arith, length-set (now (a .header)) 121 (a .n))) (w .kept .0) (w .ensures)
 
