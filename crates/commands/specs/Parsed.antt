@@ -7,18 +7,17 @@ use mathlib.Core.List.{List, [], _∷_}
 use mathlib.Core.Option.{Option, none, some}
 use mathlib.Core.Bool.{cond}
 use Prim.Native.Nat.{ℕ}
-use lib.Dec.{eqb, leb}
-use lib.ListN.{length, take}
+use lib.Dec.{eqb}
 use Rattle.buffers.specs.Text.{Text}
 use Rattle.accounts.specs.declared.Uid.{Uid}
 use Rattle.accounts.specs.Dominance.{Bounded-role}
 use Rattle.syntax.specs.declared.Span.{Span}
+use Rattle.fields.specs.declared.Fields.{Fields}
 use Rattle.arguments.specs.Kinds.{number-in, path-in, entry-in, Argument, values-of, arguments-of}
 use Rattle.commands.specs.declared.Command.{Command as Parts}
 use Rattle.commands.specs.declared.Command.the-variants.{Create, Mkdir, Read, Write, Rm, Rmdir, Mv, Chmod, Chgrp, Chown, Login, Logout, Add, Co, Commit, Up, Del}
 use Rattle.commands.specs.declared.Word.{Word}
 use Rattle.commands.specs.declared.Shape.{Shape}
-use Rattle.commands.specs.declared.Fields.{Fields}
 use Rattle.commands.specs.declared.Numbers.{Numbers}
 use Rattle.commands.specs.declared.Numbers.the-variants.{Read as Numbers-read, Wrong}
 use Rattle.commands.specs.declared.Parsed.{Parsed}
@@ -104,31 +103,6 @@ command-from w arguments = arguments-of (listed w .kinds) (listed w .makes) argu
 unfoldable pub command-of : List Text → Option Command
 command-of [] = none
 command-of (w ∷ arguments) = by-form forms w arguments
-
--- a list of at most so many texts
-unfoldable pub at-most : ℕ → List Text → Option (List Text)
-at-most n ts = cond (leb (length ts) n) (some ts) none
-
--- the texts of a command's fields, where they are not too many
-unfoldable pub argument-texts : Text → Fields → List Text
-argument-texts t f = span-text t (f .first) ∷ (span-text t (f .second) ∷ (span-text t (f .third) ∷ []))
-
-unfoldable pub field-texts : Text → Fields → Option (List Text)
-field-texts t f = cond (leb (f .count) 3) (some (span-text t (f .word) ∷ take (f .count) (argument-texts t f))) none
-
--- the texts of the arguments that there are
-abbrev pub given : Text → Fields → List Text
-given t f = take (f .count) (argument-texts t f)
-
-abbrev pub fields : Span → Span → Span → Span → ℕ → Fields
-fields w s s′ s″ n = record { word = w; first = s; second = s′; third = s″; count = n }
-
--- every one of its parts lies inside the line
-pub record Fields-inside (f : Fields) (t : Text) : Type 0 where
-  pub word : Inside (f .word) t
-  pub first : Inside (f .first) t
-  pub second : Inside (f .second) t
-  pub third : Inside (f .third) t
 
 -- the numbers of a command's arguments, where these are as many as its shape says and each has its form
 unfoldable pub numbers-of : Option ℕ → Option ℕ → Option ℕ → Numbers

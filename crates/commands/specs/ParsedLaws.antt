@@ -6,8 +6,8 @@ use mathlib.Core.Option.{Option, none, some, Option·map}
 use mathlib.Core.Bool.{Bool, true, false}
 use Prim.Native.Nat.{ℕ, _%_, _≤_, _<_}
 use native.Mathlib.Omega.{arith}
-use borrow.Author.Tests.{eqb-true, eqb-false, le-leb, lt-leb, leb-false}
-use lib.Dec.{eqb, leb, ltb}
+use borrow.Author.Tests.{eqb-true, eqb-false}
+use lib.Dec.{eqb, ltb}
 use lib.ListN.{length, take, getD, length-take}
 use Rattle.buffers.specs.Cases.{case, and-both}
 use Rattle.buffers.specs.Text.{Text}
@@ -15,13 +15,14 @@ use Rattle.accounts.specs.declared.Uid.{Uid}
 use Rattle.accounts.specs.declared.Role.{Role}
 use Rattle.accounts.specs.Dominance.{Bounded-role}
 use Rattle.syntax.specs.declared.Span.{Span}
+use Rattle.fields.specs.declared.Fields.{Fields}
+use Rattle.fields.specs.FieldsRead.{argument-texts, Fields-inside}
 use Rattle.syntax.specs.Pieces.{comma, pieces}
 use Rattle.arguments.specs.Kinds.{arguments-of, number-in, path-in, entry-in, Argument}
 use Rattle.arguments.specs.KindsLaws.{is-none, count-refused, one-refused, three-read}
 use Rattle.commands.specs.declared.Word.{Word}
 use Rattle.arguments.specs.declared.ArgumentKind.the-variants as a
 use Rattle.commands.specs.declared.Shape.{Shape}
-use Rattle.commands.specs.declared.Fields.{Fields}
 use Rattle.commands.specs.declared.Numbers.the-variants.{Read as Numbers-read, Wrong}
 use Rattle.commands.specs.declared.Command.{Command as Parts}
 use Rattle.commands.specs.declared.Command.the-variants.{Create, Mkdir, Read, Write, Rm, Rmdir, Mv, Chmod, Chgrp, Chown, Login, Logout, Add, Co, Commit, Up, Del}
@@ -35,11 +36,11 @@ use Rattle.syntax.specs.Field.{uid, bounded-by, bounded}
 use Rattle.syntax.specs.FieldLaws.{read-byte}
 use Rattle.commands.specs.Command.{write, login, Command, shell, repository, Line, listed, forms, line-of, line, is-command, is-line}
 use Rattle.commands.specs.CommandLaws.{line-is-line}
-use Rattle.syntax.specs.Parts.{span-text, Inside, text-in}
+use Rattle.syntax.specs.Parts.{span-text, text-in}
 use Rattle.syntax.specs.PartsLaws.{text-inside}
 use Rattle.commands.specs.Words.{shape-of}
 use Rattle.commands.specs.WordsLaws.{many-refused}
-use Rattle.commands.specs.Parsed.{with-path, with-entry, meaning, arguments, Makes-of, Part-reads, Means, Fields-inside, line-with, parsed, command-of, at-most, argument-texts, field-texts, numbers-of, numbers-in}
+use Rattle.commands.specs.Parsed.{with-path, with-entry, meaning, arguments, Makes-of, Part-reads, Means, line-with, parsed, command-of, numbers-of, numbers-in}
 
 -- a line has no form where its command has none
 pub finds-none : (t : Text) (u : Uid) (m : Option Command) → m ≡ none → parsed t NoForm ≡ Option·map some (line-with u m)
@@ -114,37 +115,11 @@ module _ (t : Text) (u : Uid) (f : Fields) (w : Word) {s : Shape} (few : f .coun
           (record { inside = i .third; number = p .2 ∙ ap (λ (z : Shape). number-in (z .third) (span-text t (f .third))) shaped }) in
           finds t u c (arguments-of (listed w .kinds) (listed w .makes) (take (length (listed w .kinds)) (argument-texts t f))) (k .means t ∙ d .same) (d .there)
 
--- the fields that were found, where they are not too many
-pub fields-few : (t : Text) (f : Fields) (ps : List Text) → f .count ≤ 3 → field-texts t f ≡ at-most 4 ps →
-    ps ≡ span-text t (f .word) ∷ take (f .count) (argument-texts t f)
-unfolding field-texts at-most
-fields-few t f ps h e = case (leb (length ps) 4)
-    (λ l. answered (rw (le-leb (f .count) 3 h, l) at e))
-    (λ l. no-answer (sym (rw (le-leb (f .count) 3 h, l) at e)))
-
--- and where they are, the command has no form
-pub fields-many : (t : Text) (f : Fields) (ps : List Text) → 3 < f .count → field-texts t f ≡ at-most 4 ps → command-of ps ≡ none
-unfolding field-texts at-most command-of
-fields-many t f [] h e = refl
-fields-many t f (w ∷ ts) h e = case (leb (length (w ∷ ts)) 4)
-    (λ l. no-answer (rw (lt-leb (f .count) 3 h, l) at e))
-    (λ l. many-refused w ts (omega (arith, leb-false (length (w ∷ ts)) 4 l)))
-
--- the fields of a command, from its pieces
-pub few-fields : (t : Text) (f : Fields) (ps : List Text) → f .count ≤ 3 → ps ≡ span-text t (f .word) ∷ take (f .count) (argument-texts t f) →
-    field-texts t f ≡ at-most 4 ps
-unfolding field-texts at-most
-few-fields t f ps h e =
-    let l : length ps ≤ 4 = omega (arith, ap length e, length-take (f .count) (argument-texts t f)) in
-    rw (le-leb (f .count) 3 h, le-leb (length ps) 4 l, e)
-
-pub many-fields : (t : Text) (f : Fields) (ps : List Text) → 3 < f .count → 4 < length ps → field-texts t f ≡ at-most 4 ps
-unfolding field-texts at-most
-many-fields t f ps h l = rw (lt-leb (f .count) 3 h, lt-leb (length ps) 4 l)
-
--- a part of no bytes lies inside any line
-pub nowhere : (t : Text) → Inside (record { start = 0; end = 0 }) t
-nowhere t = record { ordered = omega arith; ends = omega arith }
+-- more than three arguments have no form
+pub too-many : (ps : List Text) → 4 < length ps → command-of ps ≡ none
+unfolding command-of
+too-many [] h = refl
+too-many (w ∷ ts) h = many-refused w ts (omega arith)
 
 -- a caller
 uid-read : (n : ℕ) (t : Text) → some n ≡ between 0 23 t → uid t ≡ some (record { 0 = n % 256 })

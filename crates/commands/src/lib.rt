@@ -109,15 +109,6 @@ pub enum Form {
     Unlisted,
 }
 
-// The fields of a command: its word and its arguments, of which there are as many as counted; from 4 on they are too many.
-pub struct Fields {
-    pub word: Span,
-    pub first: Span,
-    pub second: Span,
-    pub third: Span,
-    pub count: usize,
-}
-
 // The numbers of the arguments of a command, or arguments that have not the forms of its shape.
 pub enum Numbers {
     Read(u16, u16, u16),

@@ -4,11 +4,11 @@ ghost use mathlib.Core.Option.{some, Option·map};
 ghost use Prim.Native.Nat.{_≤_};
 ghost use lib.ListN.{length, drop};
 ghost use Rattle.syntax.specs.Pieces.{comma, pieces};
+ghost use Rattle.fields.specs.FieldsRead.{Fields-inside, given};
 ghost use Rattle.commands.specs.Command.{listed, line as line-of-text};
 ghost use Rattle.commands.specs.Words.{shape-of};
-ghost use Rattle.commands.specs.Parsed.{Makes-of, arguments, fields, Fields-inside, at-most, field-texts, line-with, parsed, command-of, given, command-from};
+ghost use Rattle.commands.specs.Parsed.{Makes-of, arguments, line-with, parsed, command-of, command-from};
 use crate::Command;
-use crate::Fields;
 use crate::Form;
 use crate::Numbers;
 use crate::Parsed;
@@ -19,39 +19,11 @@ use crate::words::form_at;
 use accounts::Gid;
 use accounts::Role;
 use accounts::Uid;
+use fields::Fields;
+use fields::fields_at;
+use fields::first_field;
 use syntax::Number;
-use syntax::Span;
-use syntax::field_at;
 use syntax::number_at;
-
-// The fields of the command whose word starts at a place.
-fn fields_at(line: &[u8], at: usize) -> Fields
-    requires { ⌜ at ≤ length (now line) ⌝ }
-    ensures { λ r. ⌜ (field-texts (now (line .entry)) r ≡ at-most 4 (pieces comma (drop at (now (line .entry))))) × (Fields-inside r (now (line .entry))) ⌝ }
-{
-    let no = Span { start: 0, end: 0 };
-    let w = field_at(line, at);
-    let word = w.span();
-    if w.last {
-        return Fields::new(word, no, no, no, 0);
-    }
-    let a = field_at(line, w.end + 1);
-    let first = a.span();
-    if a.last {
-        return Fields::new(word, first, no, no, 1);
-    }
-    let b = field_at(line, a.end + 1);
-    let second = b.span();
-    if b.last {
-        return Fields::new(word, first, second, no, 2);
-    }
-    let c = field_at(line, b.end + 1);
-    let third = c.span();
-    if c.last {
-        return Fields::new(word, first, second, third, 3);
-    }
-    Fields::new(word, first, second, third, 4)
-}
 
 // The command of a word, made of its arguments and their numbers.
 fn command(word: Word, f: Fields, first: u16, second: u16, third: u16) -> Command
@@ -134,25 +106,11 @@ fn command_at(line: &[u8], caller: Uid, at: usize) -> Parsed
     }
 }
 
-impl Fields {
-    fn new(word: Span, first: Span, second: Span, third: Span, count: usize) -> Self
-        ensures { λ r. ⌜ r ≡ fields word first second third count ⌝ }
-    {
-        Fields {
-            word,
-            first,
-            second,
-            third,
-            count,
-        }
-    }
-}
-
 // A command line of any bytes.
 pub fn parse(line: &[u8]) -> Parsed
     ensures { λ r. ⌜ parsed (now (line .entry)) r ≡ Option·map some (line-of-text (now (line .entry))) ⌝ }
 {
-    let u = field_at(line, 0);
+    let u = first_field(line);
     if u.last {
         return Parsed::NoForm;
     }

@@ -14,9 +14,9 @@ use crate::SetupLine;
 use accounts::Gid;
 use accounts::Role;
 use accounts::Uid;
+use fields::fields_at;
 use syntax::Number;
 use syntax::Span;
-use syntax::field_at;
 use syntax::name_at;
 use syntax::number_at;
 
@@ -113,24 +113,12 @@ fn last_line(text: &[u8], at: usize) -> SetupLine
     if 200 < text.len() - at {
         return SetupLine::Wrong;
     }
-    let w = field_at(text, at);
-    let word = w.span();
-    if w.last {
-        return SetupLine::Wrong;
+    let f = fields_at(text, at);
+    if f.count == 2 {
+        return two_argument_line(text, word_at(text, f.word), f.first, f.second);
     }
-    let a = field_at(text, w.end + 1);
-    let first = a.span();
-    if a.last {
-        return SetupLine::Wrong;
-    }
-    let b = field_at(text, a.end + 1);
-    let second = b.span();
-    if b.last {
-        return two_argument_line(text, word_at(text, word), first, second);
-    }
-    let c = field_at(text, b.end + 1);
-    if c.last {
-        return three_argument_line(text, word_at(text, word), first, second, c.span());
+    if f.count == 3 {
+        return three_argument_line(text, word_at(text, f.word), f.first, f.second, f.third);
     }
     SetupLine::Wrong
 }

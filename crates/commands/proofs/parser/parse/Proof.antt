@@ -19,21 +19,21 @@ abbrev line1 : tie.After-span → Text
 line1 x = now (x .before .before .before .before .args .line)
 
 -- that field, what is behind it, and the pieces up to there
-field1 : (x : tie.After-span) → Field-at (line1 x) 0 (x .before .before .field-at .result)
-field1 x = field-is (line1 x) 0 (x .before .before .field-at .result) (omega arith) (x .before .before .field-at .ensures)
+field1 : (x : tie.After-span) → Field-at (line1 x) 0 (x .before .before .first-field .result)
+field1 x = field-is (line1 x) 0 (x .before .before .first-field .result) (omega arith) (x .before .before .first-field .ensures)
 
-behind1 : (x : tie.After-span) → x .before .before .field-at .result .end + 1 ≤ length (line1 x)
+behind1 : (x : tie.After-span) → x .before .before .first-field .result .end + 1 ≤ length (line1 x)
 behind1 x = field-goes-on (field1 x) (x .before .if1 .left)
 
-cut1 : (x : tie.After-span) → pieces comma (line1 x) ≡ span-text (line1 x) (x .span .result) ∷ pieces comma (drop (x .before .before .field-at .result .end + 1) (line1 x))
+cut1 : (x : tie.After-span) → pieces comma (line1 x) ≡ span-text (line1 x) (x .span .result) ∷ pieces comma (drop (x .before .before .first-field .result .end + 1) (line1 x))
 cut1 x = next-field (field1 x) (x .span .ensures) (x .before .if1 .left)
 
-field-at-requires : tie.Need-field-at-requires
-field-at-requires c κs = search needs
+first-field-requires : tie.Need-first-field-requires
+first-field-requires c κs = search needs
 
 returns : tie.Need-returns
 returns c =
-    let u = c .before .field-at in
+    let u = c .before .first-field in
     let t = now (c .before .before .before .args .line) in
     line-short t (part t 0 (u .result .end)) (last-piece (field-is t 0 (u .result) (omega arith) (u .ensures)) (c .if1 .taken))
 
@@ -71,7 +71,7 @@ pub parse-spec : {M : Type 1} → statement M
 parse-spec =
     tie.close
     (tie.spec
-    field-at-requires
+    first-field-requires
     returns
     span-requires
     number-at-requires

@@ -1,11 +1,10 @@
 -- `commands::parser::with_arguments` meets its contract: the numbers that were read, or not, tell whether the form answers.
 use mathlib.Core.Path.{sym, _∙_}
-use lib.ListN.{take}
 use denote.Ref.{now}
 use borrow.Author.Needs.{needs}
+use Rattle.fields.specs.FieldsRead.{given}
 use Rattle.arguments.specs.Kinds.{arguments-of}
 use Rattle.commands.specs.Command.{listed}
-use Rattle.commands.specs.Parsed.{argument-texts}
 use Rattle.commands.specs.ParsedLaws.{finds-none, wrong-arguments, right-arguments}
 use Rattle.commands.proofs.parser.with_arguments.Statement.{statement}
 use Rattle.commands.proofs.parser.with_arguments.Tie as tie
@@ -16,7 +15,7 @@ returns c =
     let a = x .before .before .args in
     let i = x .before .before .pre in
     let t = now (a .line) in
-    finds-none t (a .caller) (arguments-of (listed (a .word) .kinds) (listed (a .word) .makes) (take (a .f .count) (argument-texts t (a .f))))
+    finds-none t (a .caller) (arguments-of (listed (a .word) .kinds) (listed (a .word) .makes) (given t (a .f)))
     (wrong-arguments t (a .caller) (a .f) (a .word) (i .1 .0) (i .1 .1) (sym (c .enum-told .given .1) ∙ x .numbers-at .ensures))
 
 returns-2 : tie.Need-returns-2
