@@ -12,7 +12,7 @@ use Rattle.buffers.specs.Text.{Text}
 use Rattle.accounts.specs.declared.Uid.{Uid}
 use Rattle.accounts.specs.Dominance.{Bounded-role}
 use Rattle.syntax.specs.declared.Span.{Span}
-use Rattle.fields.specs.declared.Fields.{Fields}
+use Rattle.line_fields.specs.declared.Fields.{Fields}
 use Rattle.arguments.specs.Kinds.{number-in, path-in, entry-in, Argument, values-of, arguments-of}
 use Rattle.commands.specs.declared.Command.{Command as Parts}
 use Rattle.commands.specs.declared.Command.the-variants.{Create, Mkdir, Read, Write, Rm, Rmdir, Mv, Chmod, Chgrp, Chown, Login, Logout, Add, Co, Commit, Up, Del}

@@ -15,8 +15,8 @@ use Rattle.accounts.specs.declared.Uid.{Uid}
 use Rattle.accounts.specs.declared.Role.{Role}
 use Rattle.accounts.specs.Dominance.{Bounded-role}
 use Rattle.syntax.specs.declared.Span.{Span}
-use Rattle.fields.specs.declared.Fields.{Fields}
-use Rattle.fields.specs.FieldsRead.{argument-texts, Fields-inside}
+use Rattle.line_fields.specs.declared.Fields.{Fields}
+use Rattle.line_fields.specs.FieldsRead.{argument-texts, Fields-inside}
 use Rattle.syntax.specs.Pieces.{comma, pieces}
 use Rattle.arguments.specs.Kinds.{arguments-of, number-in, path-in, entry-in, Argument}
 use Rattle.arguments.specs.KindsLaws.{is-none, count-refused, one-refused, three-read}

@@ -4,7 +4,7 @@ ghost use mathlib.Core.Option.{some, Option·map};
 ghost use Prim.Native.Nat.{_≤_};
 ghost use lib.ListN.{length, drop};
 ghost use Rattle.syntax.specs.Pieces.{comma, pieces};
-ghost use Rattle.fields.specs.FieldsRead.{Fields-inside, given};
+ghost use Rattle.line_fields.specs.FieldsRead.{Fields-inside, given};
 ghost use Rattle.commands.specs.Command.{listed, line as line-of-text};
 ghost use Rattle.commands.specs.Words.{shape-of};
 ghost use Rattle.commands.specs.Parsed.{Makes-of, arguments, line-with, parsed, command-of, command-from};
@@ -19,9 +19,9 @@ use crate::words::form_at;
 use accounts::Gid;
 use accounts::Role;
 use accounts::Uid;
-use fields::Fields;
-use fields::fields_at;
-use fields::first_field;
+use line_fields::Fields;
+use line_fields::fields_at;
+use line_fields::first_field;
 use syntax::Number;
 use syntax::number_at;
 
@@ -79,7 +79,9 @@ fn command(word: Word, f: Fields, first: u16, second: u16, third: u16) -> Comman
 
 // The line of a caller and a word with the arguments of its shape, which are not too many.
 fn with_arguments(line: &[u8], caller: Uid, f: Fields, word: Word, shape: Shape) -> Parsed
-    requires { ⌜ (Fields-inside f (now line)) × ((f .count ≤ 3) × (shape ≡ shape-of (listed word .kinds))) ⌝ }
+    requires { ⌜ Fields-inside f (now line) ⌝ }
+    requires { ⌜ f .count ≤ 3 ⌝ }
+    requires { ⌜ shape ≡ shape-of (listed word .kinds) ⌝ }
     ensures { λ r. ⌜ parsed (now (line .entry)) r ≡ Option·map some (line-with caller (command-from word (given (now (line .entry)) f))) ⌝ }
 {
     match numbers_at(line, f, shape) {

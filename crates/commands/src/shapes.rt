@@ -1,11 +1,11 @@
 // The arguments of a command, read by the kinds of its shape.
 ghost use mathlib.Core.Path.{_≡_};
-ghost use Rattle.fields.specs.FieldsRead.{Fields-inside};
+ghost use Rattle.line_fields.specs.FieldsRead.{Fields-inside};
 ghost use Rattle.commands.specs.Parsed.{numbers-in};
 use crate::Numbers;
 use crate::Shape;
 use arguments::argument_at;
-use fields::Fields;
+use line_fields::Fields;
 use syntax::Number;
 
 // The numbers of a command's arguments, where these are as many as its shape says and each has its form.

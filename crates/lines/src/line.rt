@@ -14,7 +14,7 @@ use crate::SetupLine;
 use accounts::Gid;
 use accounts::Role;
 use accounts::Uid;
-use fields::fields_at;
+use line_fields::fields_at;
 use syntax::Number;
 use syntax::Span;
 use syntax::name_at;
@@ -40,7 +40,10 @@ fn word_at(text: &[u8], w: Span) -> LineKind
 
 // The numbers, from low to a bound each, that two parts are.
 fn numbers_at(text: &[u8], a: Span, b: Span, low: u16, high1: u16, high2: u16) -> NumberPair
-    requires { ⌜ (Inside a (now text)) × ((Inside b (now text)) × ((high1 < 256) × (high2 < 256))) ⌝ }
+    requires { ⌜ Inside a (now text) ⌝ }
+    requires { ⌜ Inside b (now text) ⌝ }
+    requires { ⌜ high1 < 256 ⌝ }
+    requires { ⌜ high2 < 256 ⌝ }
     ensures { λ r. ⌜ both-of r ≡ both-between low high1 high2 (span-text (now (text .entry)) a) (span-text (now (text .entry)) b) ⌝ }
 {
     match number_at(text, a, low, high1) {
@@ -54,7 +57,8 @@ fn numbers_at(text: &[u8], a: Span, b: Span, low: u16, high1: u16, high2: u16) -
 
 // Two arguments after a word: the forms of `p`, `g` and `r`.
 fn two_argument_line(text: &[u8], word: LineKind, a: Span, b: Span) -> SetupLine
-    requires { ⌜ (Inside a (now text)) × (Inside b (now text)) ⌝ }
+    requires { ⌜ Inside a (now text) ⌝ }
+    requires { ⌜ Inside b (now text) ⌝ }
     ensures { λ r. ⌜ line-told (now (text .entry)) r ≡ Option·map some (line-form word (two-texts (now (text .entry)) a b)) ⌝ }
 {
     match word {
@@ -86,7 +90,9 @@ fn two_argument_line(text: &[u8], word: LineKind, a: Span, b: Span) -> SetupLine
 
 // Three arguments after a word: the form of `l`.
 fn three_argument_line(text: &[u8], word: LineKind, a: Span, b: Span, c: Span) -> SetupLine
-    requires { ⌜ (Inside a (now text)) × ((Inside b (now text)) × (Inside c (now text))) ⌝ }
+    requires { ⌜ Inside a (now text) ⌝ }
+    requires { ⌜ Inside b (now text) ⌝ }
+    requires { ⌜ Inside c (now text) ⌝ }
     ensures { λ r. ⌜ line-told (now (text .entry)) r ≡ Option·map some (line-form word (three-texts (now (text .entry)) a b c)) ⌝ }
 {
     let LineKind::L = word else {
@@ -125,7 +131,8 @@ fn last_line(text: &[u8], at: usize) -> SetupLine
 
 // The line from one place up to another.
 pub fn line_at(text: &[u8], start: usize, end: usize) -> SetupLine
-    requires { ⌜ (start ≤ end) × (end ≤ length (now text)) ⌝ }
+    requires { ⌜ start ≤ end ⌝ }
+    requires { ⌜ end ≤ length (now text) ⌝ }
     ensures { λ r. ⌜ line-told (now (text .entry)) r ≡ Option·map some (setup-line (part (now (text .entry)) start end)) ⌝ }
 {
     last_line(&text[..end], start)

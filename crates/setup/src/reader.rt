@@ -58,7 +58,8 @@ fn read_wrong(number: usize) -> SetupRead
 
 // Whether the line from one place up to another is `end`.
 fn is_end(text: &[u8], start: usize, end: usize) -> bool
-    requires { ⌜ (start ≤ end) × (end ≤ length (now text)) ⌝ }
+    requires { ⌜ start ≤ end ⌝ }
+    requires { ⌜ end ≤ length (now text) ⌝ }
     ensures { λ r. ⌜ r ≡ same-text (part (now (text .entry)) start end) (bytes "end") ⌝ }
 {
     word_is(text, Span { start, end }, b"end")

@@ -5,8 +5,8 @@ use mathlib.Core.Option.{Option, some, Option·map}
 use denote.Ref.{now}
 use borrow.Author.Needs.{needs}
 use Rattle.syntax.specs.Parts.{span-text}
-use Rattle.fields.specs.FieldsRead.{given}
-use Rattle.fields.specs.FieldsReadLaws.{few-pieces, many-pieces, fields-inside}
+use Rattle.line_fields.specs.FieldsRead.{given}
+use Rattle.line_fields.specs.FieldsReadLaws.{few-pieces, many-pieces, fields-inside}
 use Rattle.commands.specs.Command.{Command}
 use Rattle.commands.specs.Parsed.{line-with}
 use Rattle.commands.specs.WordsLaws.{finds-form}

@@ -2,7 +2,7 @@
 use mathlib.Core.Path.{sym, _∙_}
 use denote.Ref.{now}
 use borrow.Author.Needs.{needs}
-use Rattle.fields.specs.FieldsRead.{given}
+use Rattle.line_fields.specs.FieldsRead.{given}
 use Rattle.arguments.specs.Kinds.{arguments-of}
 use Rattle.commands.specs.Command.{listed}
 use Rattle.commands.specs.ParsedLaws.{finds-none, wrong-arguments, right-arguments}

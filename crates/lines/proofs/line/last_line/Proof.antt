@@ -12,9 +12,9 @@ use lib.ListN.{length, drop, length-take}
 use Rattle.buffers.specs.Cases.{case}
 use Rattle.buffers.specs.Text.{Text}
 use Rattle.syntax.specs.Pieces.{comma, pieces}
-use Rattle.fields.specs.declared.Fields.{Fields}
-use Rattle.fields.specs.FieldsRead.{argument-texts, fields-read, Fields-inside}
-use Rattle.fields.specs.FieldsReadLaws.{few-pieces, counted-pieces, many-pieces, fields-inside}
+use Rattle.line_fields.specs.declared.Fields.{Fields}
+use Rattle.line_fields.specs.FieldsRead.{argument-texts, fields-read, Fields-inside}
+use Rattle.line_fields.specs.FieldsReadLaws.{few-pieces, counted-pieces, many-pieces, fields-inside}
 use Rattle.lines.specs.declared.SetupLine.the-variants.{Wrong}
 use Rattle.lines.specs.SetupLines.{setup-line}
 use Rattle.lines.specs.Line.{line-told}

@@ -43,19 +43,19 @@ use denote.Exit.{yes}
 use denote.Triple.Clauses.{ensured, lasts}
 use Rattle.syntax.specs.declared.Field.{Field}
 use Rattle.syntax.specs.Parts.{field-at}
-use Rattle.fields.specs.declared.FieldReader.{FieldReader}
-use Rattle.fields.proofs.FieldReader as T
-use Rattle.fields.proofs.FieldReader.Laws as T′
+use Rattle.line_fields.specs.declared.FieldReader.{FieldReader}
+use Rattle.line_fields.proofs.FieldReader as T
+use Rattle.line_fields.proofs.FieldReader.Laws as T′
 use Rattle.syntax.proofs.Field as S
 use Rattle.syntax.proofs.Field.Laws as S′
 use Rattle.syntax.proofs.field_at as step
 use Rattle.syntax.proofs.field_at.Symbol as step-def
 use Rattle.syntax.proofs.field_at.Symbol.{name as #syntax·field-at}
 use Rattle.syntax.proofs.field_at.Met as step-thm
-use Rattle.fields.proofs.FieldReader.next.Key.{name as #fields·next}
-use Rattle.fields.proofs.FieldReader.next as next
-use Rattle.fields.proofs.FieldReader.next.Statement as stated
-use Rattle.fields.proofs.FieldReader.next.Code as code
+use Rattle.line_fields.proofs.FieldReader.next.Key.{name as #fields·next}
+use Rattle.line_fields.proofs.FieldReader.next as next
+use Rattle.line_fields.proofs.FieldReader.next.Statement as stated
+use Rattle.line_fields.proofs.FieldReader.next.Code as code
 
 -- the struct's type, over the signature's lifetimes
 abbrev B : Lfts 1 → RattleType

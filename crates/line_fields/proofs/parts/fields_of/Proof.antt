@@ -1,7 +1,7 @@
 -- `fields::parts::fields_of` meets its contract: each part is that of its field.
 use borrow.Author.Needs.{needs}
-use Rattle.fields.proofs.parts.fields_of.Statement.{statement}
-use Rattle.fields.proofs.parts.fields_of.Tie as tie
+use Rattle.line_fields.proofs.parts.fields_of.Statement.{statement}
+use Rattle.line_fields.proofs.parts.fields_of.Tie as tie
 
 returns : tie.Need-returns
 returns c =

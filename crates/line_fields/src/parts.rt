@@ -1,6 +1,6 @@
 // What the reader does with plain values: the next place, and the fields put together.
 ghost use mathlib.Core.Path.{_≡_};
-ghost use Rattle.fields.specs.FieldsRead.{place-after, behind-word, fields-of};
+ghost use Rattle.line_fields.specs.FieldsRead.{place-after, behind-word, fields-of};
 use crate::Fields;
 use syntax::Field;
 

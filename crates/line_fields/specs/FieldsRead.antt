@@ -8,7 +8,7 @@ use lib.ListN.{length, take}
 use Rattle.buffers.specs.Text.{Text}
 use Rattle.syntax.specs.declared.Span.{Span}
 use Rattle.syntax.specs.declared.Field.{Field}
-use Rattle.fields.specs.declared.Fields.{Fields}
+use Rattle.line_fields.specs.declared.Fields.{Fields}
 use Rattle.syntax.specs.Parts.{Inside, span-text, field-at}
 
 -- where the line goes on after a field: behind its comma, or at the line's end where none follows

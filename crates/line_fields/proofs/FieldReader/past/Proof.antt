@@ -44,20 +44,20 @@ use denote.Triple.Walked.{says, Stays, stay-none, walkOf, goes-none, Walks, ends
 use denote.Exit.{yes}
 use denote.Triple.Clauses.{ensured, lasts}
 use Rattle.syntax.specs.declared.Field.{Field}
-use Rattle.fields.specs.FieldsRead.{place-after}
-use Rattle.fields.specs.declared.FieldReader.{FieldReader}
-use Rattle.fields.proofs.FieldReader as T
-use Rattle.fields.proofs.FieldReader.Laws as T′
+use Rattle.line_fields.specs.FieldsRead.{place-after}
+use Rattle.line_fields.specs.declared.FieldReader.{FieldReader}
+use Rattle.line_fields.proofs.FieldReader as T
+use Rattle.line_fields.proofs.FieldReader.Laws as T′
 use Rattle.syntax.proofs.Field as S
 use Rattle.syntax.proofs.Field.Laws as S′
-use Rattle.fields.proofs.parts.place_after as after
-use Rattle.fields.proofs.parts.place_after.Symbol as after-def
-use Rattle.fields.proofs.parts.place_after.Symbol.{name as #fields·place-after}
-use Rattle.fields.proofs.parts.place_after.Met as after-thm
-use Rattle.fields.proofs.FieldReader.past.Key.{name as #fields·past}
-use Rattle.fields.proofs.FieldReader.past as past
-use Rattle.fields.proofs.FieldReader.past.Statement as stated
-use Rattle.fields.proofs.FieldReader.past.Code as code
+use Rattle.line_fields.proofs.parts.place_after as after
+use Rattle.line_fields.proofs.parts.place_after.Symbol as after-def
+use Rattle.line_fields.proofs.parts.place_after.Symbol.{name as #fields·place-after}
+use Rattle.line_fields.proofs.parts.place_after.Met as after-thm
+use Rattle.line_fields.proofs.FieldReader.past.Key.{name as #fields·past}
+use Rattle.line_fields.proofs.FieldReader.past as past
+use Rattle.line_fields.proofs.FieldReader.past.Statement as stated
+use Rattle.line_fields.proofs.FieldReader.past.Code as code
 
 -- the struct's type, over the signature's lifetimes
 abbrev B : Lfts 1 → RattleType

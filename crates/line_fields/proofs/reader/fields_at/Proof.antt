@@ -36,33 +36,33 @@ use denote.Triple.Walked.{says, needs, Stays, stay-none, stay-none-slice, walkOf
 use denote.Exit.{yes}
 use Rattle.syntax.specs.declared.Field.{Field}
 use Rattle.syntax.specs.Parts.{field-at}
-use Rattle.fields.specs.declared.FieldReader.{FieldReader}
-use Rattle.fields.specs.declared.Fields.{Fields}
-use Rattle.fields.specs.FieldsRead.{place-after, fields-read}
-use Rattle.fields.specs.FieldsReadLaws.{place-inside, read-in-turn}
-use Rattle.fields.proofs.FieldReader.Laws as T′
+use Rattle.line_fields.specs.declared.FieldReader.{FieldReader}
+use Rattle.line_fields.specs.declared.Fields.{Fields}
+use Rattle.line_fields.specs.FieldsRead.{place-after, fields-read}
+use Rattle.line_fields.specs.FieldsReadLaws.{place-inside, read-in-turn}
+use Rattle.line_fields.proofs.FieldReader.Laws as T′
 use Rattle.syntax.proofs.Field as S
 use Rattle.syntax.proofs.Field.Laws as S′
-use Rattle.fields.proofs.Fields as R
-use Rattle.fields.proofs.Fields.Laws as R′
-use Rattle.fields.proofs.Calls.{B, Stands, New, Next, Past, FieldsOf, val-of, Line, Reader, Token, reader-fits, field-fits, makes-reader, reads-field, moves-past, puts-together}
-use Rattle.fields.proofs.FieldReader.new.Symbol as new-def
-use Rattle.fields.proofs.FieldReader.new.Symbol.{name as #fields·new}
-use Rattle.fields.proofs.FieldReader.new.Met as new-thm
-use Rattle.fields.proofs.FieldReader.next.Symbol as next-def
-use Rattle.fields.proofs.FieldReader.next.Symbol.{name as #fields·next}
-use Rattle.fields.proofs.FieldReader.next.Met as next-thm
-use Rattle.fields.proofs.FieldReader.past.Symbol as past-def
-use Rattle.fields.proofs.FieldReader.past.Symbol.{name as #fields·past}
-use Rattle.fields.proofs.FieldReader.past.Met as past-thm
-use Rattle.fields.proofs.parts.fields_of.Symbol as four-def
-use Rattle.fields.proofs.parts.fields_of.Symbol.{name as #fields·fields-of}
-use Rattle.fields.proofs.parts.fields_of.Met as four-thm
-use Rattle.fields.proofs.reader.fields_at.Key.{name as #fields·fields-at}
-use Rattle.fields.proofs.reader.fields_at as fields-at
-use Rattle.fields.proofs.reader.fields_at.Statement as stated
-use Rattle.fields.proofs.reader.fields_at.Code as code
-use Rattle.fields.proofs.reader.fields_at.Code.Mir as pieces
+use Rattle.line_fields.proofs.Fields as R
+use Rattle.line_fields.proofs.Fields.Laws as R′
+use Rattle.line_fields.proofs.Calls.{B, Stands, New, Next, Past, FieldsOf, val-of, Line, Reader, Token, reader-fits, field-fits, makes-reader, reads-field, moves-past, puts-together}
+use Rattle.line_fields.proofs.FieldReader.new.Symbol as new-def
+use Rattle.line_fields.proofs.FieldReader.new.Symbol.{name as #fields·new}
+use Rattle.line_fields.proofs.FieldReader.new.Met as new-thm
+use Rattle.line_fields.proofs.FieldReader.next.Symbol as next-def
+use Rattle.line_fields.proofs.FieldReader.next.Symbol.{name as #fields·next}
+use Rattle.line_fields.proofs.FieldReader.next.Met as next-thm
+use Rattle.line_fields.proofs.FieldReader.past.Symbol as past-def
+use Rattle.line_fields.proofs.FieldReader.past.Symbol.{name as #fields·past}
+use Rattle.line_fields.proofs.FieldReader.past.Met as past-thm
+use Rattle.line_fields.proofs.parts.fields_of.Symbol as four-def
+use Rattle.line_fields.proofs.parts.fields_of.Symbol.{name as #fields·fields-of}
+use Rattle.line_fields.proofs.parts.fields_of.Met as four-thm
+use Rattle.line_fields.proofs.reader.fields_at.Key.{name as #fields·fields-at}
+use Rattle.line_fields.proofs.reader.fields_at as fields-at
+use Rattle.line_fields.proofs.reader.fields_at.Statement as stated
+use Rattle.line_fields.proofs.reader.fields_at.Code as code
+use Rattle.line_fields.proofs.reader.fields_at.Code.Mir as pieces
 
 abbrev stayed : Stays (fields-at.ended .signature .params) (fields-at.ended .kept)
 stayed = (stay-none-slice (0 ∷ []) tt (plain (λ _. u8)) yes, (stay-none (λ _. usize) yes, tt))

@@ -3,9 +3,9 @@ use borrow.Author.Needs.{needs}
 use borrow.Author.Tests.{lt-ltb, le-ltb}
 use denote.Ref.{now}
 use lib.ListN.{length}
-use Rattle.fields.specs.FieldsRead.{place-after}
-use Rattle.fields.proofs.parts.place_after.Statement.{statement}
-use Rattle.fields.proofs.parts.place_after.Tie as tie
+use Rattle.line_fields.specs.FieldsRead.{place-after}
+use Rattle.line_fields.proofs.parts.place_after.Statement.{statement}
+use Rattle.line_fields.proofs.parts.place_after.Tie as tie
 
 returns : tie.Need-returns
 unfolding place-after

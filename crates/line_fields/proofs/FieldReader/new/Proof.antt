@@ -33,13 +33,13 @@ use denote.Triple.Spec.{Meets, tripleOf}
 use denote.Triple.Table.{entered}
 use denote.Triple.Walked.{says, Stays, stay-none, stay-none-slice, walkOf, goes-none, goes-none-slice, Walks, ends-at, walked, walk-meets}
 use denote.Exit.{yes}
-use Rattle.fields.specs.declared.FieldReader.{FieldReader}
-use Rattle.fields.proofs.FieldReader as T
-use Rattle.fields.proofs.FieldReader.Laws as T′
-use Rattle.fields.proofs.FieldReader.new.Key.{name as #fields·new}
-use Rattle.fields.proofs.FieldReader.new as new
-use Rattle.fields.proofs.FieldReader.new.Statement as stated
-use Rattle.fields.proofs.FieldReader.new.Code as code
+use Rattle.line_fields.specs.declared.FieldReader.{FieldReader}
+use Rattle.line_fields.proofs.FieldReader as T
+use Rattle.line_fields.proofs.FieldReader.Laws as T′
+use Rattle.line_fields.proofs.FieldReader.new.Key.{name as #fields·new}
+use Rattle.line_fields.proofs.FieldReader.new as new
+use Rattle.line_fields.proofs.FieldReader.new.Statement as stated
+use Rattle.line_fields.proofs.FieldReader.new.Code as code
 
 abbrev stayed : Stays (new.ended .signature .params) (new.ended .kept)
 stayed = (stay-none-slice (0 ∷ []) tt (plain (λ _. u8)) yes, (stay-none (λ _. usize) yes, tt))

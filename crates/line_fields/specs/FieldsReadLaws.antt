@@ -15,8 +15,8 @@ use Rattle.syntax.specs.FormLaws.{answered, no-answer}
 use Rattle.syntax.specs.Parts.{span-text, field-at}
 use Rattle.syntax.specs.PartsLaws.{pieces-some}
 use Rattle.syntax.specs.FieldPartsLaws.{Field-at, field-is, field-goes-on, field-inside, last-field, next-field, follow}
-use Rattle.fields.specs.declared.Fields.{Fields}
-use Rattle.fields.specs.FieldsRead.{place-after, span-of, fields-of, fields-read, at-most, argument-texts, given, field-texts, Fields-inside}
+use Rattle.line_fields.specs.declared.Fields.{Fields}
+use Rattle.line_fields.specs.FieldsRead.{place-after, span-of, fields-of, fields-read, at-most, argument-texts, given, field-texts, Fields-inside}
 
 -- the line goes on inside it
 pub place-inside : (t : Text) (f : Field) → place-after t f ≤ length t

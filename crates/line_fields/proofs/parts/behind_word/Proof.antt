@@ -1,6 +1,6 @@
 -- `fields::parts::behind_word` meets its contract: each test decides the definition.
-use Rattle.fields.proofs.parts.behind_word.Statement.{statement}
-use Rattle.fields.proofs.parts.behind_word.Tie as tie
+use Rattle.line_fields.proofs.parts.behind_word.Statement.{statement}
+use Rattle.line_fields.proofs.parts.behind_word.Tie as tie
 
 returns : tie.Need-returns
 returns c = rw (c .if1 .taken)

@@ -35,22 +35,22 @@ use denote.Triple.Walked.{says}
 use denote.Triple.Clauses.{ensured, lasts}
 use Rattle.syntax.specs.declared.Field.{Field}
 use Rattle.syntax.specs.Parts.{field-at}
-use Rattle.fields.specs.FieldsRead.{place-after, fields-of}
-use Rattle.fields.specs.declared.FieldReader.{FieldReader}
-use Rattle.fields.specs.declared.Fields.{Fields}
-use Rattle.fields.proofs.FieldReader as T
-use Rattle.fields.proofs.FieldReader.Laws as T′
+use Rattle.line_fields.specs.FieldsRead.{place-after, fields-of}
+use Rattle.line_fields.specs.declared.FieldReader.{FieldReader}
+use Rattle.line_fields.specs.declared.Fields.{Fields}
+use Rattle.line_fields.proofs.FieldReader as T
+use Rattle.line_fields.proofs.FieldReader.Laws as T′
 use Rattle.syntax.proofs.Field as S
 use Rattle.syntax.proofs.Field.Laws as S′
-use Rattle.fields.proofs.Fields as R
-use Rattle.fields.proofs.FieldReader.new as new
-use Rattle.fields.proofs.FieldReader.new.Symbol.{name as #fields·new}
-use Rattle.fields.proofs.FieldReader.next as next
-use Rattle.fields.proofs.FieldReader.next.Symbol.{name as #fields·next}
-use Rattle.fields.proofs.FieldReader.past as past
-use Rattle.fields.proofs.FieldReader.past.Symbol.{name as #fields·past}
-use Rattle.fields.proofs.parts.fields_of as four
-use Rattle.fields.proofs.parts.fields_of.Symbol.{name as #fields·fields-of}
+use Rattle.line_fields.proofs.Fields as R
+use Rattle.line_fields.proofs.FieldReader.new as new
+use Rattle.line_fields.proofs.FieldReader.new.Symbol.{name as #fields·new}
+use Rattle.line_fields.proofs.FieldReader.next as next
+use Rattle.line_fields.proofs.FieldReader.next.Symbol.{name as #fields·next}
+use Rattle.line_fields.proofs.FieldReader.past as past
+use Rattle.line_fields.proofs.FieldReader.past.Symbol.{name as #fields·past}
+use Rattle.line_fields.proofs.parts.fields_of as four
+use Rattle.line_fields.proofs.parts.fields_of.Symbol.{name as #fields·fields-of}
 
 -- the struct's type, over a signature's lifetimes
 abbrev pub B : Lfts 1 → RattleType

@@ -3,7 +3,7 @@ ghost use mathlib.Core.Path.{_≡_};
 ghost use Prim.Native.Nat.{_≤_};
 ghost use lib.ListN.{length};
 ghost use Rattle.syntax.specs.Parts.{field-at};
-ghost use Rattle.fields.specs.FieldsRead.{place-after, fields-read};
+ghost use Rattle.line_fields.specs.FieldsRead.{place-after, fields-read};
 use crate::FieldReader;
 use crate::Fields;
 use crate::parts::fields_of;

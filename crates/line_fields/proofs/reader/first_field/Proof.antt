@@ -36,17 +36,17 @@ use Rattle.syntax.specs.declared.Field.{Field}
 use Rattle.syntax.specs.Parts.{field-at}
 use Rattle.syntax.proofs.Field as S
 use Rattle.syntax.proofs.Field.Laws as S′
-use Rattle.fields.proofs.Calls.{New, Next, Token, val-of, Line, reader-fits, field-fits, makes-reader, reads-field}
-use Rattle.fields.proofs.FieldReader.new.Symbol as new-def
-use Rattle.fields.proofs.FieldReader.new.Symbol.{name as #fields·new}
-use Rattle.fields.proofs.FieldReader.new.Met as new-thm
-use Rattle.fields.proofs.FieldReader.next.Symbol as next-def
-use Rattle.fields.proofs.FieldReader.next.Symbol.{name as #fields·next}
-use Rattle.fields.proofs.FieldReader.next.Met as next-thm
-use Rattle.fields.proofs.reader.first_field.Key.{name as #fields·first-field}
-use Rattle.fields.proofs.reader.first_field as first
-use Rattle.fields.proofs.reader.first_field.Statement as stated
-use Rattle.fields.proofs.reader.first_field.Code as code
+use Rattle.line_fields.proofs.Calls.{New, Next, Token, val-of, Line, reader-fits, field-fits, makes-reader, reads-field}
+use Rattle.line_fields.proofs.FieldReader.new.Symbol as new-def
+use Rattle.line_fields.proofs.FieldReader.new.Symbol.{name as #fields·new}
+use Rattle.line_fields.proofs.FieldReader.new.Met as new-thm
+use Rattle.line_fields.proofs.FieldReader.next.Symbol as next-def
+use Rattle.line_fields.proofs.FieldReader.next.Symbol.{name as #fields·next}
+use Rattle.line_fields.proofs.FieldReader.next.Met as next-thm
+use Rattle.line_fields.proofs.reader.first_field.Key.{name as #fields·first-field}
+use Rattle.line_fields.proofs.reader.first_field as first
+use Rattle.line_fields.proofs.reader.first_field.Statement as stated
+use Rattle.line_fields.proofs.reader.first_field.Code as code
 
 abbrev stayed : Stays (first.ended .signature .params) (first.ended .kept)
 stayed = (stay-none-slice (0 ∷ []) tt (plain (λ _. u8)) yes, tt)
