@@ -1,4 +1,4 @@
--- `fields::FieldReader::new` meets its contract: a walk of its MIR, by hand. The struct is made of the slice and the number passed.
+-- `line_fields::FieldReader::new` meets its contract: a walk of its MIR, by hand. The struct is made of the slice and the number passed.
 -- A `&[u8]` is Copy, so what it owns is had twice: once for line at exit, and once inside the result, beside the facts of at.
 use mathlib.Core.Path.{refl}
 use Prim.Native.Nat.{ℕ, _<_, _^_}

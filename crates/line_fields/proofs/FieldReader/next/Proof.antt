@@ -1,4 +1,4 @@
--- `fields::FieldReader::next` meets its contract: a walk of its MIR, by hand. The struct is taken apart, and `field_at` is called on the slice and the number.
+-- `line_fields::FieldReader::next` meets its contract: a walk of its MIR, by hand. The struct is taken apart, and `field_at` is called on the slice and the number.
 -- The struct is Copy: what it owns is had twice, one copy is kept whole for the exit, and of the other what line owns goes to the callee, beside the lifetime's token, which comes back.
 use mathlib.Core.Path.{_≡_, refl}
 use Prim.Native.Nat.{_≤_, _<_, _^_}

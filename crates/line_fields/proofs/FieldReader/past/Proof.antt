@@ -1,4 +1,4 @@
--- `fields::FieldReader::past` meets its contract: a walk of its MIR, by hand. `place_after` is called on the slice that the struct holds, and a struct is made anew of that slice and the place returned.
+-- `line_fields::FieldReader::past` meets its contract: a walk of its MIR, by hand. `place_after` is called on the slice that the struct holds, and a struct is made anew of that slice and the place returned.
 -- The struct is Copy: what it owns is had twice, one copy is kept whole for the exit, and of the other what line owns goes to the callee and into the result.
 use mathlib.Core.Path.{_≡_, refl}
 use Prim.Native.Nat.{ℕ}
@@ -178,4 +178,4 @@ past-spec 𝓤 H 𝓜 𝓖 𝓡 =
     entered 𝓤 H (tripleOf 𝓤 H (𝓖 .A) past.signature (past.spec 𝓤 H (𝓖 .A) (𝓜 .mem) (𝓡 .run)))
     (tables 𝓤 H 𝓜 𝓡 code.env .C) (tables 𝓤 H 𝓜 𝓡 code.env .Λ) #fields·past code.function (code.unfolded 𝓤 H 𝓜 𝓡)
     (past-meets 𝓤 H (𝓖 .A) (givenOf 𝓤 H 𝓜 𝓖) (𝓜 .mem) (𝓡 .run) (tablesOf 𝓤 H 𝓜 (tables 𝓤 H 𝓜 𝓡 code.env))
-    (cited 𝓤 H (PlaceAfter 𝓤 H (𝓖 .A) (𝓜 .mem) (𝓡 .run)) 𝓜 𝓡 code.env #fields·place-after after-def.routine code.calls-fields·parts·place-after (after-thm.met 𝓤 H 𝓜 𝓖 𝓡)))
+    (cited 𝓤 H (PlaceAfter 𝓤 H (𝓖 .A) (𝓜 .mem) (𝓡 .run)) 𝓜 𝓡 code.env #fields·place-after after-def.routine code.calls-line-fields·parts·place-after (after-thm.met 𝓤 H 𝓜 𝓖 𝓡)))

@@ -1,4 +1,4 @@
--- `fields::parts::behind_word` meets its contract: each test decides the definition.
+-- `line_fields::parts::behind_word` meets its contract: each test decides the definition.
 use Rattle.line_fields.proofs.parts.behind_word.Statement.{statement}
 use Rattle.line_fields.proofs.parts.behind_word.Tie as tie
 

@@ -1,4 +1,4 @@
--- `fields::parts::fields_of` meets its contract: each part is that of its field.
+-- `line_fields::parts::fields_of` meets its contract: each part is that of its field.
 use borrow.Author.Needs.{needs}
 use Rattle.line_fields.proofs.parts.fields_of.Statement.{statement}
 use Rattle.line_fields.proofs.parts.fields_of.Tie as tie

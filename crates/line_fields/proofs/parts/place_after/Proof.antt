@@ -1,4 +1,4 @@
--- `fields::parts::place_after` meets its contract: the test decides the definition.
+-- `line_fields::parts::place_after` meets its contract: the test decides the definition.
 use borrow.Author.Needs.{needs}
 use borrow.Author.Tests.{lt-ltb, le-ltb}
 use denote.Ref.{now}
