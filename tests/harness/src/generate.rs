@@ -1,0 +1,255 @@
+//! Random command lines that look at the state, so that most of them meet something.
+
+use crate::model::line::WORDS;
+use crate::model::state::{text, Node, Path, State};
+use crate::rng::Rng;
+use crate::setups::PASSWORDS;
+
+/// Few names, so that paths meet; one of them has eight bytes.
+pub const NAMES: [&str; 8] = ["a", "b", "c", "d", "a_", "a0", "rep", "eightby8"];
+
+/// What a list of lines is mostly about.
+#[derive(Clone, Copy, Debug)]
+pub enum Theme {
+    Mixed,
+    Filling,
+    Deep,
+    Repository,
+    Root,
+}
+
+impl Theme {
+    pub fn any(rng: &mut Rng) -> Theme {
+        *rng.pick(&[Theme::Mixed, Theme::Mixed, Theme::Filling, Theme::Deep, Theme::Repository, Theme::Repository, Theme::Root])
+    }
+
+    /// The words that come up more often than the others.
+    fn favourites(self) -> &'static [&'static str] {
+        match self {
+            Theme::Mixed => &WORDS,
+            Theme::Filling => &["create", "mkdir", "mkdir", "co", "add"],
+            Theme::Deep => &["mkdir", "mkdir", "mv", "mv", "co", "create"],
+            Theme::Repository => &["add", "co", "commit", "commit", "up", "del", "write", "write", "login", "mkdir", "create"],
+            Theme::Root => &["mv", "mv", "chmod", "chmod", "chown", "chgrp", "add", "co", "commit", "up", "rm", "rmdir"],
+        }
+    }
+}
+
+/// Makes lines for a state.
+pub struct Lines<'a> {
+    rng: &'a mut Rng,
+    state: &'a State,
+    theme: Theme,
+    caller: u8,
+}
+
+impl<'a> Lines<'a> {
+    pub fn new(rng: &'a mut Rng, state: &'a State, theme: Theme) -> Lines<'a> {
+        Lines { rng, state, theme, caller: 0 }
+    }
+
+    /// A line that has a listed form, or nearly always.
+    pub fn line(&mut self) -> Vec<u8> {
+        self.caller = self.any_caller();
+        let caller = self.caller;
+        let word = self.word();
+        let arguments = self.arguments(word);
+        let mut line = format!("{caller},{word}").into_bytes();
+        for argument in arguments {
+            line.push(b',');
+            line.extend(argument);
+        }
+        line
+    }
+
+    /// A command's word; who has no session mostly logs in before a repository command.
+    fn word(&mut self) -> &'static str {
+        let favourites = if self.rng.percent(75) { self.theme.favourites() } else { &WORDS };
+        let word = *self.rng.pick(favourites);
+        let session = self.state.sessions.get(usize::from(self.caller)).copied().flatten();
+        let wants_session = ["add", "co", "commit", "up", "del"].contains(&word) && session.is_none();
+        let instead = (wants_session || word == "logout") && self.rng.percent(75);
+        if instead {
+            "login"
+        } else {
+            word
+        }
+    }
+
+    /// Mostly a person of the setup, often root, seldom anyone from 0 to 30.
+    fn any_caller(&mut self) -> u8 {
+        let root = if matches!(self.theme, Theme::Root) { 60 } else { 20 };
+        if self.rng.percent(3) {
+            return self.rng.below(31) as u8;
+        }
+        if self.rng.percent(root) || self.state.people.is_empty() {
+            return 0;
+        }
+        let people: Vec<u8> = self.state.people.keys().copied().collect();
+        *self.rng.pick(&people)
+    }
+
+    fn arguments(&mut self, word: &str) -> Vec<Vec<u8>> {
+        match word {
+            "create" => vec![self.new_path(), self.mode(false)],
+            "mkdir" => vec![self.new_path(), self.mode(true)],
+            "write" => vec![self.file(), self.content()],
+            "mv" => vec![self.path(), self.new_path()],
+            "chmod" => {
+                let set_gid = self.rng.percent(30);
+                vec![self.path(), self.mode(set_gid)]
+            }
+            "chgrp" => vec![self.path(), self.number(25)],
+            "chown" => vec![self.path(), self.number(24)],
+            "login" => self.grant(),
+            "logout" => Vec::new(),
+            "add" => vec![self.path(), self.new_entry(), self.number(8)],
+            "co" => vec![self.entry(), self.new_path()],
+            "commit" | "up" => vec![self.working()],
+            "del" => vec![self.entry()],
+            _ => vec![self.path()],
+        }
+    }
+
+    /// A path that is mostly there.
+    fn path(&mut self) -> Vec<u8> {
+        match self.rng.below(20) {
+            0 => self.new_path(),
+            1 => text(&self.random_path()),
+            _ => text(&self.present_path(|_| true)),
+        }
+    }
+
+    /// A path that mostly is not there but could be.
+    fn new_path(&mut self) -> Vec<u8> {
+        let mut path = match self.rng.below(20) {
+            0 => self.random_path(),
+            1 => self.present_path(|_| true),
+            _ => {
+                let state = self.state;
+                let mut path = self.present_path(|path| state.node(path).is_directory());
+                path.push(self.name());
+                path
+            }
+        };
+        if self.rng.percent(3) {
+            let length = self.rng.within(6, 7);
+            while path.len() < length {
+                path.push(self.name());
+            }
+        }
+        text(&path)
+    }
+
+    /// A path below `/rep` that is mostly there.
+    fn entry(&mut self) -> Vec<u8> {
+        let path = self.present_path(|path| path.len() >= 2 && path[0] == b"rep");
+        if path.len() < 2 || self.rng.percent(8) {
+            return self.new_entry();
+        }
+        text(&path)
+    }
+
+    /// A path below `/rep` that mostly is not there but could be.
+    fn new_entry(&mut self) -> Vec<u8> {
+        let state = self.state;
+        let below = |path: &Path| path.first().is_some_and(|name| name == b"rep") && state.node(path).is_directory();
+        let mut path = self.present_path(below);
+        if self.rng.percent(95) {
+            path.push(self.name());
+        }
+        text(&path)
+    }
+
+    /// Mostly a file.
+    fn file(&mut self) -> Vec<u8> {
+        if self.rng.percent(10) {
+            return self.path();
+        }
+        let state = self.state;
+        text(&self.present_path(|path| !state.node(path).is_directory()))
+    }
+
+    /// A working file, mostly one with a tag.
+    fn working(&mut self) -> Vec<u8> {
+        if self.rng.percent(15) {
+            return self.file();
+        }
+        let state = self.state;
+        let tagged_file = |path: &Path| state.node(path).tag.is_some() && !state.node(path).is_directory();
+        text(&self.present_path(tagged_file))
+    }
+
+    /// Any path of the tree for which something holds, often the caller's own; `/rep` where there is none.
+    fn present_path(&mut self, holds: impl Fn(&Path) -> bool) -> Path {
+        let mut nodes: Vec<(&Path, &Node)> = self.state.nodes.iter().filter(|(path, _)| holds(path)).collect();
+        let own: Vec<(&Path, &Node)> = nodes.iter().filter(|(_, node)| node.owner == self.caller).copied().collect();
+        if !own.is_empty() && self.rng.percent(60) {
+            nodes = own;
+        }
+        if nodes.is_empty() {
+            return vec![b"rep".to_vec()];
+        }
+        // The deep theme takes the deeper of two.
+        let ((one, _), (other, _)) = (*self.rng.pick(&nodes), *self.rng.pick(&nodes));
+        let deeper = matches!(self.theme, Theme::Deep) && other.len() > one.len();
+        if deeper {
+            other.clone()
+        } else {
+            one.clone()
+        }
+    }
+
+    /// A path of pool names, at times one too many.
+    fn random_path(&mut self) -> Path {
+        let length = if self.rng.percent(20) { self.rng.within(5, 7) } else { self.rng.below(5) };
+        (0..length).map(|_| self.name()).collect()
+    }
+
+    fn name(&mut self) -> Vec<u8> {
+        let filling = matches!(self.theme, Theme::Filling);
+        if self.rng.percent(if filling { 90 } else { 5 }) {
+            return format!("n{}", self.rng.below(400)).into_bytes();
+        }
+        self.rng.pick(&NAMES).as_bytes().to_vec()
+    }
+
+    /// Mostly modes that let the owner work.
+    fn mode(&mut self, set_gid: bool) -> Vec<u8> {
+        let bits = match self.rng.below(6) {
+            0 => self.rng.below(512),
+            1 => *self.rng.pick(&[0, 0o40, 0o400, 0o200, 0o100, 0o70, 0o7]),
+            2 => 0o777,
+            _ => 0o700 | self.rng.below(64),
+        };
+        let first = if set_gid && self.rng.percent(30) { '2' } else { '0' };
+        format!("{first}{bits:03o}").into_bytes()
+    }
+
+    fn content(&mut self) -> Vec<u8> {
+        let length = *self.rng.pick(&[0, 1, 2, 5, 63, 64]);
+        let byte = |rng: &mut Rng| match rng.within(32, 126) as u8 {
+            b',' => b'.',
+            byte => byte,
+        };
+        (0..length).map(|_| byte(self.rng)).collect()
+    }
+
+    /// A number, mostly below a bound.
+    fn number(&mut self, bound: usize) -> Vec<u8> {
+        let bound = if self.rng.percent(2) { bound + 2 } else { bound };
+        let small = self.rng.percent(50);
+        self.rng.below(if small { bound.min(5) } else { bound }).to_string().into_bytes()
+    }
+
+    /// A role and password, mostly of a grant that the caller has.
+    fn grant(&mut self) -> Vec<Vec<u8>> {
+        let caller = self.caller;
+        let own: Vec<_> = self.state.grants.iter().filter(|grant| grant.uid == caller).collect();
+        if own.is_empty() || self.rng.percent(20) {
+            return vec![self.number(8), self.rng.pick(&PASSWORDS).as_bytes().to_vec()];
+        }
+        let grant = *self.rng.pick(&own);
+        vec![grant.role.to_string().into_bytes(), grant.password.clone()]
+    }
+}

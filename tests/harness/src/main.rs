@@ -1,0 +1,66 @@
+//! Compares the library with a model written from document 01 alone.
+
+mod damage;
+mod edges;
+mod generate;
+mod layout;
+mod library;
+mod model;
+mod mutate;
+mod random;
+mod rng;
+mod setups;
+mod states;
+mod stories;
+mod table;
+mod tally;
+mod trial;
+mod twin;
+mod vectors;
+
+use std::path::Path;
+use std::process::ExitCode;
+use std::time::{SystemTime, UNIX_EPOCH};
+
+const USAGE: &str = "harness random [--seed S] [--lines N] | damage [--seed S] | edges | vectors DIR";
+
+fn main() -> ExitCode {
+    let arguments: Vec<String> = std::env::args().skip(1).collect();
+    match run(&arguments) {
+        Ok(tally) => tally.finish(),
+        Err(problem) => {
+            eprintln!("{problem}");
+            ExitCode::FAILURE
+        }
+    }
+}
+
+/// Carries out a subcommand.
+fn run(arguments: &[String]) -> Result<tally::Tally, String> {
+    let (subcommand, options) = arguments.split_first().ok_or(USAGE)?;
+    match (subcommand.as_str(), options) {
+        ("random", options) => {
+            let lines = option(options, "--lines")?.unwrap_or(120_000);
+            Ok(random::random(seed(options)?, lines))
+        }
+        ("damage", options) => Ok(damage::damage(seed(options)?)),
+        ("edges", []) => Ok(edges::edges(1)),
+        ("vectors", [directory]) => vectors::vectors(Path::new(directory)).map_err(|problem| problem.to_string()),
+        _ => Err(USAGE.to_string()),
+    }
+}
+
+/// The seed that was asked for or the clock's, printed first.
+fn seed(options: &[String]) -> Result<u64, String> {
+    let clock = SystemTime::now().duration_since(UNIX_EPOCH).map_or(0, |time| time.as_nanos() as u64);
+    let seed = option(options, "--seed")?.unwrap_or(clock);
+    println!("seed {seed}");
+    Ok(seed)
+}
+
+/// The number after an option.
+fn option(options: &[String], name: &str) -> Result<Option<u64>, String> {
+    let Some(at) = options.iter().position(|option| option == name) else { return Ok(None) };
+    let number = options.get(at + 1).ok_or(USAGE)?;
+    number.parse().map(Some).map_err(|_| format!("{name} takes a number"))
+}

@@ -1,0 +1,11 @@
+//! A model of document 01, written from its words alone: plain and literal, not fast.
+
+pub mod access;
+pub mod line;
+pub mod listing;
+pub mod program;
+pub mod repository;
+pub mod run;
+pub mod setup;
+pub mod shell;
+pub mod state;

@@ -1,0 +1,78 @@
+//! The pairs of call and number that document 01 allows, written by hand from its words, with counts of what came up.
+
+use crate::model::line::WORDS;
+use crate::tally::Tally;
+use std::collections::BTreeMap;
+
+/// For each command 0 for done and the numbers it can be refused with; then the lines without a command's word, and
+/// the numbers that come before any command.
+const ALLOWED: [(&str, &[u32]); 21] = [
+    ("create", &[0, 1, 2, 3, 4, 5, 6, 10]),
+    ("mkdir", &[0, 1, 2, 3, 4, 5, 6, 10]),
+    ("read", &[0, 1, 2, 3, 4, 5]),
+    ("write", &[0, 1, 2, 3, 4, 5, 7]),
+    ("rm", &[0, 1, 2, 3, 4, 5, 7, 9]),
+    ("rmdir", &[0, 1, 2, 3, 4, 5, 7, 8, 9]),
+    ("mv", &[0, 1, 2, 3, 4, 5, 6, 9, 11, 19]),
+    ("chmod", &[0, 1, 2, 3, 4, 5, 7, 9]),
+    ("chgrp", &[0, 1, 2, 3, 4, 5, 9]),
+    ("chown", &[0, 1, 2, 3, 4, 5, 9]),
+    ("login", &[0, 1, 2, 13]),
+    ("logout", &[0, 1, 2]),
+    ("add", &[0, 1, 2, 3, 4, 5, 6, 9, 10, 12]),
+    ("co", &[0, 1, 2, 3, 4, 5, 6, 10, 12, 19]),
+    ("commit", &[0, 1, 2, 3, 4, 5, 7, 12, 14, 15, 16]),
+    ("up", &[0, 1, 2, 3, 4, 5, 7, 12, 15]),
+    ("del", &[0, 1, 2, 3, 4, 5, 8, 12]),
+    (NO_WORD, &[1]),
+    ("run", &[18, 20]),
+    ("setup", &[0, 17, 18]),
+    ("listing", &[0, 3, 18, 20]),
+];
+
+/// Lines whose second field is no command's word.
+const NO_WORD: &str = "(no word)";
+
+#[derive(Default)]
+pub struct Table {
+    counts: BTreeMap<(&'static str, u32), u64>,
+}
+
+impl Table {
+    /// Notes what a call gave.
+    pub fn note(&mut self, call: &'static str, number: u32) {
+        *self.counts.entry((call, number)).or_default() += 1;
+    }
+
+    /// Notes what a line gave, under its command.
+    pub fn note_line(&mut self, line: &[u8], number: u32) {
+        let call = if matches!(number, 18 | 20) { "run" } else { word(line) };
+        self.note(call, number);
+    }
+
+    /// Prints the table, and checks that the allowed pairs came up and no others.
+    pub fn check(&self, tally: &mut Tally) {
+        for (call, numbers) in ALLOWED {
+            let counts: Vec<String> = numbers.iter().map(|number| format!("{number}: {}", self.count(call, *number))).collect();
+            println!("{call:9} {}", counts.join("  "));
+            for number in numbers {
+                let missing = self.count(call, *number) == 0;
+                tally.check(missing.then(|| format!("the pair {call}, {number} did not come up")));
+            }
+        }
+        for (call, number) in self.counts.keys() {
+            let allowed = ALLOWED.iter().any(|(other, numbers)| other == call && numbers.contains(number));
+            tally.check((!allowed).then(|| format!("the pair {call}, {number} came up and is not allowed")));
+        }
+    }
+
+    fn count(&self, call: &'static str, number: u32) -> u64 {
+        self.counts.get(&(call, number)).copied().unwrap_or(0)
+    }
+}
+
+/// The command's word that a line's second field says.
+fn word(line: &[u8]) -> &'static str {
+    let field = line.split(|byte| *byte == b',').nth(1).unwrap_or(b"");
+    WORDS.into_iter().find(|word| word.as_bytes() == field).unwrap_or(NO_WORD)
+}
