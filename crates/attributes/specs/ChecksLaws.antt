@@ -37,7 +37,7 @@ use Rattle.tree.specs.UpdateLaws.{walked-at}
 use Rattle.tree.specs.Encoding.{encode-tree}
 use Rattle.tree.specs.RowAt.{row-at, all-rows}
 use Rattle.tree.specs.TreeBytes.{Has-row, Used, Encodes, Whole, Path-text, Whichever, At}
-use Rattle.tree.specs.TreeBytesLaws.{at-here, at-used}
+use Rattle.tree.specs.TreeBytesLaws.{used-row, at-here, at-used}
 use Rattle.walks.specs.declared.Walked.{Walked}
 use Rattle.walks.specs.declared.Walked.the-variants.{To, Refused}
 use Rattle.walks.specs.RowBelow.{child-text-in}
@@ -228,4 +228,4 @@ module _ {b : List ℕ} (s : Text) (whole : Whole b) (reads : Path-text s) (a : 
   row-used = at-used (came-there (whole .1) a deed (reads .0) (decided (whole .0) (reads .0) (whole .1) (reads .1)) e .at)
 
   pub row-there : Has-row b row
-  row-there = record { wide = row-used .sized .wide; low = omega (arith, row-used .used, row-used .sized .few-rows) }
+  row-there = used-row row-used

@@ -2,7 +2,7 @@
 use mathlib.Core.Path.{_≡_}
 use mathlib.Core.List.{List}
 use mathlib.Core.Option.{none, some}
-use Prim.Native.Nat.{ℕ, suc, _+_}
+use Prim.Native.Nat.{ℕ, suc, _+_, _≤_}
 use lib.Dec.{leb}
 use lib.ListN as L
 use Rattle.buffers.specs.Text.{Text}
@@ -11,11 +11,12 @@ use Rattle.accounts.specs.declared.Caller.{Caller}
 use Rattle.syntax.specs.Path.{Path, Entry-path, parent, last, depth, path, entry-path, entry-location, most-names}
 use Rattle.tree.specs.declared.Cause.the-variants.{Access, Full, TooDeep}
 use Rattle.tree.specs.Result.{Result, refused, done, _>>=_, _>>_, require, Outcome}
+use Rattle.tree.specs.Layout.{row-start}
 use Rattle.tree.specs.Forest.{Place, update, put, size, height}
 use Rattle.tree.specs.Node.{Node}
 use Rattle.tree.specs.Walk.{by-modes, walk, room}
 use Rattle.tree.specs.Encoding.{encode-tree}
-use Rattle.tree.specs.TreeBytes.{Wide, Insertable, At, Whichever-entry}
+use Rattle.tree.specs.TreeBytes.{Insertable, At, Whichever-entry}
 use Rattle.walks.specs.RowWalk.{Spot}
 use Rattle.walks.specs.WalkBytes.{spot-of}
 use Rattle.edits.specs.Changes.{rows-put}
@@ -23,7 +24,12 @@ use Rattle.gaps.specs.GapsLaws.{Standing}
 use Rattle.copying.specs.declared.Copier.{Copier}
 use Rattle.copying.specs.Copying.{copy}
 use Rattle.copying.specs.CopyRows.{read-by}
+use Rattle.shell.specs.declared.Answer.{Answer}
 use Rattle.shell.specs.Steps.{fit}
+use Rattle.shell.specs.CommandBytes.{Follows-silently}
+use Rattle.checkout.specs.declared.Site.{Site}
+use Rattle.checkout.specs.declared.Sited.{Sited}
+use Rattle.checkout.specs.declared.Sited.the-variants.{Found, Missed}
 use Rattle.checkout.specs.declared.Copies.{Copies}
 use Rattle.checkout.specs.declared.Copies.the-variants.{Ready, Refused}
 
@@ -67,29 +73,47 @@ Whichever-copy b entry to P = Whichever-entry b entry (λ t e. (d : Path) → pa
 -- ---- the copies
 
 -- a checkout whose first checks have passed: there is room for the copies, and the account came to the entry
-pub record Checkout (w : Copier) (b : List ℕ) (entry to : Text) (row at k filed : ℕ) : Type 0 where
+pub record Checkout (w : Copier) (b : List ℕ) (entry to : Text) (s : Site) : Type 0 where
   pub top : Place Node
   pub source : Entry-path
   pub target : Path
   pub place : Place Node
   pub reads-entry : entry-path entry ≡ some source
   pub reads : path to ≡ some target
-  pub stands : Standing b top target (w .caller .account) row at k
-  pub found : At b top (entry-location source) filed place
+  pub stands : Standing b top target (w .caller .account) (s .row) (s .at) (s .depth)
+  pub found : At b top (entry-location source) (s .filed) place
 
 -- its copies
-unfoldable pub checkout-copies : {w : Copier} {b : List ℕ} {entry to : Text} {row at k filed : ℕ} → Checkout w b entry to row at k filed → Place Node
+unfoldable pub checkout-copies : {w : Copier} {b : List ℕ} {entry to : Text} {s : Site} → Checkout w b entry to s → Place Node
 checkout-copies {w} j = copy (w .caller) (read-by w) (j .stands .directory .here) (j .source) (j .place)
+
+-- and the steps that are left
+abbrev pub steps-left : {w : Copier} {b : List ℕ} {entry to : Text} {s : Site} → Checkout w b entry to s → Result (Outcome (Place Node))
+steps-left {w} j = put-copies (w .caller) (j .top) (j .target) (checkout-copies j)
+
+-- the site of a checkout behind which these are left of `co`
+pub record Site-for (w : Copier) (t : Place Node) (e : Entry-path) (d : Path) (b : List ℕ) (entry to : Text) (s : Site) : Type 0 where
+  pub job : Checkout w b entry to s
+  pub left : co-steps w t e d ≡ steps-left job
+
+-- a site that is told is one, and a refusal is that of the steps
+unfoldable pub Site-told : Copier → Place Node → Entry-path → Path → List ℕ → Text → Text → Sited → Type 0
+Site-told w t e d b entry to (Found s) = Site-for w t e d b entry to s
+Site-told w t e d b entry to (Missed why) = co-steps w t e d ≡ refused why
+
+-- an answer and a tree's bytes that are those of the steps that are left of whatever checkout this is
+abbrev pub Checked-out : Copier → List ℕ → Text → Text → Site → Answer → List ℕ → Type 0
+Checked-out w b entry to s r b′ = (j : Checkout w b entry to s) → Follows-silently (steps-left j) b r b′
 
 -- n rows in z behind its first two bytes that, put in at the index, make of the bytes b the tree that the steps come to
 pub record Ready-for (steps : Result (Outcome (Place Node))) (b z : List ℕ) (at n : ℕ) : Type 0 where
   pub insertable : Insertable b at n
-  pub wide : Wide z
+  pub room : row-start n ≤ L.length z
   pub tree : Place Node
   pub come : steps ≡ done (record { text = none; state = tree })
   pub make : rows-put b at n (L.drop 2 z) ≡ encode-tree tree
 
 -- copies answered as ready are such rows, and a refusal is that of the steps
-unfoldable pub Prepared : Result (Outcome (Place Node)) → List ℕ → List ℕ → Copies → Type 0
-Prepared steps b z (Ready at n) = Ready-for steps b z at n
-Prepared steps b z (Refused why) = steps ≡ refused why
+unfoldable pub Prepared : Result (Outcome (Place Node)) → List ℕ → List ℕ → ℕ → Copies → Type 0
+Prepared steps b z at (Ready n) = Ready-for steps b z at n
+Prepared steps b z at (Refused why) = steps ≡ refused why

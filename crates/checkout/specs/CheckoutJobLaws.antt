@@ -22,7 +22,7 @@ use Rattle.tree.specs.RowPlaces.{place-rows, lesser}
 use Rattle.tree.specs.RowPlacesLaws.{length-place-rows}
 use Rattle.tree.specs.Encoding.{row-bytes, encode-tree}
 use Rattle.tree.specs.RowAt.{row-count, row-at}
-use Rattle.tree.specs.TreeBytes.{Wide, Has-row}
+use Rattle.tree.specs.TreeBytes.{Has-row}
 use Rattle.tree.specs.TreeBytesLaws.{encoded-count, at-here}
 use Rattle.walks.specs.WalkBytes.{Came}
 use Rattle.edits.specs.Changes.{rows-put}
@@ -32,32 +32,32 @@ use Rattle.gaps.specs.Gaps.{behind-slash}
 use Rattle.gaps.specs.GapsLaws.{Standing, last-in-text, last-named, last-fits, place-row, stands-insertable, stands-low}
 use Rattle.copying.specs.declared.Copier.{Copier}
 use Rattle.copying.specs.Copying.{copy-mode}
-use Rattle.copying.specs.CopyRows.{deepest, most-levels, Written, deepest-from, Entry-job, entry-rows}
-use Rattle.copying.specs.CopyEntryLaws.{entry-job, entry-job-rows, entry-few}
+use Rattle.copying.specs.CopyRows.{deepest, most-levels, Written, deepest-from, Entry-job, subtree-rows, entry-rows}
+use Rattle.copying.specs.CopyEntryLaws.{entry-job, entry-job-rows, entry-within, entry-few}
 use Rattle.copying.specs.RowsWrittenLaws.{written-as, written-width, written-pieces}
 use Rattle.copying.specs.DepthLaws.{deepest-of-place}
-use Rattle.checkout.specs.declared.Copies.{Copies}
+use Rattle.checkout.specs.declared.Site.{Site}
 use Rattle.checkout.specs.declared.Copies.the-variants as answers
-use Rattle.checkout.specs.Checkout.{readable-walk, put-copies, co-steps, Checkout, checkout-copies, Prepared}
+use Rattle.checkout.specs.Checkout.{readable-walk, Checkout, checkout-copies, steps-left, Site-for, Prepared}
 use Rattle.checkout.specs.CheckoutLaws.{co-goes-on, put-too-deep, put-too-many, put-done, prepared-ready, prepared-not}
 
 -- the first checks have passed
-module _ (w : Copier) (entry to : Text) {b : List ℕ} {t : Place Node} {e : Entry-path} {d : Path} {row at k filed above : ℕ} (reads-entry : entry-path entry ≡ some e)
-    (reads : path to ≡ some d) (stands : Standing b t d (w .caller .account) row at k) (came : Came b t (entry-location e) (readable-walk (w .reader) t e) filed above) where
-  pub checkout-of : Checkout w b entry to row at k filed
+module _ (w : Copier) (entry to : Text) {b : List ℕ} {t : Place Node} {e : Entry-path} {d : Path} (site : Site) {above : ℕ} (reads-entry : entry-path entry ≡ some e)
+    (reads : path to ≡ some d) (stands : Standing b t d (w .caller .account) (site .row) (site .at) (site .depth))
+    (came : Came b t (entry-location e) (readable-walk (w .reader) t e) (site .filed) above) where
+  abbrev checkout-of : Checkout w b entry to site
   checkout-of = record { top = t; source = e; target = d; place = came .place; reads-entry = reads-entry; reads = reads; stands = stands; found = came .at }
 
   -- and what follows them are the steps that are left
-  pub checkout-prepared : (z : List ℕ) (r : Copies) → Prepared (put-copies (w .caller) (checkout-of .top) (checkout-of .target) (checkout-copies checkout-of)) b z r
-      → Prepared (co-steps w t e d) b z r
-  unfolding checkout-of checkout-copies
-  checkout-prepared z r p = rw (co-goes-on w t e d (stands .found) (came .walked)) p
+  pub site-found : Site-for w t e d b entry to site
+  unfolding checkout-copies
+  site-found = record { job = checkout-of; left = co-goes-on w t e d (stands .found) (came .walked) }
 
-module _ {w : Copier} {b : List ℕ} {entry to : Text} {row at k filed : ℕ} (j : Checkout w b entry to row at k filed) where
+module _ {w : Copier} {b : List ℕ} {entry to : Text} {site : Site} (j : Checkout w b entry to site) where
   -- ---- what the copies ask for
 
   -- the directory's row is there
-  pub job-row : Has-row b row
+  pub job-row : Has-row b (site .row)
   job-row = place-row (j .stands .above)
 
   -- the path has a last name, and it fits
@@ -71,10 +71,10 @@ module _ {w : Copier} {b : List ℕ} {entry to : Text} {row at k filed : ℕ} (j
   job-name n e = omega (arith, ap length e, last-fits to (j .reads) (j .stands .roomed .below-top))
 
   -- no copy is as deep as a depth may be
-  pub job-low : k + most-levels ≤ deepest
+  pub job-low : site .depth + most-levels ≤ deepest
   job-low = omega (arith, stands-low (j .stands) to (j .reads))
 
-  module _ (g : Gid) (given : g ≡ new-group (w .caller) (row-at b row .here)) where
+  module _ (g : Gid) (given : g ≡ new-group (w .caller) (row-at b (site .row) .here)) where
     -- the group is that of a new node in the directory
     checkout-group : g ≡ new-node (w .caller) (j .stands .directory .here) (j .place .here .kind) (copy-mode (j .place .here .kind)) .group
     checkout-group =
@@ -82,41 +82,49 @@ module _ {w : Copier} {b : List ℕ} {entry to : Text} {row at k filed : ℕ} (j
         given ∙ ap (new-group (w .caller)) (at-here (j .stands .above)) ∙ sym (new-node-group (w .caller) n (j .place .here .kind) (copy-mode (j .place .here .kind)))
 
     -- the entry is one to copy
-    pub checkout-job : Entry-job w b filed g entry
+    pub checkout-job : Entry-job w b (site .filed) g entry
     checkout-job = entry-job w entry (j .stands .directory .here) (j .reads-entry) (j .found) checkout-group
 
     -- ---- once they are written
 
-    module _ (o z : List ℕ) (n : ℕ) (name : Text) (named : name ≡ behind-slash to) (wide : Wide o)
-        (all : (i : Entry-job w b filed g entry) → Written o 0 (entry-rows i k name) n z) where
+    module _ (o z : List ℕ) (n : ℕ) (name : Text) (named : name ≡ behind-slash to) (room : row-start (subtree-rows b (site .filed)) ≤ length o)
+        (all : (i : Entry-job w b (site .filed) g entry) → Written o 0 (entry-rows i (site .depth) name) n z) where
       abbrev copies : Place Node
       copies = checkout-copies j
 
       abbrev copy-rows-at : List ℕ
-      copy-rows-at = all-bytes row-bytes (place-rows k (last (j .target)) copies)
+      copy-rows-at = all-bytes row-bytes (place-rows (site .depth) (last (j .target)) copies)
 
       -- they are the rows of the copies at the path
-      copies-written : Written o 0 (place-rows k (last (j .target)) copies) n z
+      copies-written : Written o 0 (place-rows (site .depth) (last (j .target)) copies) n z
       unfolding checkout-job checkout-copies
       copies-written =
           written-as
-          (ap (entry-rows checkout-job k) (named ∙ last-in-text to (j .reads)) ∙ entry-job-rows w entry (j .stands .directory .here) (j .reads-entry) (j .found) checkout-group k (last (j .target)))
+          (ap (entry-rows checkout-job (site .depth)) (named ∙ last-in-text to (j .reads)) ∙ entry-job-rows w entry (j .stands .directory .here) (j .reads-entry) (j .found) checkout-group (site .depth) (last (j .target)))
           (all checkout-job)
 
       copies-count : n ≡ suc (size (copies .below))
-      copies-count = omega (arith, copies-written .next, length-place-rows k (last (j .target)) copies)
+      copies-count = omega (arith, copies-written .next, length-place-rows (site .depth) (last (j .target)) copies)
 
-      -- no more than a tree has rows
+      -- no more than the entry has rows
+      copies-within : n ≤ subtree-rows b (site .filed)
+      copies-within = omega (arith, all checkout-job .next, entry-few checkout-job (site .depth) name)
+
+      -- nor than a tree
       pub copies-few : n ≤ most-rows
-      copies-few = omega (arith, all checkout-job .next, entry-few checkout-job k name)
+      copies-few = omega (arith, copies-within, entry-within checkout-job)
+
+      -- all in the buffer
+      pub copies-fit : length z ≡ length o → row-start n ≤ length z
+      copies-fit same = omega (arith, copies-within)
 
       module _ (m : ℕ) (is : m ≡ deepest-from z 0 0 n) where
         depth-is : m ≡ depth (j .target) + height (copies .below)
-        depth-is = is ∙ deepest-of-place k (last (j .target)) copies copies-written wide ∙ omega (arith, j .stands .level)
+        depth-is = is ∙ deepest-of-place (site .depth) (last (j .target)) copies copies-written (omega arith) ∙ omega (arith, j .stands .level)
 
         -- the deepest lies too deep
-        pub copies-too-deep : 6 < m → Prepared (put-copies (w .caller) (j .top) (j .target) copies) b z (answers.Refused TooDeep)
-        copies-too-deep h = prepared-not b z (put-too-deep (w .caller) (j .top) (j .target) copies (omega (arith, h, depth-is)))
+        pub copies-too-deep : 6 < m → Prepared (steps-left j) b z (site .at) (answers.Refused TooDeep)
+        copies-too-deep h = prepared-not b z (site .at) (put-too-deep (w .caller) (j .top) (j .target) copies (omega (arith, h, depth-is)))
 
         module _ (low : m ≤ 6) (c : ℕ) (counts : c ≡ row-count b) where
           low-enough : depth (j .target) + height (copies .below) ≤ 6
@@ -126,29 +134,29 @@ module _ {w : Copier} {b : List ℕ} {entry to : Text} {row at k filed : ℕ} (j
           count-is = omega (arith, counts, encoded-count (j .found .tree), copies-count)
 
           -- there are too many
-          pub copies-too-many : 256 < c + n → Prepared (put-copies (w .caller) (j .top) (j .target) copies) b z (answers.Refused Full)
-          copies-too-many h = prepared-not b z (put-too-many (w .caller) (j .top) (j .target) copies low-enough (omega (arith, h, count-is)))
+          pub copies-too-many : 256 < c + n → Prepared (steps-left j) b z (site .at) (answers.Refused Full)
+          copies-too-many h = prepared-not b z (site .at) (put-too-many (w .caller) (j .top) (j .target) copies low-enough (omega (arith, h, count-is)))
 
           -- behind the first two bytes stand their rows, and put in they make the tree with them
-          made : c + n ≤ 256 → rows-put b at n (drop 2 z) ≡ encode-tree (update (parent (j .target)) (put (last (j .target)) copies) (j .top))
+          made : c + n ≤ 256 → rows-put b (site .at) n (drop 2 z) ≡ encode-tree (update (parent (j .target)) (put (last (j .target)) copies) (j .top))
           made h =
               let d = j .target in
               let s = j .stands in
-              let D = drop (row-start 0 + row-width * length (place-rows k (last d) copies)) o in
-              let behind : drop 2 z ≡ copy-rows-at ++ D = ap (drop 2) (written-pieces copies-written wide) ∙ drop-at (take 2 o) (copy-rows-at ++ D) 2 (length-take-le 2 o (omega arith)) in
-              let level : k ≡ suc (depth (parent d)) = s .level ∙ sym (parent-depth d (s .roomed .below-top)) in
-              let width : Rows-wide (place-rows k (last d) copies) = omega (arith, written-width copies-written) in
-              ap (rows-put b at n) behind
+              let D = drop (row-start 0 + row-width * length (place-rows (site .depth) (last d) copies)) o in
+              let behind : drop 2 z ≡ copy-rows-at ++ D = ap (drop 2) (written-pieces copies-written) ∙ drop-at (take 2 o) (copy-rows-at ++ D) 2 (length-take-le 2 o (omega arith)) in
+              let level : site .depth ≡ suc (depth (parent d)) = s .level ∙ sym (parent-depth d (s .roomed .below-top)) in
+              let width : Rows-wide (place-rows (site .depth) (last d) copies) = omega (arith, written-width copies-written) in
+              ap (rows-put b (site .at) n) behind
               ∙ ap (λ (i : ℕ). rows-put b i n (copy-rows-at ++ D)) (s .index)
-              ∙ ap (λ (i : ℕ). rows-put b (suc (row + size (lesser (last d) (s .directory .below)))) i (copy-rows-at ++ D)) copies-count
-              ∙ ap (λ (i : ℕ). rows-put b (suc (row + size (lesser (last d) (s .directory .below)))) (suc (size (copies .below))) (all-bytes row-bytes (place-rows i (last d) copies) ++ D)) level
+              ∙ ap (λ (i : ℕ). rows-put b (suc (site .row + size (lesser (last d) (s .directory .below)))) i (copy-rows-at ++ D)) copies-count
+              ∙ ap (λ (i : ℕ). rows-put b (suc (site .row + size (lesser (last d) (s .directory .below)))) (suc (size (copies .below))) (all-bytes row-bytes (place-rows i (last d) copies) ++ D)) level
               ∙ rows-law (s .above) (last d) copies (s .roomed .free) (rw (← level) width) (omega (arith, count-is, h)) D
 
           -- so they are ready
-          pub copies-ready : c + n ≤ 256 → Wide z → Prepared (put-copies (w .caller) (j .top) (j .target) copies) b z (answers.Ready at n)
-          copies-ready h v = prepared-ready b z (record {
+          pub copies-ready : c + n ≤ 256 → length z ≡ length o → Prepared (steps-left j) b z (site .at) (answers.Ready n)
+          copies-ready h v = prepared-ready b z (site .at) (record {
             insertable = stands-insertable (j .stands) n (omega (arith, counts, encoded-count (j .found .tree), h));
-            wide = v;
+            room = copies-fit v;
             tree = update (parent (j .target)) (put (last (j .target)) copies) (j .top);
             come = put-done (w .caller) (j .top) (j .target) copies low-enough (omega (arith, h, count-is));
             make = made h;

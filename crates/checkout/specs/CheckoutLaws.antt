@@ -1,7 +1,7 @@
 -- The steps of `co` as the code's answers tell them, one after the other.
 --
 -- In order: the account's walk (walk-refused-entry to entry-not); the parts of the command (co-no-room to co-goes-on); the copies judged
--- (put-too-deep to put-done), and ready (prepared-ready to ready-follows).
+-- (put-too-deep to put-done); the site told (site-told to site-follows); copies that are ready (prepared-ready to ready-follows).
 use mathlib.Core.Path.{_≡_, sym, _∙_, ap}
 use mathlib.Core.List.{List}
 use mathlib.Core.Option.{none, some}
@@ -27,7 +27,7 @@ use Rattle.tree.specs.WellFormed.{nodes}
 use Rattle.tree.specs.WellFormedLaws.{most-nodes-is}
 use Rattle.tree.specs.RowAt.{row-at, all-rows}
 use Rattle.tree.specs.TreeBytes.{Has-row, Encodes}
-use Rattle.tree.specs.TreeBytesLaws.{at-used, at-here}
+use Rattle.tree.specs.TreeBytesLaws.{used-row, at-used, at-here}
 use Rattle.edits.specs.Changes.{rows-put}
 use Rattle.walks.specs.declared.Walked.{Walked}
 use Rattle.walks.specs.declared.Walked.the-variants as Walks
@@ -38,13 +38,17 @@ use Rattle.walks.specs.WalkBytesLaws.{came-to, came-not, walk-to, walk-not}
 use Rattle.copying.specs.declared.Copier.{Copier}
 use Rattle.copying.specs.Copying.{copy}
 use Rattle.copying.specs.CopyRows.{read-by}
+use Rattle.shell.specs.declared.Answer.{Answer}
 use Rattle.shell.specs.declared.Answer.the-variants.{Done}
 use Rattle.shell.specs.Steps.{fit}
 use Rattle.shell.specs.CommandBytes.{Follows-silently}
 use Rattle.shell.specs.CommandBytesLaws.{silence-follows}
+use Rattle.checkout.specs.declared.Site.{Site}
+use Rattle.checkout.specs.declared.Sited.{Sited}
+use Rattle.checkout.specs.declared.Sited.the-variants.{Found, Missed}
 use Rattle.checkout.specs.declared.Copies.{Copies}
 use Rattle.checkout.specs.declared.Copies.the-variants as answers
-use Rattle.checkout.specs.Checkout.{readable-walk, entry-spot, put-copies, co-steps, Ready-for, Prepared}
+use Rattle.checkout.specs.Checkout.{readable-walk, entry-spot, put-copies, co-steps, Site-for, Site-told, Checked-out, Ready-for, Prepared}
 
 -- ---- one answer after the other
 
@@ -88,7 +92,7 @@ module _ {b : List ℕ} {t : Place Node} (tree : Encodes b t) (a : Account) (s :
 
     -- a row of the tree
     pub entry-told-row : Has-row b row
-    entry-told-row = let u = at-used (came .at) in record { wide = u .sized .wide; low = omega (arith, u .used, u .sized .few-rows) }
+    entry-told-row = used-row (at-used (came .at))
 
     module _ {v : Bool} (read : v ≡ by-modes a .readable (row-at b row .here)) where
       at-entry : by-modes a .readable (came .place .here) ≡ v
@@ -154,22 +158,49 @@ module _ (c : Caller) (t : Place Node) (d : Path) (x : Place Node) where
         rw (le-leb (depth d + height (x .below)) 6 low, require-true, done-then)
         (rw (most-nodes-is, le-leb (nodes t + 0 + suc (size (x .below))) 256 (omega (arith, h)), require-true, done-then))
 
+-- ---- the site
+
+module _ (w : Copier) (t : Place Node) (e : Entry-path) (d : Path) (b : List ℕ) (entry to : Text) where
+  -- a site is told
+  pub site-told : {s : Site} → Site-for w t e d b entry to s → Site-told w t e d b entry to (Found s)
+  unfolding Site-told
+  site-told h = h
+
+  -- or a refusal
+  pub site-not : {k : Cause} → co-steps w t e d ≡ refused k → Site-told w t e d b entry to (Missed k)
+  unfolding Site-told
+  site-not h = h
+
+  module _ {r : Sited} (p : Site-told w t e d b entry to r) where
+    -- what was told, then
+    pub site-of : {s : Site} → r ≡ Found s → Site-for w t e d b entry to s
+    unfolding Site-told
+    site-of q = rw q at p
+
+    pub missed-of : {k : Cause} → r ≡ Missed k → co-steps w t e d ≡ refused k
+    unfolding Site-told
+    missed-of q = rw q at p
+
+  -- what follows the steps that are left at a site follows those of `co`
+  pub site-follows : {s : Site} {r : Answer} {b′ : List ℕ} → Site-for w t e d b entry to s → Checked-out w b entry to s r b′ → Follows-silently (co-steps w t e d) b r b′
+  site-follows h f = rw (h .left) (f (h .job))
+
 -- ---- copies that are ready
 
-module _ {steps : Result (Outcome (Place Node))} (b z : List ℕ) where
+module _ {steps : Result (Outcome (Place Node))} (b z : List ℕ) (at : ℕ) where
   -- copies are answered
-  pub prepared-ready : {at n : ℕ} → Ready-for steps b z at n → Prepared steps b z (answers.Ready at n)
+  pub prepared-ready : {n : ℕ} → Ready-for steps b z at n → Prepared steps b z at (answers.Ready n)
   unfolding Prepared
   prepared-ready h = h
 
   -- or a refusal
-  pub prepared-not : {k : Cause} → steps ≡ refused k → Prepared steps b z (answers.Refused k)
+  pub prepared-not : {k : Cause} → steps ≡ refused k → Prepared steps b z at (answers.Refused k)
   unfolding Prepared
   prepared-not h = h
 
-  module _ {r : Copies} (p : Prepared steps b z r) where
+  module _ {r : Copies} (p : Prepared steps b z at r) where
     -- what was answered, then
-    pub ready-of : {at n : ℕ} → r ≡ answers.Ready at n → Ready-for steps b z at n
+    pub ready-of : {n : ℕ} → r ≡ answers.Ready n → Ready-for steps b z at n
     unfolding Prepared
     ready-of e = rw e at p
 

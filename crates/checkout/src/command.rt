@@ -1,47 +1,90 @@
-// The command `co` on a tree's bytes: the copies are made in a buffer, and then put in.
+// The command `co` on a tree's bytes. There are no more copies than the entry has rows with all below it: by how many these are, the
+// copies are made in an array for few, some, many or all rows.
 ghost use mathlib.Core.Path.{_≡_};
-ghost use lib.ListN.{drop};
-ghost use Rattle.tree.specs.TreeBytes.{Whole, Wide, Insertable, Path-text, Entry-path-text};
-ghost use Rattle.edits.specs.Changes.{rows-put};
+ghost use Prim.Native.Nat.{_≤_};
+ghost use Rattle.tree.specs.Layout.{few-rows, some-rows, many-rows, most-rows};
+ghost use Rattle.tree.specs.TreeBytes.{Whole, Path-text, Entry-path-text};
+ghost use Rattle.copying.specs.CopyRows.{subtree-rows};
 ghost use Rattle.shell.specs.CommandBytes.{Follows-silently};
-ghost use Rattle.checkout.specs.Checkout.{copier, co-steps, Whichever-copy};
-use crate::Copies;
-use crate::prepare::prepare;
+ghost use Rattle.checkout.specs.Checkout.{copier, co-steps, Whichever-copy, Checkout, Checked-out};
+use crate::Site;
+use crate::Sited;
+use crate::decision::find_site;
+use crate::making::co_by;
 use accounts::Account;
 use accounts::Caller;
 use copying::Copier;
-use edits::put_rows;
 use shell::Answer;
-use tree::FIRST;
+use tree::FEW_ROWS;
+use tree::MANY_ROWS;
+use tree::SOME_ROWS;
+use tree::TREE;
+use tree::subtree_end;
 
-// The bytes of a tree.
-const WIDTH: usize = 59394;
+// The bytes of the arrays for copies: the two that stand before the rows, and the rows.
+const FEW_WIDTH: usize = 930;
 
-// Puts the n rows that stand behind the first two bytes of a buffer in before the row at an index.
-fn put_copies(tree: &mut [u8], at: usize, n: usize, out: &[u8])
-    requires { ⌜ Insertable (now tree) at n ⌝ }
-    requires { ⌜ Wide (now out) ⌝ }
-    ensures { λ _. ⌜ now (tree .exit) ≡ rows-put (now (tree .entry)) at n (drop 2 (now (out .entry))) ⌝ }
+const SOME_WIDTH: usize = 3714;
+
+const MANY_WIDTH: usize = 14850;
+
+// What is left of the command behind its first checks, by an array for the copies of few rows.
+fn co_few(tree: &mut [u8], who: Copier, site: Site, entry: &[u8], to: &[u8]) -> Answer
+    requires { ⌜ Checkout who (now tree) (now entry) (now to) site ⌝ }
+    requires { ⌜ subtree-rows (now tree) (site .filed) ≤ few-rows ⌝ }
+    ensures { λ r. ⌜ Checked-out who (now (tree .entry)) (now (entry .entry)) (now (to .entry)) site r (now (tree .exit)) ⌝ }
 {
-    put_rows(tree, at, n, &out[FIRST..]);
+    let mut out = [0u8; FEW_WIDTH];
+    co_by(tree, who, site, entry, to, &mut out)
 }
 
-// The command by a buffer for the copies.
-fn co_by(tree: &mut [u8], who: Copier, entry: &[u8], to: &[u8], out: &mut [u8]) -> Answer
-    requires { ⌜ Whole (now tree) ⌝ }
-    requires { ⌜ Entry-path-text (now entry) ⌝ }
-    requires { ⌜ Path-text (now to) ⌝ }
-    requires { ⌜ Wide (now out) ⌝ }
-    ensures { λ r. ⌜ Whichever-copy (now (tree .entry)) (now (entry .entry)) (now (to .entry))
-        (λ t e d. Follows-silently (co-steps who t e d) (now (tree .entry)) r (now (tree .exit))) ⌝ }
+// By one for more rows.
+fn co_some(tree: &mut [u8], who: Copier, site: Site, entry: &[u8], to: &[u8]) -> Answer
+    requires { ⌜ Checkout who (now tree) (now entry) (now to) site ⌝ }
+    requires { ⌜ subtree-rows (now tree) (site .filed) ≤ some-rows ⌝ }
+    ensures { λ r. ⌜ Checked-out who (now (tree .entry)) (now (entry .entry)) (now (to .entry)) site r (now (tree .exit)) ⌝ }
 {
-    match prepare(tree, who, entry, to, out) {
-        Copies::Ready { at, n } => {
-            put_copies(tree, at, n, out);
-            Answer::Done
-        }
-        Copies::Refused(cause) => Answer::Refused(cause),
+    let mut out = [0u8; SOME_WIDTH];
+    co_by(tree, who, site, entry, to, &mut out)
+}
+
+// By one for many rows.
+fn co_many(tree: &mut [u8], who: Copier, site: Site, entry: &[u8], to: &[u8]) -> Answer
+    requires { ⌜ Checkout who (now tree) (now entry) (now to) site ⌝ }
+    requires { ⌜ subtree-rows (now tree) (site .filed) ≤ many-rows ⌝ }
+    ensures { λ r. ⌜ Checked-out who (now (tree .entry)) (now (entry .entry)) (now (to .entry)) site r (now (tree .exit)) ⌝ }
+{
+    let mut out = [0u8; MANY_WIDTH];
+    co_by(tree, who, site, entry, to, &mut out)
+}
+
+// By one for as many rows as there is room for in a tree.
+fn co_all(tree: &mut [u8], who: Copier, site: Site, entry: &[u8], to: &[u8]) -> Answer
+    requires { ⌜ Checkout who (now tree) (now entry) (now to) site ⌝ }
+    requires { ⌜ subtree-rows (now tree) (site .filed) ≤ most-rows ⌝ }
+    ensures { λ r. ⌜ Checked-out who (now (tree .entry)) (now (entry .entry)) (now (to .entry)) site r (now (tree .exit)) ⌝ }
+{
+    let mut out = [0u8; TREE];
+    co_by(tree, who, site, entry, to, &mut out)
+}
+
+// By the smallest that has room for the copies of all rows of the entry.
+fn co_at(tree: &mut [u8], who: Copier, site: Site, entry: &[u8], to: &[u8]) -> Answer
+    requires { ⌜ Checkout who (now tree) (now entry) (now to) site ⌝ }
+    ensures { λ r. ⌜ Checked-out who (now (tree .entry)) (now (entry .entry)) (now (to .entry)) site r (now (tree .exit)) ⌝ }
+{
+    let filed = site.filed;
+    let n = subtree_end(tree, filed) - filed;
+    if n <= FEW_ROWS {
+        return co_few(tree, who, site, entry, to);
     }
+    if n <= SOME_ROWS {
+        return co_some(tree, who, site, entry, to);
+    }
+    if n <= MANY_ROWS {
+        return co_many(tree, who, site, entry, to);
+    }
+    co_all(tree, who, site, entry, to)
 }
 
 // `co` of a caller whose session's account is `account`: copies the entry, with all that may be read below it, to the path `to`.
@@ -52,10 +95,12 @@ pub fn co(tree: &mut [u8], caller: Caller, account: Account, entry: &[u8], to: &
     ensures { λ r. ⌜ Whichever-copy (now (tree .entry)) (now (entry .entry)) (now (to .entry))
         (λ t e d. Follows-silently (co-steps (copier account caller) t e d) (now (tree .entry)) r (now (tree .exit))) ⌝ }
 {
-    let mut out = [0u8; WIDTH];
     let who = Copier {
         reader: account,
         caller,
     };
-    co_by(tree, who, entry, to, &mut out)
+    match find_site(tree, who, entry, to) {
+        Sited::Found(site) => co_at(tree, who, site, entry, to),
+        Sited::Missed(cause) => Answer::Refused(cause),
+    }
 }

@@ -17,13 +17,13 @@ use Rattle.accounts.specs.declared.Gid.{Gid}
 use Rattle.syntax.specs.Path.{Name, _▹_, Entry-path, depth, in-rep, entry-location, is-name, is-entry-path, names-text, path-text, entry-text}
 use Rattle.syntax.specs.PathLaws.{path-more, entry-text-fits}
 use Rattle.syntax.specs.FieldLaws.{content-fits}
-use Rattle.tree.specs.Layout.{row-width, most-rows, row-start, name-width, tag-offset, tag-width, whole-tag-width, content-width}
+use Rattle.tree.specs.Layout.{row-width, row-start, name-width, tag-offset, tag-width, whole-tag-width, content-width}
 use Rattle.tree.specs.Node.{Tag, Node, set-tag}
 use Rattle.tree.specs.Rows.{Row}
 use Rattle.tree.specs.Encoding.{tag-bytes, row-bytes, read-row, row-spare, row-head}
 use Rattle.tree.specs.RowBytesLaws.{length-tag-bytes, node-parts, row-parts, length-row-head}
 use Rattle.tree.specs.RowAt.{row-bytes-at, row-at, tag-text-at}
-use Rattle.tree.specs.TreeBytes.{Wide, Has-row}
+use Rattle.tree.specs.TreeBytes.{Has-row}
 use Rattle.tree.specs.RowAtLaws.{row-name-fits}
 use Rattle.edits.specs.declared.Fresh.{Fresh}
 use Rattle.edits.specs.Changes.{field-put, head-bytes}
@@ -160,7 +160,7 @@ front-part : (A R : List ℕ) (k w : ℕ) → k + w ≤ length A → take w (dro
 front-part A R k w h =
     ap (take w) (drop-append-le k A R (omega arith)) ∙ take-append-le w (drop k A) R (omega (arith, length-drop k A))
 
-module _ (o B : List ℕ) (n i to : ℕ) (h : i < to) (fits : to ≤ most-rows) (wide : Wide o) where
+module _ (o B : List ℕ) (n i to : ℕ) (h : i < to) (fits : row-start to ≤ length o) where
   -- what is written from a row on leaves those before
   row-beside : row-bytes-at (paste o (row-start to) B n) i ≡ row-bytes-at o i
   unfolding row-bytes-at
@@ -168,7 +168,7 @@ module _ (o B : List ℕ) (n i to : ℕ) (h : i < to) (fits : to ≤ most-rows) 
       let at = row-start to in
       let A = take at o in
       let D = drop (at + n) o in
-      let l = length-take-le at o (omega arith) in
+      let l = length-take-le at o fits in
       let k = row-start i in
       ap (λ (s : List ℕ). take row-width (drop k s)) (append-assoc A (take n B) D)
       ∙ front-part A (take n B ++ D) k row-width (omega arith)
@@ -232,7 +232,7 @@ module _ (w : Copier) (k : ℕ) (n : Name) (g : Gid) (e : Entry-path) (x : Node)
 
 -- the tags before a row that is written stay
 tag-stays : (o y : List ℕ) (above to : ℕ) (r : Row Node) → Has-row o to → above < to → y ≡ row-put o to r → tag-text-at y above ≡ tag-text-at o above
-tag-stays o y above to r p h e = ap (λ (s : List ℕ). tag-text-at s above) e ∙ tag-beside o (row-bytes r) row-width above to h (omega (arith, p .low)) (p .wide)
+tag-stays o y above to r p h e = ap (λ (s : List ℕ). tag-text-at s above) e ∙ tag-beside o (row-bytes r) row-width above to h (omega (arith, p .room))
 
 -- so there is room for that of a child
 pub tag-room : (b o y : List ℕ) (at above to : ℕ) (r : Row Node) (name : Text) → Has-row o to → above < to → y ≡ row-put o to r → Spelled b at o above → name ≡ row-at b at .name
@@ -262,7 +262,7 @@ module _ (b : List ℕ) (at : ℕ) (h : Holds-row b at) where
 
   module _ (o : List ℕ) (to : ℕ) (p : Has-row o to) where
     start-fits : row-start to ≤ length o
-    start-fits = omega (arith, p .wide, p .low)
+    start-fits = omega (arith, p .room)
 
     -- the head written over, with what was read of the original
     pub head-copied : (y z : List ℕ) (k : ℕ) (f : Fresh) → f .kind ≡ row-at b at .here .kind → f .mode ≡ copy-mode (f .kind) → f .revision ≡ 0

@@ -3,7 +3,7 @@
 use mathlib.Core.Path.{_≡_, refl, _∙_, ap}
 use mathlib.Core.List.{List}
 use mathlib.Core.Option.{some}
-use Prim.Native.Nat.{ℕ, _+_, _≤_}
+use Prim.Native.Nat.{ℕ, suc, _+_, _≤_}
 use native.Mathlib.Omega.{arith}
 use lib.ListN.{length, drop}
 use Rattle.buffers.specs.Text.{Text}
@@ -12,8 +12,8 @@ use Rattle.syntax.specs.Path.{Name, Entry-path, depth, last, entry-location, en
 use Rattle.syntax.specs.PathLaws.{entry-is-entry, entry-text-fits}
 use Rattle.syntax.specs.ParentLaws.{text-of-entry}
 use Rattle.syntax.specs.FieldLaws.{content-fits}
-use Rattle.tree.specs.Layout.{most-rows, name-width, tag-width}
-use Rattle.tree.specs.Forest.{Place}
+use Rattle.tree.specs.Layout.{most-rows, row-start, name-width, tag-width}
+use Rattle.tree.specs.Forest.{Place, size}
 use Rattle.tree.specs.Node.{Node, new-node}
 use Rattle.tree.specs.UpdateLaws.{height-below}
 use Rattle.tree.specs.WellFormedLaws.{Place-parts, place-parts, place-below, tree-parts}
@@ -23,14 +23,14 @@ use Rattle.tree.specs.RowScanLaws.{rows-from-place}
 use Rattle.tree.specs.Encoding.{encode-tree}
 use Rattle.tree.specs.RowBytesLaws.{node-parts}
 use Rattle.tree.specs.RowAt.{row-at, all-rows}
-use Rattle.tree.specs.TreeBytes.{Wide, Used, At}
+use Rattle.tree.specs.TreeBytes.{Has-row, Used, At}
 use Rattle.tree.specs.RowAtLaws.{all-rows-of-tree}
-use Rattle.tree.specs.TreeBytesLaws.{at-used, at-within, at-row}
+use Rattle.tree.specs.TreeBytesLaws.{at-used, at-within, at-row, at-end}
 use Rattle.copying.specs.declared.Copier.{Copier}
 use Rattle.copying.specs.Copying.{below-rep, copy-mode, copied, copy}
-use Rattle.copying.specs.CopyRows.{deepest, most-levels, Holds-row, row-put, Stands, read-by, tagged-row, children, Job, job-rows, Written, Entry-job, entry-copy, first-row, entry-rows}
+use Rattle.copying.specs.CopyRows.{deepest, most-levels, Holds-row, row-put, Stands, read-by, tagged-row, children, Job, job-rows, Written, Entry-job, subtree-rows, entry-copy, first-row, entry-rows}
 use Rattle.copying.specs.CopyRowLaws.{row-held, copies-few}
-use Rattle.copying.specs.CopyJobLaws.{Fits, copy-wide, below-copy, place-written}
+use Rattle.copying.specs.CopyJobLaws.{Fits, below-copy, place-written}
 
 -- an entry is one to copy once the walk along its path has come to it: no path of the tree is too long for a tag
 module _ (w : Copier) {b : List ℕ} {t : Place Node} {at : ℕ} {group : Gid} {d : Place Node} {e : Entry-path} (s : Text) (parent : Node) (reads : entry-path s ≡ some e)
@@ -82,23 +82,34 @@ module _ {w : Copier} {b : List ℕ} {at : ℕ} {group : Gid} {path : List ℕ} 
         stops = c .stops;
       }
 
-  -- there are no more copies than rows in a tree
-  pub entry-few : (k : ℕ) (n : Name) → length (entry-rows j k n) ≤ most-rows
+  -- its rows are its own and those of all below it
+  entry-span : subtree-rows b at ≡ suc (size (j .place .below))
+  entry-span = omega (arith, at-end (j .found))
+
+  -- no more than a tree has
+  pub entry-within : subtree-rows b at ≤ most-rows
+  entry-within = omega (arith, entry-span, at-within (j .found), j .found .tree .sized .few-rows)
+
+  -- there are no more copies
+  pub entry-few : (k : ℕ) (n : Name) → length (entry-rows j k n) ≤ subtree-rows b at
   unfolding entry-rows entry-copy copy
   entry-few k n =
       let x = copied (w .caller) (read-by w) (j .parent) (j .entry) (j .place .here) in
-      omega (arith, length-place-rows k n (entry-copy j), copies-few w x (below-rep (j .entry)) (j .place .below), at-within (j .found), j .found .tree .sized .few-rows)
+      omega (arith, length-place-rows k n (entry-copy j), copies-few w x (below-rep (j .entry)) (j .place .below), entry-span)
 
   -- it is that of its place
   pub entry-row : row-at b at ≡ record { depth = depth (j .spot); name = last (j .spot); here = j .place .here }
   entry-row = at-row (j .found)
 
-  module _ (o z : List ℕ) (k : ℕ) (n : Name) (wide : Wide o) (low : k + most-levels ≤ deepest) (ln : length n ≤ name-width)
+  -- where there is room for them, there is for the first
+  pub entry-first : {o : List ℕ} → row-start (subtree-rows b at) ≤ length o → Has-row o 0
+  entry-first room = record { room = omega (arith, entry-span) }
+
+  module _ (o z : List ℕ) (k : ℕ) (n : Name) (room : row-start (subtree-rows b at) ≤ length o) (low : k + most-levels ≤ deepest) (ln : length n ≤ name-width)
       (is : z ≡ row-put o 0 (first-row j k n)) where
     -- what its copy asks for
     entry-fits : Fits w o 0 most-levels k n group (j .parent) (j .entry) (j .place)
     entry-fits =
-        let f = j .found in
         record {
           given = j .given;
           name = ln;
@@ -108,8 +119,7 @@ module _ {w : Copier} {b : List ℕ} {at : ℕ} {group : Gid} {path : List ℕ} 
           short = j .short;
           deep = omega (arith, j .short);
           low = omega (arith, j .short);
-          room = omega (arith, at-within f, f .tree .sized .few-rows);
-          wide = wide;
+          room = omega (arith, entry-span);
         }
 
     row-is : z ≡ row-put o 0 (tagged-row w k n group (j .entry) (j .place .here))
@@ -122,7 +132,6 @@ module _ {w : Copier} {b : List ℕ} {at : ℕ} {group : Gid} {path : List ℕ} 
       top = j .top;
       tree = j .found .tree;
       used = entry-used;
-      wide = copy-wide entry-fits row-is;
       order = omega arith;
       level = depth (j .spot);
       name = last (j .spot);

@@ -12,7 +12,7 @@ use Rattle.accounts.specs.declared.Gid.{Gid}
 use Rattle.syntax.specs.Path.{Name, Entry-path, depth, entry-location, is-entry-path, entry-text}
 use Rattle.syntax.specs.PathLaws.{name-fits}
 use Rattle.syntax.specs.FieldLaws.{content-fits}
-use Rattle.tree.specs.Layout.{row-width, most-rows, row-start, name-width, content-width}
+use Rattle.tree.specs.Layout.{row-width, row-start, name-width, content-width}
 use Rattle.tree.specs.Forest.{Forest, nil, node, Place, size, larger, height}
 use Rattle.tree.specs.ForestLaws.{height-node}
 use Rattle.tree.specs.Node.{Node, new-node}
@@ -25,13 +25,13 @@ use Rattle.tree.specs.RowPlaces.{place-rows}
 use Rattle.tree.specs.Encoding.{row-bytes}
 use Rattle.tree.specs.RowBytesLaws.{node-parts}
 use Rattle.tree.specs.RowAt.{row-count, row-at, all-rows, tag-text-at}
-use Rattle.tree.specs.TreeBytes.{Wide, Has-row}
+use Rattle.tree.specs.TreeBytes.{Has-row}
 use Rattle.copying.specs.declared.Copier.{Copier}
 use Rattle.copying.specs.Copying.{copy-mode, copied, copy}
 use Rattle.copying.specs.CopyRows.{deepest, most-levels, Holds-row, row-put, Spelled, child-entry, read-by, copy-rows, tagged-row, copy-of-row, children, alone, Below, Job, job-rows, Written}
 use Rattle.copying.specs.CopyRowLaws.{row-held, row-stands, children-stand, stands-end, first-stands, others-stand, primary-group, copied-plain, copy-place-rows, copy-rows-nil, copy-rows-few, copy-rows-more, copy-rows-read, copy-rows-skipped}
 use Rattle.copying.specs.CopyBytesLaws.{child-depth, child-valid, length-fitting, copy-fitting, tag-there, depth-there}
-use Rattle.copying.specs.RowsWrittenLaws.{written-as, written-nothing, written-one, written-join, written-wide, tag-kept, depth-kept}
+use Rattle.copying.specs.RowsWrittenLaws.{written-as, written-nothing, written-one, written-join, written-length, tag-kept, depth-kept}
 
 -- ---- one node
 
@@ -54,14 +54,13 @@ pub record Fits (w : Copier) (o : List ℕ) (to left k : ℕ) (n : Name) (group 
   pub short : depth (entry-location e) + height (d .below) ≤ most-levels
   pub deep : height (d .below) ≤ left
   pub low : k + height (d .below) ≤ deepest
-  pub room : to + suc (size (d .below)) ≤ most-rows
-  pub wide : Wide o
+  pub room : row-start (to + suc (size (d .below))) ≤ length o
 
 -- its row is written
 module _ {w : Copier} {o z : List ℕ} {to left k : ℕ} {n : Name} {group : Gid} {parent : Node} {e : Entry-path} {d : Place Node} (f : Fits w o to left k n group parent e d)
     (is : z ≡ row-put o to (tagged-row w k n group e (d .here))) where
   start-fits : row-start to ≤ length o
-  start-fits = omega (arith, f .wide, f .room)
+  start-fits = omega (arith, f .room)
 
   tag-is : tag-text-at z to ≡ entry-text e
   tag-is = ap (λ (s : List ℕ). tag-text-at s to) is ∙ tag-there w k n group e (d .here) o to (f .name) (f .content) (f .valid) start-fits
@@ -73,8 +72,8 @@ module _ {w : Copier} {o z : List ℕ} {to left k : ℕ} {n : Name} {group : Gid
   row-wide = length-fitting (tagged-row w k n group e (d .here)) (copy-fitting w k n group e (d .here) (f .name) (f .content) (f .valid))
 
   -- the row leaves as many bytes
-  pub copy-wide : Wide z
-  copy-wide = ap length is ∙ length-paste o (row-start to) (row-bytes (tagged-row w k n group e (d .here))) row-width (omega (arith, f .wide, f .room)) (omega (arith, row-wide)) ∙ f .wide
+  pub copy-length : length z ≡ length o
+  copy-length = ap length is ∙ length-paste o (row-start to) (row-bytes (tagged-row w k n group e (d .here))) row-width (omega (arith, f .room)) (omega (arith, row-wide))
 
   -- its children go below it
   pub below-copy : Below z to (to + 1) left (d .below)
@@ -88,7 +87,7 @@ module _ {w : Copier} {o z : List ℕ} {to left k : ℕ} {n : Name} {group : Gid
     short = f .short;
     deep = f .deep;
     low = omega (arith, f .low, depth-is);
-    room = omega (arith, f .room);
+    room = omega (arith, f .room, copy-length);
   }
 
   -- and with their copies it is the place's
@@ -102,7 +101,7 @@ module _ {w : Copier} {o z : List ℕ} {to left k : ℕ} {n : Name} {group : Gid
       let few = copy-rows-few w k p e (d .below) in
       let v2 : Written z (to + 1) rest r y = written-as (ap (λ (m : ℕ). copy-rows w m p e (d .below)) depth-is) v in
       written-as (sym (copy-place-rows w parent e group k n d (f .given)))
-      (written-join (written-one o z to row row-wide is) (f .wide) v2 (omega (arith, f .room)))
+      (written-join (written-one o z to row row-wide is) v2 (omega (arith, f .room)))
 
 module _ (w : Copier) {b o : List ℕ} {at above to left : ℕ} (j : Job alone b o at above to (suc left)) where
   abbrev entry : Entry-path
@@ -134,7 +133,6 @@ module _ (w : Copier) {b o : List ℕ} {at above to left : ℕ} (j : Job alone b
         deep = omega (arith, g .deep);
         low = omega (arith, g .low);
         room = omega (arith, g .room);
-        wide = j .wide;
       }
 
   -- a node that may not be read
@@ -147,7 +145,7 @@ module _ (w : Copier) {b o : List ℕ} {at above to left : ℕ} (j : Job alone b
 
   -- there is room for its copy
   pub node-room : Has-row o to
-  node-room = record { wide = j .wide; low = omega (arith, node-place .room) }
+  node-room = record { room = omega (arith, node-place .room) }
 
   -- at the next depth
   pub node-low : row-at o above .depth < deepest
@@ -170,7 +168,6 @@ module _ (w : Copier) {b o : List ℕ} {at above to left : ℕ} (j : Job alone b
       top = j .top;
       tree = j .tree;
       used = j .used;
-      wide = copy-wide node-place row-is;
       order = omega arith;
       level = j .level;
       name = j .name;
@@ -261,8 +258,8 @@ module _ (w : Copier) {b o : List ℕ} {at above to left : ℕ} (j : Job childre
 
   module _ {z : List ℕ} {i next : ℕ} (t : Turn z i next) where
     -- the rows written leave as many bytes
-    pub turn-wide : Wide z
-    turn-wide = written-wide (t .wrote) (j .wide) (omega (arith, j .below .room, t .few))
+    pub turn-length : length z ≡ length o
+    turn-length = written-length (t .wrote) (omega (arith, j .below .room, t .few))
 
     -- behind the last sibling all is written
     pub turn-end : end-of-subtree (all-rows b) at ≤ i → Written o to (job-rows w j) next z
@@ -308,7 +305,6 @@ module _ (w : Copier) {b o : List ℕ} {at above to left : ℕ} (j : Job childre
             top = j .top;
             tree = j .tree;
             used = record { sized = j .used .sized; used = used };
-            wide = turn-wide;
             order = omega (arith, j .order, t .wrote .next);
             level = suc (j .level);
             name = f .name;
@@ -317,14 +313,14 @@ module _ (w : Copier) {b o : List ℕ} {at above to left : ℕ} (j : Job childre
             below = record {
               entry = g .entry;
               parent = g .parent;
-              tagged = tag-kept (t .wrote) (j .wide) above (j .order) (omega (arith, g .room)) ∙ g .tagged;
+              tagged = tag-kept (t .wrote) above (j .order) (omega (arith, g .room)) ∙ g .tagged;
               valid = g .valid;
               plain = g .plain;
               whole = forest-of-parts (f .name) (f .place) nil (record { name = v .name; first = v .first; leading = leads-nil (f .name); others = forest-nil });
               short = omega (arith, g .short, t .high);
               deep = omega (arith, g .deep, t .high);
-              low = omega (arith, g .low, t .high, depth-kept (t .wrote) (j .wide) above (j .order) (omega (arith, g .room)));
-              room = omega (arith, g .room, t .few, t .wrote .next);
+              low = omega (arith, g .low, t .high, depth-kept (t .wrote) above (j .order) (omega (arith, g .room)));
+              room = omega (arith, g .room, t .few, t .wrote .next, turn-length);
             };
           }
 
@@ -340,7 +336,7 @@ module _ (w : Copier) {b o : List ℕ} {at above to left : ℕ} (j : Job childre
           let si = size-alone (f .name) (f .place) in
           let new = rows-of (alone (f .name) (f .place)) in
           let few = copy-rows-few w m (g .parent) (g .entry) (alone (f .name) (f .place)) in
-          let q = ap (λ (k : ℕ). copy-rows w k (g .parent) (g .entry) (alone (f .name) (f .place))) (depth-kept (t .wrote) (j .wide) above (j .order) (omega (arith, g .room))) in
+          let q = ap (λ (k : ℕ). copy-rows w k (g .parent) (g .entry) (alone (f .name) (f .place))) (depth-kept (t .wrote) above (j .order) (omega (arith, g .room))) in
           let v2 : Written z next new r y = written-as q v in
           let st = first-stands (all-rows b) i (j .level) (f .name) (f .place .here) (f .place .below) (f .others) (j .stands .post) first-here (j .stands .stops) in
           let e = stands-end st in
@@ -350,7 +346,7 @@ module _ (w : Copier) {b o : List ℕ} {at above to left : ℕ} (j : Job childre
             done = t .done ++ new;
             here = ap (λ (k : ℕ). drop k (all-rows b)) e
                 ∙ others-stand (all-rows b) i (j .level) (f .name) (f .place .here) (f .place .below) (f .others) (j .stands .post) first-here;
-            wrote = written-join (t .wrote) (j .wide) v2 (omega (arith, g .room, t .few));
+            wrote = written-join (t .wrote) v2 (omega (arith, g .room, t .few));
             goes = t .goes ∙ ap (λ (F : Forest Node). t .done ++ rows-of F) (f .is)
                 ∙ ap (λ (k : List (Row Node)). t .done ++ k) (copy-rows-more w m (g .parent) (g .entry) (f .name) (f .place) (f .others))
                 ∙ sym (append-assoc (t .done) new (rows-of (f .others)));

@@ -26,7 +26,7 @@ use Rattle.tree.specs.EncodingLaws.{fits-parts}
 use Rattle.tree.specs.RowAt.{row-count, row-at, all-rows}
 use Rattle.tree.specs.RowAtLaws.{row-in-rows}
 use Rattle.tree.specs.TreeBytes.{Encodes}
-use Rattle.tree.specs.TreeBytesLaws.{encoded-fits, encoded-row-bytes}
+use Rattle.tree.specs.TreeBytesLaws.{used-row, encoded-fits, encoded-row-bytes}
 use Rattle.copying.specs.declared.Copier.{Copier}
 use Rattle.copying.specs.Copying.{below-rep, copy-mode, copy-node, copied, copy-children, copy}
 use Rattle.copying.specs.CopyLaws.{copy-mode-fits}
@@ -37,7 +37,7 @@ use Rattle.copying.specs.CopyRows.{Holds-row, Stands, child-entry, read-
 -- each row of a well-formed tree is held
 pub row-held : (b : List ℕ) (t : Place Node) (i : ℕ) → Encodes b t → i < row-count b → Holds-row b i
 row-held b t i e h = record {
-  has = record { wide = e .sized .wide; low = omega (arith, e .sized .few-rows) };
+  has = used-row (record { sized = e .sized; used = h });
   own = fits-parts (row-at b i) (encoded-fits e h) .0;
   bytes = encoded-row-bytes e h;
 }

@@ -3,7 +3,7 @@
 use mathlib.Core.Path.{_≡_}
 use mathlib.Core.List.{List, _++_}
 use mathlib.Core.Bool.{Bool, true, false}
-use Prim.Native.Nat.{ℕ, zero, suc, _+_, _*_, _≤_, _<_}
+use Prim.Native.Nat.{ℕ, zero, suc, _+_, _-_, _*_, _≤_, _<_}
 use lib.Dec.{eqb}
 use lib.ListN.{length, drop}
 use lib.Seq.{paste}
@@ -13,16 +13,17 @@ use Rattle.accounts.specs.declared.Uid.{Uid}
 use Rattle.accounts.specs.declared.Gid.{Gid}
 use Rattle.syntax.specs.Number.{set-gid}
 use Rattle.syntax.specs.Path.{Name, Path, Entry-path, depth, entry-location, is-entry-path, entry-text}
-use Rattle.tree.specs.Layout.{row-width, most-rows, row-start}
+use Rattle.tree.specs.Layout.{row-width, row-start}
 use Rattle.tree.specs.Forest.{Forest, nil, node, Place, size, larger, height}
 use Rattle.tree.specs.Node.{Node, set-tag, new-node}
 use Rattle.tree.specs.Walk.{by-modes}
 use Rattle.tree.specs.WellFormed.{is-node, is-forest}
 use Rattle.tree.specs.Rows.{Row, flatten}
+use Rattle.tree.specs.RowScan.{end-of-subtree}
 use Rattle.tree.specs.RowPlaces.{place-rows, ends}
 use Rattle.tree.specs.Encoding.{row-bytes}
 use Rattle.tree.specs.RowAt.{row-bytes-at, row-at, all-rows, tag-text-at}
-use Rattle.tree.specs.TreeBytes.{Wide, Has-row, Used, Encodes, At}
+use Rattle.tree.specs.TreeBytes.{Has-row, Used, Encodes, At}
 use Rattle.copying.specs.declared.Copier.{Copier}
 use Rattle.copying.specs.Copying.{below-rep, Source, nodes-by, copy-mode, copy-children, copy}
 
@@ -99,7 +100,7 @@ children n d = d .below
 abbrev pub alone : Name → Place Node → Forest Node
 alone n d = node n (d .here) (d .below) nil
 
--- the copies of siblings F fit below the copy at row `above` of o, from row `to` on; `left` levels at most
+-- the copies of siblings F fit below the copy at row `above` of o, from row `to` on, with room for one of each; `left` levels at most
 pub record Below (o : List ℕ) (above to left : ℕ) (F : Forest Node) : Type 0 where
   pub entry : Entry-path
   pub parent : Node
@@ -110,14 +111,13 @@ pub record Below (o : List ℕ) (above to left : ℕ) (F : Forest Node) : Type 0
   pub short : depth (entry-location entry) + height F ≤ most-levels
   pub deep : height F ≤ left
   pub low : row-at o above .depth + height F ≤ deepest
-  pub room : to + size F ≤ most-rows
+  pub room : row-start (to + size F) ≤ length o
 
 -- the place at row `at` of a tree's bytes b, and where the copies go
 pub record Job (what : Name → Place Node → Forest Node) (b o : List ℕ) (at above to left : ℕ) : Type 0 where
   pub top : Place Node
   pub tree : Encodes b top
   pub used : Used b at
-  pub wide : Wide o
   pub order : above < to
   pub level : ℕ
   pub name : Name
@@ -147,6 +147,10 @@ Job-written what w b o at above to left r z = (j : Job what b o at above to left
 unfoldable pub deepest-from : List ℕ → ℕ → ℕ → ℕ → ℕ
 deepest-from b m i zero = m
 deepest-from b m i (suc n) = deepest-from b (larger m (row-at b i .depth)) (suc i) n
+
+-- how many rows the place at row `at` has with all below it: there are no more copies
+abbrev pub subtree-rows : List ℕ → ℕ → ℕ
+subtree-rows b at = end-of-subtree (all-rows b) at - at
 
 -- an entry to copy: the place at row `at` of a tree's bytes, with its path as text, and the group of a new node in the directory that the copy goes to
 pub record Entry-job (w : Copier) (b : List ℕ) (at : ℕ) (group : Gid) (path : List ℕ) : Type 0 where

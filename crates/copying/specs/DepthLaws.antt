@@ -18,7 +18,6 @@ use Rattle.tree.specs.Rows.{Row}
 use Rattle.tree.specs.RowPlaces.{place-rows}
 use Rattle.tree.specs.Encoding.{row-bytes, read-row}
 use Rattle.tree.specs.RowAt.{row-bytes-at, row-at}
-use Rattle.tree.specs.TreeBytes.{Wide}
 use Rattle.walks.specs.RowBelow.{deepest-in}
 use Rattle.walks.specs.RowBelowLaws.{deepest-place}
 use Rattle.copying.specs.CopyRows.{is-wide, Written, deepest-from}
@@ -65,16 +64,16 @@ deepest-between (r ∷ rs) P Q m i l h =
     ∙ deepest-between rs (P ++ R) Q (larger m (r .depth)) (suc i) (length-append P R ∙ omega arith) (w .1)
 
 -- the greatest depth among rows that were written
-deepest-written : {o z : List ℕ} {r : ℕ} {rs : List (Row Node)} → Written o 0 rs r z → Wide o → deepest-from z 0 0 r ≡ deepest-in 0 rs
-deepest-written {o} {z} {r} {rs} v wide =
+deepest-written : {o z : List ℕ} {r : ℕ} {rs : List (Row Node)} → Written o 0 rs r z → row-start 0 ≤ length o → deepest-from z 0 0 r ≡ deepest-in 0 rs
+deepest-written {o} {z} {r} {rs} v room =
     let P = take (row-start 0) o in
     let D = drop (row-start 0 + row-width * length rs) o in
     let k : r ≡ length rs = omega (arith, v .next) in
-    ap (λ (s : List ℕ). deepest-from s 0 0 r) (written-pieces v wide)
+    ap (λ (s : List ℕ). deepest-from s 0 0 r) (written-pieces v)
     ∙ ap (deepest-from (P ++ (all-bytes row-bytes rs ++ D)) 0 0) k
-    ∙ deepest-between rs P D 0 0 (length-take-le (row-start 0) o (omega arith)) (v .wide)
+    ∙ deepest-between rs P D 0 0 (length-take-le (row-start 0) o room) (v .wide)
 
 -- among those of a place at depth k
-pub deepest-of-place : {o z : List ℕ} {r : ℕ} (k : ℕ) (n : Name) (d : Place Node) → Written o 0 (place-rows k n d) r z → Wide o
+pub deepest-of-place : {o z : List ℕ} {r : ℕ} (k : ℕ) (n : Name) (d : Place Node) → Written o 0 (place-rows k n d) r z → row-start 0 ≤ length o
     → deepest-from z 0 0 r ≡ k + height (d .below)
-deepest-of-place k n d v wide = deepest-written v wide ∙ deepest-place k n d
+deepest-of-place k n d v room = deepest-written v room ∙ deepest-place k n d

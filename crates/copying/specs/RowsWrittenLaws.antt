@@ -12,12 +12,11 @@ use Rattle.buffers.specs.TextLaws.{every-append}
 use Rattle.buffers.specs.Fields.{all-bytes}
 use Rattle.buffers.specs.TableLaws.{length-all-bytes}
 use Rattle.buffers.specs.PasteLaws.{paste-join}
-use Rattle.tree.specs.Layout.{row-width, most-rows, row-start}
+use Rattle.tree.specs.Layout.{row-width, row-start}
 use Rattle.tree.specs.Node.{Node}
 use Rattle.tree.specs.Rows.{Row}
 use Rattle.tree.specs.Encoding.{row-bytes}
 use Rattle.tree.specs.RowAt.{row-at, tag-text-at}
-use Rattle.tree.specs.TreeBytes.{Wide}
 use Rattle.edits.specs.EncodedRowsLaws.{all-append}
 use Rattle.copying.specs.CopyRows.{row-put, is-wide, Written}
 use Rattle.copying.specs.CopyBytesLaws.{tag-beside, depth-beside}
@@ -47,9 +46,9 @@ written-one o z to r l e =
     let q = append-nil (row-bytes r) in
     record { next = omega arith; bytes = e ∙ ap (λ (s : List ℕ). paste o (row-start to) s row-width) (sym q); wide = rw (eq-eqb (length (row-bytes r)) row-width l) }
 
-module _ {o z : List ℕ} {to r : ℕ} {xs : List (Row Node)} (v : Written o to xs r z) (wide : Wide o) where
+module _ {o z : List ℕ} {to r : ℕ} {xs : List (Row Node)} (v : Written o to xs r z) where
   -- and others behind them
-  pub written-join : {y : List ℕ} {q : ℕ} {ys : List (Row Node)} → Written z r ys q y → to + length xs + length ys ≤ most-rows → Written o to (xs ++ ys) q y
+  pub written-join : {y : List ℕ} {q : ℕ} {ys : List (Row Node)} → Written z r ys q y → row-start (to + length xs + length ys) ≤ length o → Written o to (xs ++ ys) q y
   written-join {y} {q} {ys} w fits =
       let X = all-bytes row-bytes xs in
       let Y = all-bytes row-bytes ys in
@@ -79,16 +78,16 @@ module _ {o z : List ℕ} {to r : ℕ} {xs : List (Row Node)} (v : Written o to 
       ∙ append-assoc (take (row-start to) o) X D
 
   -- as many bytes are left
-  pub written-wide : to + length xs ≤ most-rows → Wide z
-  written-wide fits =
+  pub written-length : row-start (to + length xs) ≤ length o → length z ≡ length o
+  written-length fits =
       let X = all-bytes row-bytes xs in
-      ap length (v .bytes) ∙ length-paste o (row-start to) X (row-width * length xs) (omega arith) (omega (arith, written-width v)) ∙ wide
+      ap length (v .bytes) ∙ length-paste o (row-start to) X (row-width * length xs) (omega arith) (omega (arith, written-width v))
 
-  module _ (i : ℕ) (h : i < to) (fits : to ≤ most-rows) where
+  module _ (i : ℕ) (h : i < to) (fits : row-start to ≤ length o) where
     -- the tags of the rows before them stay
     pub tag-kept : tag-text-at z i ≡ tag-text-at o i
-    tag-kept = ap (λ (s : List ℕ). tag-text-at s i) (v .bytes) ∙ tag-beside o (all-bytes row-bytes xs) (row-width * length xs) i to h fits wide
+    tag-kept = ap (λ (s : List ℕ). tag-text-at s i) (v .bytes) ∙ tag-beside o (all-bytes row-bytes xs) (row-width * length xs) i to h fits
 
     -- and so do their depths
     pub depth-kept : row-at z i .depth ≡ row-at o i .depth
-    depth-kept = ap (λ (s : List ℕ). row-at s i .depth) (v .bytes) ∙ depth-beside o (all-bytes row-bytes xs) (row-width * length xs) i to h fits wide
+    depth-kept = ap (λ (s : List ℕ). row-at s i .depth) (v .bytes) ∙ depth-beside o (all-bytes row-bytes xs) (row-width * length xs) i to h fits

@@ -2,11 +2,11 @@
 ghost use mathlib.Core.Path.{_≡_};
 ghost use Prim.Native.Nat.{suc, _+_, _≤_, _<_};
 ghost use lib.ListN.{length};
-ghost use Rattle.tree.specs.Layout.{name-width};
+ghost use Rattle.tree.specs.Layout.{row-start, name-width};
 ghost use Rattle.tree.specs.RowAt.{row-at};
-ghost use Rattle.tree.specs.TreeBytes.{Wide, Has-row};
+ghost use Rattle.tree.specs.TreeBytes.{Has-row};
 ghost use Rattle.copying.specs.Copying.{copy-mode};
-ghost use Rattle.copying.specs.CopyRows.{deepest, most-levels, Holds-row, row-put, handed-row, Spelled, child-row, children, alone, Job, Job-written, Written, Entry-job, first-row, entry-rows};
+ghost use Rattle.copying.specs.CopyRows.{deepest, most-levels, Holds-row, row-put, handed-row, Spelled, child-row, children, alone, Job, Job-written, Written, Entry-job, subtree-rows, first-row, entry-rows};
 use crate::Copier;
 use accounts::Gid;
 use accounts::Uid;
@@ -147,7 +147,7 @@ fn copy_first(
     out: &mut [u8],
 )
     requires { ⌜ Entry-job who (now tree) at group (now path) ⌝ }
-    requires { ⌜ Wide (now out) ⌝ }
+    requires { ⌜ Has-row (now out) 0 ⌝ }
     requires { ⌜ length (now name) ≤ name-width ⌝ }
     ensures { λ _. ⌜ ((j : Entry-job who (now (tree .entry)) at group (now (path .entry)))
         → now (out .exit) ≡ row-put (now (out .entry)) 0 (first-row j depth (now (name .entry)))) ⌝ }
@@ -172,7 +172,7 @@ pub fn copy_entry(
     out: &mut [u8],
 ) -> usize
     requires { ⌜ Entry-job who (now tree) at group (now path) ⌝ }
-    requires { ⌜ Wide (now out) ⌝ }
+    requires { ⌜ row-start (subtree-rows (now tree) at) ≤ length (now out) ⌝ }
     requires { ⌜ depth + most-levels ≤ deepest ⌝ }
     requires { ⌜ length (now name) ≤ name-width ⌝ }
     ensures { λ r. ⌜ ((j : Entry-job who (now (tree .entry)) at group (now (path .entry)))

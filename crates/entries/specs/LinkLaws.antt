@@ -42,7 +42,7 @@ use Rattle.tree.specs.RowPlaces.{index-of}
 use Rattle.tree.specs.Encoding.{encode-tree}
 use Rattle.tree.specs.RowAt.{row-at, tag-text-at, tag-number-at}
 use Rattle.tree.specs.TreeBytes.{Has-row, Encodes, At, Path-text}
-use Rattle.tree.specs.TreeBytesLaws.{at-used, at-here}
+use Rattle.tree.specs.TreeBytesLaws.{used-row, at-used, at-here}
 use Rattle.tree.specs.TagBytesLaws.{tag-reads, tag-written, tag-blank}
 use Rattle.edits.specs.Changes.{field-put, content-field}
 use Rattle.node_fields.specs.FieldEditLaws.{revision-law, tag-revision-law, copy-content-law}
@@ -73,14 +73,14 @@ tests-then {B = B} r d f = sym (then-bind r (done d) (λ y. done (f y)) ∙ ap (
 -- a place has a row, and its node is in range
 module _ {b : List ℕ} {t : Place Node} {p : Path} {i : ℕ} {d : Place Node} (a : At b t p i d) where
   pub at-has-row : Has-row b i
-  at-has-row = let u = at-used a in record { wide = u .sized .wide; low = omega (arith, u .used, u .sized .few-rows) }
+  at-has-row = used-row (at-used a)
 
   pub at-node : is-node (d .here) ≡ true
   at-node = place-node d (place-below t p d (tree-parts t (a .tree .whole) .whole) (a .there))
 
 -- a row has room where the length stays
 pub has-still : {b b′ : List ℕ} {i : ℕ} → Has-row b i → length b′ ≡ length b → Has-row b′ i
-has-still h e = record { wide = e ∙ h .wide; low = h .low }
+has-still h e = record { room = omega (arith, h .room) }
 
 -- ---- the walk to a node that passes tests
 

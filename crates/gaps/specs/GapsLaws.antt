@@ -36,7 +36,7 @@ use Rattle.tree.specs.RowPlaces.{place-rows, lesser}
 use Rattle.tree.specs.Encoding.{row-bytes, encode-tree}
 use Rattle.tree.specs.RowAt.{row-at, all-rows}
 use Rattle.tree.specs.TreeBytes.{Has-row, Insertable, Encodes, At}
-use Rattle.tree.specs.TreeBytesLaws.{encoded-count, at-index, at-used, at-row, at-here, at-found, at-missing}
+use Rattle.tree.specs.TreeBytesLaws.{used-row, encoded-count, at-index, at-used, at-row, at-here, at-found, at-missing}
 use Rattle.edits.specs.declared.Fresh.{Fresh}
 use Rattle.edits.specs.Changes.{rows-put, fresh-node, fresh-row}
 use Rattle.edits.specs.EditLaws.{spot-bound, put-law, child-law}
@@ -65,7 +65,7 @@ module _ (s : Text) {p : Path} (reads : path s ≡ some p) where
 module _ {b : List ℕ} {t : Place Node} {q : Path} {row : ℕ} {d : Place Node} (a : At b t q row d) where
   -- there is room for its row
   pub place-row : Has-row b row
-  place-row = let u = at-used a in record { wide = u .sized .wide; low = omega (arith, u .used, u .sized .few-rows) }
+  place-row = used-row (at-used a)
 
   -- no place lies deeper than 6 names
   pub place-depth : row-at b row .depth ≤ 6

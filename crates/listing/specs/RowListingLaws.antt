@@ -33,7 +33,7 @@ use Rattle.tree.specs.Encoding.{Tag-told, told-none, told-tag}
 use Rattle.tree.specs.RowAt.{row-count, row-at, all-rows, tag-text-at, tag-number-at}
 use Rattle.tree.specs.RowAtLaws.{length-all-rows, row-in-rows}
 use Rattle.tree.specs.TreeBytes.{Has-row, Encodes, Whole}
-use Rattle.tree.specs.TreeBytesLaws.{encoded-rows, encoded-tag, at-root, at-row}
+use Rattle.tree.specs.TreeBytesLaws.{has-row, used-row, encoded-rows, encoded-tag, at-root, at-row}
 use Rattle.listing.specs.Listing.{kind-text, tag-fields, node-line, forest-lines, listing, Line-written}
 use Rattle.listing.specs.RowListing.{Names-seen, none-seen, row-seen, rows-seen, path-seen, lines-behind, lines-in, names-among, row-path, names-told, Last-rows, Wrote-most, or-dash, owner-fields, number-fields, tag-fields-at, fields-at}
 
@@ -125,7 +125,7 @@ line-of-row {b} {t} e n h =
 pub last-none : {b : List ℕ} {t : Place Node} → Encodes b t → Last-rows b 0 (replicate 7 0)
 unfolding names-among rows-seen last
 last-none {b} e = record {
-  told = record { size = refl; there = λ k h. rw (getD-replicate {A = ℕ} 7 k 0 0 h) (record { wide = e .sized .wide; low = omega arith }) };
+  told = record { size = refl; there = λ k h. rw (getD-replicate {A = ℕ} 7 k 0 0 h) (has-row (e .sized .wide) (omega arith)) };
   same = λ k h. ap (λ (i : ℕ). row-at b i .name) (getD-replicate {A = ℕ} 7 k 0 0 h) ∙ ap (λ (r : Row Node). r .name) (at-row (at-root e));
 }
 
@@ -179,7 +179,7 @@ top-path b n e = rw e
 
 -- a row of a tree has room
 pub whole-row : {b : List ℕ} (n : ℕ) → Whole b → n < row-count b → Has-row b n
-whole-row n w h = record { wide = w .1 .sized .wide; low = omega (arith, w .1 .sized .few-rows) }
+whole-row n w h = used-row (record { sized = w .1 .sized; used = h })
 
 -- ---- names written
 

@@ -70,13 +70,3 @@ module _ {b : List ℕ} {at : ℕ} {to : Text} (m : Movable b at to) where
   -- the bytes of a buffer that has held the rows of the place: its rows as they were put in, then what stood there
   unfoldable pub held-after : List ℕ → List ℕ
   held-after held = moved-rows ++ L.drop (row-width * suc (size (m .place .below))) held
-
--- how many rows the arrays have room for that hold them on the way
-abbrev pub few-rows : ℕ
-few-rows = 4
-
-abbrev pub some-rows : ℕ
-some-rows = 16
-
-abbrev pub many-rows : ℕ
-many-rows = 64

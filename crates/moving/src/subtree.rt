@@ -3,13 +3,13 @@ ghost use mathlib.Core.Path.{_≡_};
 ghost use Prim.Native.Nat.{_+_, _*_, _≤_, _<_};
 ghost use lib.ListN.{length, drop};
 ghost use lib.Seq.{paste};
-ghost use Rattle.tree.specs.Layout.{row-width, row-start, most-rows};
+ghost use Rattle.tree.specs.Layout.{row-width, row-start, most-rows, few-rows, some-rows, many-rows};
 ghost use Rattle.tree.specs.RowScan.{end-of-subtree};
 ghost use Rattle.tree.specs.Encoding.{encode-tree};
 ghost use Rattle.tree.specs.RowAt.{row-count, all-rows};
 ghost use Rattle.tree.specs.TreeBytes.{Stretch};
 ghost use Rattle.edits.specs.Changes.{rows-taken};
-ghost use Rattle.moving.specs.Moving.{Vacant, relabelled-for, filled, Movable, moved, held-after, few-rows, some-rows, many-rows};
+ghost use Rattle.moving.specs.Moving.{Vacant, relabelled-for, filled, Movable, moved, held-after};
 use crate::relabel::relabel;
 use accounts::Account;
 use accounts::Groups;
@@ -20,19 +20,14 @@ use edits::take_rows;
 use gaps::Room;
 use gaps::last_name;
 use gaps::room_for;
+use tree::FEW_ROWS;
 use tree::FIRST;
+use tree::MANY_ROWS;
 use tree::ROW;
+use tree::SOME_ROWS;
 use tree::subtree_end;
 
-// The arrays that hold rows on the way have room for so many, or for all of a tree. There are several because to clear one that is
-// much larger than the place takes longer than the move.
-const FEW_ROWS: usize = 4;
-
-const SOME_ROWS: usize = 16;
-
-const MANY_ROWS: usize = 64;
-
-// Their bytes.
+// The bytes of the arrays that hold rows on the way.
 const FEW_WIDTH: usize = 928;
 
 const SOME_WIDTH: usize = 3712;

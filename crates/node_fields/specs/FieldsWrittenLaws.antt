@@ -8,7 +8,7 @@ use lib.Seq.{paste, length-paste, length-take-le, take-append-le, drop-append-le
 use Rattle.buffers.specs.Fields.{two-bytes, padded}
 use Rattle.buffers.specs.FieldsLaws.{length-padded, length-two-bytes, text-part}
 use Rattle.buffers.specs.PasteLaws.{paste-join, paste-piece, set-paste, set-behind}
-use Rattle.tree.specs.Layout.{tree-width, row-start, tag-offset, tag-width, tag-revision-offset, content-offset, content-width}
+use Rattle.tree.specs.Layout.{row-width, row-start, tag-offset, tag-width, tag-revision-offset, content-offset, content-width}
 use Rattle.tree.specs.Rows.{rows}
 use Rattle.tree.specs.RowAt.{tag-text-at}
 use Rattle.tree.specs.RowAtLaws.{text-in-row}
@@ -30,9 +30,9 @@ module _ (b : List ℕ) (i k : ℕ) where
   number-put n = piece-put (two-bytes n) 2 (length-two-bytes n)
 
 -- a tag: its text and its number
-pub tag-put : (b t : List ℕ) (i n : ℕ) → length b ≡ tree-width → i < 256 → length t ≤ tag-width
+pub tag-put : (b t : List ℕ) (i n : ℕ) → row-start i + row-width ≤ length b → length t ≤ tag-width
     → paste (paste b (row-start i + tag-offset) (padded tag-width t) 54) (row-start i + tag-revision-offset) (two-bytes n) 2 ≡ field-put b i tag-offset (padded tag-width t ++ two-bytes n)
-tag-put b t i n e h l =
+tag-put b t i n h l =
     let T = padded tag-width t in
     let lT = length-padded tag-width t l in
     let lN = length-two-bytes n in
@@ -92,12 +92,12 @@ joined-put b t m at n from c e w h before fits =
     ∙ text-in-zeros b T at 54 (omega arith) fits
 
 -- the tag of a child: the text of a tag before, a slash and a name
-pub tag-below-put : (b m : List ℕ) (i above n v : ℕ) → length b ≡ tree-width → i < 256 → above < i → n ≡ length (tag-text-at b above) → n + length m < 54
+pub tag-below-put : (b m : List ℕ) (i above n v : ℕ) → row-start i + row-width ≤ length b → above < i → n ≡ length (tag-text-at b above) → n + length m < 54
     → paste (paste (set (paste (paste b (row-start i + tag-offset) (replicate 54 0) 54) (row-start i + tag-offset) (drop (row-start above + tag-offset) (paste b (row-start i + tag-offset) (replicate 54 0) 54)) n)
     (row-start i + tag-offset + n) 47) (row-start i + 17 + n) m (length m)) (row-start i + tag-revision-offset) (two-bytes v) 2
     ≡ field-put b i tag-offset (padded tag-width (tag-text-at b above ++ (47 ∷ m)) ++ two-bytes v)
 unfolding tag-text-at
-tag-below-put b m i above n v e h below q l =
+tag-below-put b m i above n v h below q l =
     let t = tag-text-at b above in
     let at = row-start i + tag-offset in
     let from = row-start above + tag-offset in
@@ -107,13 +107,13 @@ tag-below-put b m i above n v e h below q l =
     let u : row-start i + 17 + n ≡ at + 1 + n = omega arith in
     ap (λ (j : ℕ). paste (paste (set (paste Z at (drop from Z) n) (at + n) 47) j m (length m)) (row-start i + tag-revision-offset) (two-bytes v) 2) u
     ∙ ap (λ (s : List ℕ). paste s (row-start i + tag-revision-offset) (two-bytes v) 2) (joined-put b t m at n from 47 (sym q) part l (omega arith) (omega arith))
-    ∙ tag-put b (t ++ (47 ∷ m)) i v e h (omega (arith, length-append t (47 ∷ m)))
+    ∙ tag-put b (t ++ (47 ∷ m)) i v h (omega (arith, length-append t (47 ∷ m)))
 
 -- a content copied from another row
-pub content-copied : (b : List ℕ) (from to : ℕ) → length b ≡ tree-width → from < 256
+pub content-copied : (b : List ℕ) (from to : ℕ) → row-start from + row-width ≤ length b
     → paste b (row-start to + content-offset) (drop (row-start from + content-offset) b) 80 ≡ field-put b to content-offset (field-bytes b from content-offset content-width)
 unfolding field-bytes
-content-copied b from to e h =
+content-copied b from to h =
     let D = drop (row-start from + content-offset) b in
     let l : 80 ≤ length D = omega (arith, length-drop (row-start from + content-offset) b) in
     ap (λ (s : List ℕ). take (row-start to + content-offset) b ++ s ++ drop (row-start to + content-offset + 80) b) (sym (take-take 80 80 D (omega arith)))

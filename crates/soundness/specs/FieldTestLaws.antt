@@ -15,7 +15,7 @@ use Rattle.syntax.specs.Number.{is-mode}
 use Rattle.syntax.specs.Path.{entry-path}
 use Rattle.syntax.specs.Field.{is-content}
 use Rattle.syntax.specs.Form.{is-some}
-use Rattle.tree.specs.Layout.{row-width, tree-width, row-start, kind-offset, owner-offset, group-offset, name-offset, name-width, tag-offset, tag-revision-offset, content-offset}
+use Rattle.tree.specs.Layout.{row-width, row-start, kind-offset, owner-offset, group-offset, name-offset, name-width, tag-offset, tag-revision-offset, content-offset}
 use Rattle.tree.specs.WellFormed.{last-revision, fits-kind}
 use Rattle.tree.specs.Encoding.{read-row}
 use Rattle.tree.specs.RowAt.{row-bytes-at, row-at, tag-text-at, tag-number-at}
@@ -89,7 +89,7 @@ module _ (b : List ℕ) (i : ℕ) where
   unfolding has-content row-at read-row
   content-kind e = simp (e, and-false)
 
-  module _ (l : length b ≡ tree-width) (h : i < 256) where
+  module _ (room : row-start i + row-width ≤ length b) where
     length-row : length (row-bytes-at b i) ≡ row-width
     unfolding row-bytes-at
     length-row = length-take-le row-width (drop (row-start i) b) (omega (arith, length-drop (row-start i) b))

@@ -15,6 +15,16 @@ row-width = 232
 abbrev pub most-rows : ℕ
 most-rows = 256
 
+-- how many rows the arrays have room for that hold some on the way
+abbrev pub few-rows : ℕ
+few-rows = 4
+
+abbrev pub some-rows : ℕ
+some-rows = 16
+
+abbrev pub many-rows : ℕ
+many-rows = 64
+
 -- the number of rows, and all rows
 abbrev pub tree-width : ℕ
 tree-width = 59394

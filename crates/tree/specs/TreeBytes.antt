@@ -1,5 +1,5 @@
--- What it is that bytes are a tree's: as many as a tree has, with room for a row, with a row in use, with a number of rows; the
--- bytes of a well-formed tree; and the row of a place in them. What the code asks for is said in these words.
+-- What it is that bytes are a tree's: as many as a tree has, with a number of rows, with a row in use; the bytes of a well-formed
+-- tree; the row of a place in them; and room for a row, in whatever bytes. What the code asks for is said in these words.
 use mathlib.Core.Path.{_≡_}
 use mathlib.Core.List.{List}
 use mathlib.Core.Option.{some}
@@ -8,7 +8,7 @@ use Prim.Native.Nat.{ℕ, _+_, _≤_, _<_}
 use lib.ListN.{length}
 use Rattle.buffers.specs.Text.{Text}
 use Rattle.syntax.specs.Path.{Path, Entry-path, path, entry-path}
-use Rattle.tree.specs.Layout.{most-rows, tree-width}
+use Rattle.tree.specs.Layout.{row-width, most-rows, tree-width, row-start}
 use Rattle.tree.specs.Forest.{Place, place-at}
 use Rattle.tree.specs.Node.{Node}
 use Rattle.tree.specs.WellFormed.{is-tree}
@@ -20,10 +20,9 @@ use Rattle.tree.specs.RowAt.{row-count}
 abbrev pub Wide : List ℕ → Type 0
 Wide b = length b ≡ tree-width
 
--- and room for a row at the index
+-- room for a row at the index, which is all that its fields ask for: the bytes may be a tree's, or a buffer's for a few rows
 pub record Has-row (b : List ℕ) (i : ℕ) : Type 0 where
-  pub wide : Wide b
-  pub low : i < most-rows
+  pub room : row-start i + row-width ≤ length b
 
 -- with a number of rows: there is one at least, and room for all
 pub record Sized (b : List ℕ) : Type 0 where

@@ -15,7 +15,7 @@ use Rattle.buffers.specs.Fields.{two-bytes}
 use Rattle.buffers.specs.TableLaws.{all-bytes-at}
 use Rattle.syntax.specs.Path.{Name, Path, root, _▹_, last, depth}
 use Rattle.tree.specs.declared.Child.the-variants.{Found, Missing}
-use Rattle.tree.specs.Layout.{row-width, row-start}
+use Rattle.tree.specs.Layout.{row-width, most-rows, row-start}
 use Rattle.tree.specs.Forest.{Place, get, place-at, size}
 use Rattle.tree.specs.Node.{Node}
 use Rattle.tree.specs.WellFormed.{most-nodes, is-tree, nodes}
@@ -32,8 +32,18 @@ use Rattle.tree.specs.Encoding.{Tag-told, row-bytes, encode-rows, encode
 use Rattle.tree.specs.RowBytesLaws.{tag-in-bytes}
 use Rattle.tree.specs.EncodingLaws.{fits, fits-parts, tree-fits, length-fitting, tree-width-is, length-encode-tree}
 use Rattle.tree.specs.RowAt.{row-count, row-bytes-at, row-at, all-rows, tag-text-at, tag-number-at}
-use Rattle.tree.specs.TreeBytes.{Used, Encodes, At}
+use Rattle.tree.specs.TreeBytes.{Wide, Has-row, Used, Encodes, At}
 use Rattle.tree.specs.RowAtLaws.{row-in-rows, all-rows-of-tree, row-count-of-tree}
+
+-- ---- room for a row
+
+-- in as many bytes as a tree has there is room for each of its rows
+pub has-row : {b : List ℕ} {i : ℕ} → Wide b → i < most-rows → Has-row b i
+has-row wide low = record { room = omega arith }
+
+-- so there is for one in use
+pub used-row : {b : List ℕ} {i : ℕ} → Used b i → Has-row b i
+used-row u = has-row (u .sized .wide) (omega (arith, u .used, u .sized .few-rows))
 
 -- ---- a tree's bytes
 

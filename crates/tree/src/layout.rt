@@ -23,6 +23,14 @@ pub const ROW: usize = 232;
 // How many rows there is room for.
 pub const MOST_ROWS: usize = 256;
 
+// Arrays that hold rows on the way have room for so many, or for all of a tree. There are several because to clear one that is much
+// larger than the rows takes longer than to move or to copy them.
+pub const FEW_ROWS: usize = 4;
+
+pub const SOME_ROWS: usize = 16;
+
+pub const MANY_ROWS: usize = 64;
+
 // The fields of a row by their offsets, but for the depth, which stands first.
 pub const KIND: usize = 1;
 

@@ -1,6 +1,7 @@
 -- `attributes::checks::may_do` meets its contract: where the walk came to, the tests of the row decide.
 use native.Mathlib.Omega.{arith}
 use denote.Ref.{now}
+use Rattle.tree.specs.TreeBytesLaws.{has-row}
 use Rattle.walks.specs.RowWalkLaws.{walk-came}
 use Rattle.attributes.specs.ChecksLaws.{tested, not-walked}
 use borrow.Author.Needs.{needs}
@@ -21,7 +22,7 @@ test-requires c κs =
     let k = c .before .row .given in
     let walked = c .before .before .before .walk .ensures in
     let w = walk-came (a .account) (now (a .tree)) (now (a .path)) (sized .some-rows) (k .0 .0) (k .0 .1 .0) (k .1) walked in
-    record { wide = sized .wide; low = omega (arith, w .row-in, sized .few-rows) }
+    has-row (sized .wide) (omega (arith, w .row-in, sized .few-rows))
 
 enum-known-cause : tie.Need-enum-known-cause
 enum-known-cause c = search needs

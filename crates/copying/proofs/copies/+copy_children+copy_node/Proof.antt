@@ -5,9 +5,10 @@ use denote.Ref.{now}
 use borrow.Author.Tests.{not-true, not-false}
 use Rattle.tree.specs.RowScan.{end-of-subtree}
 use Rattle.tree.specs.RowAt.{row-count, all-rows}
+use Rattle.tree.specs.TreeBytesLaws.{used-row}
 use Rattle.copying.specs.CopyRows.{children, Job}
 use Rattle.copying.specs.CopyRowLaws.{end-above}
-use Rattle.copying.specs.CopyJobLaws.{Turn, node-held, node-room, node-low, node-spelled, node-skipped, node-children, node-written, no-level, turn-start, turn-wide, turn-end, turn-job, turn-again}
+use Rattle.copying.specs.CopyJobLaws.{Turn, node-held, node-room, node-low, node-spelled, node-skipped, node-children, node-written, no-level, turn-start, turn-length, turn-end, turn-job, turn-again}
 use Prim.Native.Nat.{ℕ, _<_, _+_, _-_}
 use borrow.Fn.Kinds.{In}
 use borrow.Fn.PlainCycle.{Measures, is, falls, and}
@@ -165,7 +166,7 @@ copy-children-same-length : (t : ℕ) → copy-children-lts.Need-same-length (
 copy-children-same-length t c =
     let s = c .before .before .before .before .before .before in
     let j = s .pre .1 in
-    turn-wide (s .args .who) j (c .before .loop .inv j) ∙ sym (j .wide)
+    turn-length (s .args .who) j (c .before .loop .inv j)
 
 copy-children-returns-2 : (t : ℕ) → copy-children-lts.Need-returns-2 (
   subtree-end-reads.Asked,
@@ -187,8 +188,7 @@ copy-node-readable-at-requires : (t : ℕ) → copy-node-lts.Need-readable-at-re
   copy-children.Post,
 ) (copy-node-at t) copy-node.Post
 copy-node-readable-at-requires t c κs =
-    let j = c .before .before .before .pre .1 in
-    record { wide = j .used .sized .wide; low = omega (arith, j .used .used, j .used .sized .few-rows, j .order, j .below .room) }
+    used-row (c .before .before .before .pre .1 .used)
 
 copy-node-returns : (t : ℕ) → copy-node-lts.Need-returns (
   readable-at-reads.Asked,
@@ -226,7 +226,7 @@ copy-node-add-copy-children : (t : ℕ) → copy-node-lts.Need-add-copy-children
 ) (copy-node-at t) copy-node.Post
 copy-node-add-copy-children t c =
     let s = c .before .before .before .before .before .before .before .before .before .before in
-    omega (arith, node-room (s .args .who) (s .pre .1) .low)
+    omega (arith, node-room (s .args .who) (s .pre .1) .room)
 
 copy-node-copy-children-requires : (t : ℕ) → copy-node-lts.Need-copy-children-requires (
   readable-at-reads.Asked,

@@ -1,14 +1,14 @@
 -- `copying::copies::copy_entry` meets its contract: the entry's own row, then its children below it.
 use mathlib.Core.Path.{_∙_}
 use denote.Ref.{now}
-use Rattle.copying.specs.CopyEntryLaws.{entry-children, entry-written}
+use Rattle.copying.specs.CopyEntryLaws.{entry-first, entry-children, entry-written}
 use Rattle.copying.proofs.copies.copy_entry.Statement.{statement}
 use Rattle.copying.proofs.copies.copy_entry.Tie as tie
 
 copy-first-requires : tie.Need-copy-first-requires
 copy-first-requires c κs =
     let p = c .before .before .before .before .before .pre in
-    (p .0, (p .1 .0, p .1 .1 .1))
+    (p .0, (entry-first (p .0) (p .1 .0), p .1 .1 .1))
 
 copy-children-requires : tie.Need-copy-children-requires
 copy-children-requires c κs =

@@ -14,7 +14,7 @@ use Rattle.copying.proofs.copies.copy_first.Tie as tie
 hand-over-requires : tie.Need-hand-over-requires
 hand-over-requires c κs =
     let p = c .before .before .before .before .before .before .before .before .pre in
-    (entry-held (p .0), record { wide = p .1 .0; low = omega arith })
+    (entry-held (p .0), p .1 .0)
 
 add-write-padded : tie.Need-add-write-padded
 add-write-padded c = search needs
@@ -32,7 +32,7 @@ set-tag-requires c κs =
     let p = c .before .before .before .before .before .before .before .before .before .before .before .before .before .before .before .before .before .pre in
     let n = c .before .before .before .before in
     let u = n .before .before .before .before in
-    (record { wide = n .write-padded .kept .0 ∙ u .hand-over .kept .1 .1 .1 .1 .0 ∙ p .1 .0; low = omega arith }, entry-path-fits (p .0))
+    (record { room = omega (arith, n .write-padded .kept .0, u .hand-over .kept .1 .1 .1 .1 .0, p .1 .0 .room) }, entry-path-fits (p .0))
 
 same-length : tie.Need-same-length
 same-length c = search needs
@@ -47,7 +47,7 @@ returns c = λ j.
     let s = c .before .before .before .before .before .before .before .before .before .before .before .before .before .before .before .before .before .before .before .before in
     let a = s .args in
     let p = s .pre in
-    first-copied (now (a .tree)) (a .at) (entry-held j) (now (a .out)) 0 (record { wide = p .1 .0; low = omega arith }) (a .who) (a .depth) (a .group) (u .hand-over .last .1 .1 .1 .1 .0) (u .hand-over .ensures)
+    first-copied (now (a .tree)) (a .at) (entry-held j) (now (a .out)) 0 (p .1 .0) (a .who) (a .depth) (a .group) (u .hand-over .last .1 .1 .1 .1 .0) (u .hand-over .ensures)
     (n .write-padded .last .0) (t .set-tag .last .0) (now (a .name)) (now (a .path)) (v .revision-at .result) (j .entry) (p .1 .1) (j .text) (j .valid) (v .revision-at .ensures) (n .write-padded .ensures) (t .set-tag .ensures)
     ∙ ap (λ (r : Row Node). row-put (now (a .out)) 0 (tagged-row (a .who) (a .depth) (now (a .name)) (a .group) (j .entry) (r .here))) (entry-row j)
 

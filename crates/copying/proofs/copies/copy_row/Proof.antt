@@ -1,6 +1,7 @@
 -- `copying::copies::copy_row` meets its contract: the row handed over, and the tag below that of another.
 use mathlib.Core.Path.{ap, _∙_}
 use Prim.Native.Nat.{ℕ, suc}
+use native.Mathlib.Omega.{arith}
 use native.Mathlib.Numerals.{add-one}
 use denote.Ref.{now}
 use Rattle.tree.specs.RowAt.{row-at}
@@ -31,9 +32,8 @@ set-tag-below-requires c κs =
     let u = n .before .before .before in
     let s = c .before .before .before .before .before .before .before .before .before .before .before .before .before .before .before in
     let a = s .args in
-    let p = s .pre in
-    let wide = u .hand-over .kept .1 .1 .1 .1 .0 ∙ p .1 .0 .wide in (
-      record { wide = wide; low = p .1 .0 .low },
+    let p = s .pre in (
+      record { room = omega (arith, u .hand-over .kept .1 .1 .1 .1 .0, p .1 .0 .room) },
       (
         p .1 .1 .0,
         tag-room (now (a .tree)) (now (a .out)) (u .hand-over .last .1 .1 .1 .1 .0) (a .at) (a .above) (a .to) _ (now (n .name-at .result)) (p .1 .0) (p .1 .1 .0) (u .hand-over .ensures) (p .1 .1 .1 .1) (n .name-at .ensures),

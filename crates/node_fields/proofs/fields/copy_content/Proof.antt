@@ -34,7 +34,7 @@ same-length c = search needs
 returns : tie.Need-returns
 returns c =
     let a = c .before .before .before .before .before .args in
-    c .before .before .move-bytes .ensures ∙ content-copied (now (a .tree)) (a .from) (a .to) (omega arith) (omega arith)
+    c .before .before .move-bytes .ensures ∙ content-copied (now (a .tree)) (a .from) (a .to) (omega arith)
 
 pub copy-content-spec : {M : Type 1} → statement M
 copy-content-spec =

@@ -40,7 +40,7 @@ returns c =
     let a = c .before .before .before .before .before .before .before .before .before .before .args in
     n .write-number .ensures
     ∙ ap (λ (l : List ℕ). paste l (row-start (a .i) + tag-revision-offset) (two-bytes (a .revision)) 2) (p .write-padded .ensures)
-    ∙ tag-put (now (a .tree)) (now (a .path)) (a .i) (a .revision) (omega arith) (omega arith) (omega arith)
+    ∙ tag-put (now (a .tree)) (now (a .path)) (a .i) (a .revision) (omega arith) (omega arith)
 
 pub set-tag-spec : {M : Type 1} → statement M
 set-tag-spec =

@@ -96,7 +96,7 @@ returns c =
     ∙ ap (λ (l : List ℕ). paste l (at + 70) (two-bytes (a .revision)) 2) (p .write .ensures)
     ∙ ap (λ (l : List ℕ). paste (paste (set l (at + 16 + n) 47) (at + 17 + n) name (length name)) (at + 70) (two-bytes (a .revision)) 2) (m .move-bytes .ensures)
     ∙ ap (λ (l : List ℕ). paste (paste (set (paste l (at + 16) (drop from l) n) (at + 16 + n) 47) (at + 17 + n) name (length name)) (at + 70) (two-bytes (a .revision)) 2) (z .clear .ensures)
-    ∙ tag-below-put (now (a .tree)) name (a .i) (a .above) n (a .revision) (s .pre .0 .wide) (s .pre .0 .low) (s .pre .1 .0) q (omega (arith, s .pre .1 .1))
+    ∙ tag-below-put (now (a .tree)) name (a .i) (a .above) n (a .revision) (s .pre .0 .room) (s .pre .1 .0) q (omega (arith, s .pre .1 .1))
 
 pub set-tag-below-spec : {M : Type 1} → statement M
 set-tag-below-spec =

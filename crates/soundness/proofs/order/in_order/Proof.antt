@@ -15,6 +15,7 @@ use Rattle.buffers.specs.Text.{every}
 use Rattle.buffers.specs.TextLaws.{every-getD, every-set}
 use Rattle.tree.specs.declared.Kind.{Kind}
 use Rattle.tree.specs.RowAt.{row-count, row-bytes-at, row-at}
+use Rattle.tree.specs.TreeBytesLaws.{has-row}
 use Rattle.soundness.specs.Sound.{is-row, may-follow}
 use Rattle.soundness.specs.Tests.{rest-in-order}
 use Rattle.soundness.specs.OrderTestLaws.{names-to, follow-low, rest-row, rest-follow, rest-next, rest-end}
@@ -109,7 +110,7 @@ array-read-may-follow : tie.Need-array-read-may-follow Inv-loop μ-loop
 array-read-may-follow c = omega arith
 
 may-follow-requires : tie.Need-may-follow-requires Inv-loop μ-loop
-may-follow-requires c κs = let g = c .before .before .before .before .before .loop .inv in (omega arith, (record { wide = omega arith; low = seen g (c .before .depth-at .result) }, (g .some, omega arith)))
+may-follow-requires c κs = let g = c .before .before .before .before .before .loop .inv in (omega arith, (has-row (omega arith) (seen g (c .before .depth-at .result)), (g .some, omega arith)))
 
 returns-3 : tie.Need-returns-3 Inv-loop μ-loop
 returns-3 c =

@@ -57,7 +57,7 @@ is-zero-requires : tie.Need-is-zero-requires
 unfolding row-at read-row
 is-zero-requires c κs =
     let a = c .before .before .before .before .before .before .before .before .args in
-    let f = text-within (now (a .tree)) (a .i) (omega arith) (omega arith) 72 80 (omega arith) in
+    let f = text-within (now (a .tree)) (a .i) (omega arith) 72 80 (omega arith) in
     let e = ap length (c .before .before .before .before .before .before .content-at .ensures) in
     (omega arith, omega arith)
 
@@ -68,7 +68,7 @@ returns-3 c =
     let s = ap is-content (sym (t .ensures)) ∙ answers-true (c .before .before .before .before .before .before .is-content .ensures) (c .before .before .before .before .before .if1 .left) in
     let e = answers-true (c .before .before .fits-kind .ensures) (c .before .if2 .left) in
     let k = rw (c .before .before .before .before .kind-at .ensures, c .before .before .before .mode-at .ensures, t .ensures) at e in
-    c .is-zero .ensures ∙ sym (content-rest (now (a .tree)) (a .i) (omega arith) (omega arith) (length (now (t .result))) s k (ap length (t .ensures)))
+    c .is-zero .ensures ∙ sym (content-rest (now (a .tree)) (a .i) (omega arith) (length (now (t .result))) s k (ap length (t .ensures)))
 
 pub has-content-spec : {M : Type 1} → statement M
 has-content-spec =

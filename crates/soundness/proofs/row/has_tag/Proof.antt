@@ -55,7 +55,7 @@ is-zero-requires-2 : tie.Need-is-zero-requires-2
 unfolding tag-text-at
 is-zero-requires-2 c κs =
     let a = c .before .before .before .before .args in
-    let f = text-within (now (a .tree)) (a .i) (omega arith) (omega arith) 16 54 (omega arith) in
+    let f = text-within (now (a .tree)) (a .i) (omega arith) 16 54 (omega arith) in
     let e = ap length (c .before .before .tag-path-at .ensures) in
     (omega arith, omega arith)
 
@@ -65,7 +65,7 @@ returns-2 c =
     let p = c .before .before .before .before .tag-path-at in
     let s = ap (λ (t : Text). is-some (entry-path t)) (sym (p .ensures)) ∙ answers-true (c .before .before .before .is-entry-path .ensures) (c .before .before .if1 .left) in
     let z = answers-false (c .before .is-zero2 .ensures) (c .if2 .taken) in
-    sym (tag-unfilled (now (a .tree)) (a .i) (omega arith) (omega arith) (length (now (p .result))) s (ap length (p .ensures)) z)
+    sym (tag-unfilled (now (a .tree)) (a .i) (omega arith) (length (now (p .result))) s (ap length (p .ensures)) z)
 
 tag-revision-at-requires : tie.Need-tag-revision-at-requires
 tag-revision-at-requires c κs = search needs
@@ -77,7 +77,7 @@ returns-3 c =
     let s = ap (λ (t : Text). is-some (entry-path t)) (sym (p .ensures)) ∙ answers-true (c .before .before .before .before .is-entry-path .ensures) (c .before .before .before .if1 .left) in
     let z = answers-true (c .before .before .is-zero2 .ensures) (c .before .if2 .left) in
     ap (λ (v : ℕ). leb v 9999) (c .tag-revision-at .ensures)
-    ∙ sym (tag-filled (now (a .tree)) (a .i) (omega arith) (omega arith) (length (now (p .result))) s (ap length (p .ensures)) z)
+    ∙ sym (tag-filled (now (a .tree)) (a .i) (omega arith) (length (now (p .result))) s (ap length (p .ensures)) z)
 
 pub has-tag-spec : {M : Type 1} → statement M
 has-tag-spec =

@@ -17,7 +17,7 @@ abbrev bytes-of : tie.After-shared-slice-known → List ℕ
 bytes-of k = row-bytes-at (now (k .before .args .tree)) (k .before .args .i)
 
 whole : (k : tie.After-shared-slice-known) → row-test (bytes-of k) ≡ is-row (bytes-of k)
-whole k = fields-are-row (now (k .before .args .tree)) (k .before .args .i) (omega arith) (omega arith) (λ j. omega (arith, k .shared-slice-known .given j))
+whole k = fields-are-row (now (k .before .args .tree)) (k .before .args .i) (omega arith) (λ j. omega (arith, k .shared-slice-known .given j))
 
 has-numbers-requires : tie.Need-has-numbers-requires
 has-numbers-requires c κs = search needs

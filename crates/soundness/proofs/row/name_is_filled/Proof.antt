@@ -32,7 +32,7 @@ is-zero-requires : tie.Need-is-zero-requires
 unfolding row-at read-row
 is-zero-requires c κs =
     let a = c .before .before .args in
-    let f = text-within (now (a .tree)) (a .i) (omega arith) (omega arith) 8 8 (omega arith) in
+    let f = text-within (now (a .tree)) (a .i) (omega arith) 8 8 (omega arith) in
     let e = ap length (c .name-at .ensures) in
     (omega arith, omega arith)
 
@@ -41,7 +41,7 @@ unfolding row-at read-row
 returns c =
     let a = c .before .before .before .args in
     let n = c .before .name-at in
-    c .is-zero .ensures ∙ sym (filled-in-row (now (a .tree)) (a .i) (omega arith) (omega arith) 8 8 (length (now (n .result))) (omega arith) (ap length (n .ensures)))
+    c .is-zero .ensures ∙ sym (filled-in-row (now (a .tree)) (a .i) (omega arith) 8 8 (length (now (n .result))) (omega arith) (ap length (n .ensures)))
 
 pub name-is-filled-spec : {M : Type 1} → statement M
 name-is-filled-spec =

@@ -1,11 +1,11 @@
--- `checkout::prepare::copies_for` meets its contract: the copies are those of the checkout, and each answer is what the steps make of them.
+-- `checkout::making::copies_for` meets its contract: the copies are those of the checkout, and each answer is what the steps make of them.
 use mathlib.Core.Path.{_∙_}
 use native.Mathlib.Omega.{arith}
 use denote.Ref.{now}
-use Rattle.checkout.specs.CheckoutJobLaws.{job-row, job-text, job-name, job-low, checkout-job, copies-few, copies-too-deep, copies-too-many, copies-ready}
+use Rattle.checkout.specs.CheckoutJobLaws.{job-row, job-text, job-name, job-low, checkout-job, copies-few, copies-fit, copies-too-deep, copies-too-many, copies-ready}
 use borrow.Author.Needs.{needs}
-use Rattle.checkout.proofs.prepare.copies_for.Statement.{statement}
-use Rattle.checkout.proofs.prepare.copies_for.Tie as tie
+use Rattle.checkout.proofs.making.copies_for.Statement.{statement}
+use Rattle.checkout.proofs.making.copies_for.Tie as tie
 
 new-group-requires : tie.Need-new-group-requires
 new-group-requires c κs = job-row (c .before .before .before .before .before .pre .0)
@@ -29,7 +29,7 @@ deepest-copy-requires c κs =
     let name = c .before .before .before .before .before .last-name in
     let g = c .before .before .before .before .before .before .new-group in
     let j = s .pre .0 in
-    (m .kept .1 .1 .1 .1 .1 .1 .1 .0 ∙ s .pre .1, copies-few j (g .result) (g .ensures) (now (a .out)) (m .last .1 .1 .1 .1 .1 .1 .1 .0) (m .result) (now (name .result)) (name .ensures) (s .pre .1) (m .ensures))
+    copies-fit j (g .result) (g .ensures) (now (a .out)) (m .last .1 .1 .1 .1 .1 .1 .1 .0) (m .result) (now (name .result)) (name .ensures) (s .pre .1) (m .ensures) (m .kept .1 .1 .1 .1 .1 .1 .1 .0)
 
 same-length : tie.Need-same-length
 same-length c = search needs
@@ -44,7 +44,7 @@ returns c j =
     copies-too-deep j (g .result) (g .ensures) (now (a .out)) (m .last .1 .1 .1 .1 .1 .1 .1 .0) (m .result) (now (name .result)) (name .ensures) (s .pre .1) (m .ensures) (c .before .deepest-copy .result) (c .before .deepest-copy .ensures) (omega arith)
 
 count-requires : tie.Need-count-requires
-count-requires c κs = job-row (c .before .before .before .before .before .before .before .before .before .before .before .before .before .before .pre .0) .wide
+count-requires c κs = c .before .before .before .before .before .before .before .before .before .before .before .before .before .before .pre .0 .found .tree .sized .wide
 
 add-if2 : tie.Need-add-if2
 add-if2 c =
@@ -80,7 +80,7 @@ returns-3 c j =
     let name = c .before .before .before .before .before .before .before .before .before .last-name in
     let g = c .before .before .before .before .before .before .before .before .before .before .new-group in
     let d = c .before .before .before .deepest-copy in
-    copies-ready j (g .result) (g .ensures) (now (a .out)) (m .last .1 .1 .1 .1 .1 .1 .1 .0) (m .result) (now (name .result)) (name .ensures) (s .pre .1) (m .ensures) (d .result) (d .ensures) (omega arith) (c .before .count .result) (c .before .count .ensures) (omega arith) (m .kept .1 .1 .1 .1 .1 .1 .1 .0 ∙ s .pre .1)
+    copies-ready j (g .result) (g .ensures) (now (a .out)) (m .last .1 .1 .1 .1 .1 .1 .1 .0) (m .result) (now (name .result)) (name .ensures) (s .pre .1) (m .ensures) (d .result) (d .ensures) (omega arith) (c .before .count .result) (c .before .count .ensures) (omega arith) (m .kept .1 .1 .1 .1 .1 .1 .1 .0)
 
 pub copies-for-spec : {M : Type 1} → statement M
 copies-for-spec =

@@ -1,0 +1,66 @@
+-- `checkout::making::co_by` meets its contract: copies that are ready make the tree of the steps, and a refusal is theirs.
+use mathlib.Core.Path.{_∙_}
+use denote.Ref.{now}
+use Rattle.shell.specs.CommandBytesLaws.{refusal-follows}
+use Rattle.checkout.specs.CheckoutLaws.{ready-of, refused-of, ready-follows}
+use borrow.Author.Needs.{needs}
+use Rattle.checkout.proofs.making.co_by.Statement.{statement}
+use Rattle.checkout.proofs.making.co_by.Tie as tie
+
+copies-for-requires : tie.Need-copies-for-requires
+copies-for-requires c κs = search needs
+
+enum-known-n : tie.Need-enum-known-n
+enum-known-n c = search needs
+
+put-copies-requires : tie.Need-put-copies-requires
+put-copies-requires c κs =
+    let s = c .before .before .before .before .before .before .before .before .before .before .before .before .before .before in
+    let f = c .before .before .before .before .before .before .before .copies-for in
+    let r = ready-of (now (s .args .tree)) (f .last .1 .1 .1 .1 .1 .0) (s .args .site .at) (f .ensures (s .pre .0)) (c .before .before .before .n .given .1) in
+    (r .insertable, r .room)
+
+enum-known-cause : tie.Need-enum-known-cause
+enum-known-cause c = search needs
+
+same-length : tie.Need-same-length
+same-length c = search needs
+
+same-length-2 : tie.Need-same-length-2
+same-length-2 c = search needs
+
+returns : tie.Need-returns
+returns c j =
+    let s = c .before .before .before .before .before .before .before .before .before .before .before .before .before .before .before .before .before in
+    let f = c .before .before .before .before .before .before .before .before .before .before .copies-for in
+    let p = c .before .before .put-copies in
+    let r = ready-of (now (s .args .tree)) (f .last .1 .1 .1 .1 .1 .0) (s .args .site .at) (f .ensures j) (c .before .before .before .before .before .before .n .given .1) in
+    ready-follows (p .last .0) r (p .ensures)
+
+same-length-3 : tie.Need-same-length-3
+same-length-3 c = search needs
+
+same-length-4 : tie.Need-same-length-4
+same-length-4 c = search needs
+
+returns-2 : tie.Need-returns-2
+returns-2 c j =
+    let s = c .before .before .before .before .before .before .before .before .before .before .before .before in
+    let f = c .before .before .before .before .before .copies-for in
+    let b = now (s .args .tree) in
+    refusal-follows b (refused-of b (f .last .1 .1 .1 .1 .1 .0) (s .args .site .at) (f .ensures j) (c .before .cause .given .1))
+
+pub co-by-spec : {M : Type 1} → statement M
+co-by-spec =
+    tie.close
+    (tie.spec
+    copies-for-requires
+    enum-known-n
+    put-copies-requires
+    enum-known-cause
+    same-length
+    same-length-2
+    returns
+    same-length-3
+    same-length-4
+    returns-2)
