@@ -10,10 +10,10 @@ mod pairs_part;
 
 use accounts_part::has_sessions;
 use accounts_part::has_slots;
-use buffers::is_zero;
 use grants_part::has_grants;
 use pairs_part::has_pairs;
 use soundness::holds_tree;
+use soundness::is_zero_in_blocks;
 use store::HEADER;
 use store::SPARE;
 use store::STORE;
@@ -35,7 +35,7 @@ pub fn holds_header(header: &[u8]) -> bool
     if !has_grants(header) {
         return false;
     }
-    is_zero(header, SPARE, HEADER)
+    is_zero_in_blocks(header, SPARE, HEADER)
 }
 
 // Whether a buffer of any length holds a sound store.

@@ -1,7 +1,7 @@
 -- What the code goes by where it tests one row: each test by the bytes at the row's place among all.
-use mathlib.Core.Path.{_≡_, _∙_, ap}
+use mathlib.Core.Path.{_≡_, sym, _∙_, ap, ap₂}
 use mathlib.Core.List.{List}
-use mathlib.Core.Bool.{true, false, _||_, and-false}
+use mathlib.Core.Bool.{Bool, true, false, _&&_, _||_, and-false}
 use Prim.Native.Nat.{ℕ, _+_, _-_, _≤_, _<_}
 use native.Mathlib.Omega.{arith}
 use lib.Dec.{eqb, leb, ltb}
@@ -13,7 +13,6 @@ use Rattle.buffers.specs.Fields.{text-at, all-zero, zeros-at, is-filled}
 use Rattle.buffers.specs.FieldsLaws.{part-of-take}
 use Rattle.syntax.specs.Number.{is-mode}
 use Rattle.syntax.specs.Path.{entry-path}
-use Rattle.syntax.specs.Field.{is-content}
 use Rattle.syntax.specs.Form.{is-some}
 use Rattle.tree.specs.Layout.{row-width, row-start, kind-offset, owner-offset, group-offset, name-offset, name-width, tag-offset, tag-revision-offset, content-offset}
 use Rattle.tree.specs.WellFormed.{last-revision, fits-kind}
@@ -21,8 +20,9 @@ use Rattle.tree.specs.Encoding.{read-row}
 use Rattle.tree.specs.RowAt.{row-bytes-at, row-at, tag-text-at, tag-number-at}
 use Rattle.tree.specs.RowAtLaws.{byte-in-row}
 use Rattle.soundness.specs.Sound.{is-row}
-use Rattle.soundness.specs.Tests.{has-numbers, has-tag, has-content, row-test}
+use Rattle.soundness.specs.Tests.{has-numbers, has-tag, has-content, stand-from, row-test}
 use Rattle.soundness.specs.RowTestLaws.{length-text-at, row-test-is}
+use Rattle.soundness.specs.ContentTestLaws.{stand-alike, empty-by-first, content-by-bytes}
 
 module _ (b : List ℕ) (i : ℕ) where
   -- zeros of a row
@@ -79,15 +79,10 @@ module _ (b : List ℕ) (i : ℕ) where
   unfolding has-tag tag-text-at
   tag-none e = rw e (zeros-between 16 72 (omega arith) (omega arith))
 
-  -- the content: its bytes
-  pub content-bytes : is-content (row-at b i .here .content) ≡ false → has-content (row-bytes-at b i) ≡ false
-  unfolding has-content row-at read-row
-  content-bytes e = rw e
-
-  -- what the kind allows
-  pub content-kind : fits-kind (row-at b i .here .kind) (row-at b i .here .mode) (row-at b i .here .content) ≡ false → has-content (row-bytes-at b i) ≡ false
-  unfolding has-content row-at read-row
-  content-kind e = simp (e, and-false)
+  -- a content is empty if its field begins with a zero
+  pub content-empty : eqb (getD b (row-start i + content-offset) 0) 0 ≡ eqb (length (row-at b i .here .content)) 0
+  unfolding row-at read-row
+  content-empty = ap (λ (k : ℕ). eqb k 0) (sym (byte-in-row b i 72 (omega arith))) ∙ sym (empty-by-first 72 79 (row-bytes-at b i))
 
   module _ (room : row-start i + row-width ≤ length b) where
     length-row : length (row-bytes-at b i) ≡ row-width
@@ -119,15 +114,19 @@ module _ (b : List ℕ) (i : ℕ) where
     unfolding has-tag tag-text-at tag-number-at last-revision
     tag-filled n s e z = rw s (rw (filled-in-row 16 54 n (omega arith) e ∙ z))
 
-    -- the content and the zeros behind it
-    pub content-rest : (n : ℕ) → is-content (row-at b i .here .content) ≡ true
-        → fits-kind (row-at b i .here .kind) (row-at b i .here .mode) (row-at b i .here .content) ≡ true → n ≡ length (row-at b i .here .content)
-        → has-content (row-bytes-at b i) ≡ zeros-at (row-start i + content-offset + n) (row-start i + row-width - (row-start i + content-offset + n)) b
-    unfolding has-content row-at read-row
-    content-rest n c k e =
-        let f = text-within 72 80 (omega arith) in
-        let q : 160 - n ≡ row-width - (72 + n) = omega arith in
-        rw (c, k) (rw (← e) (ap (λ (m : ℕ). zeros-at (72 + n) m (row-bytes-at b i)) q ∙ zeros-behind 72 row-width n (omega arith) (omega arith)))
+    -- the content: its bytes, what the kind allows, and the zeros behind
+    pub content-in-row : has-content (row-bytes-at b i)
+        ≡ ((stand-from (row-start i + content-offset) 64 b && fits-kind (row-at b i .here .kind) (row-at b i .here .mode) (row-at b i .here .content))
+        && zeros-at (row-start i + content-offset + 64) (row-start i + row-width - (row-start i + content-offset + 64)) b)
+    unfolding row-at read-row
+    content-in-row =
+        let x = row-bytes-at b i in
+        let stand : stand-from 72 64 x ≡ stand-from (row-start i + 72) 64 b =
+        stand-alike 64 72 (row-start i + 72) x b (λ k j.
+        let q : row-start i + (72 + k) ≡ row-start i + 72 + k = omega arith in
+        byte-in-row b i (72 + k) (omega arith) ∙ ap (λ (n : ℕ). getD b n 0) q) in
+        content-by-bytes x length-row
+        ∙ ap₂ (λ (s z : Bool). (s && fits-kind (row-at b i .here .kind) (row-at b i .here .mode) (row-at b i .here .content)) && z) stand (zeros-behind 72 row-width 64 (omega arith) (omega arith))
 
     -- the fields together are the row
     pub fields-are-row : ((k : ℕ) → getD b k 0 < 256) → row-test (row-bytes-at b i) ≡ is-row (row-bytes-at b i)

@@ -3,6 +3,7 @@ pub mod OrderLaws
 pub mod SoundLaws
 pub mod Tests
 pub mod RowTestLaws
+pub mod ContentTestLaws
 pub mod FieldTestLaws
 pub mod OrderTestLaws
 pub mod SoundTestLaws

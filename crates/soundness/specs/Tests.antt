@@ -1,14 +1,14 @@
 -- What the code tests: a row's bytes field by field, and the rows from one on.
 use mathlib.Core.List.{List}
-use mathlib.Core.Bool.{Bool, _&&_, _||_, cond}
-use Prim.Native.Nat.{ℕ, _+_, _-_}
+use mathlib.Core.Bool.{Bool, true, _&&_, _||_, cond}
+use Prim.Native.Nat.{ℕ, zero, suc, _+_, _-_}
 use lib.Dec.{eqb, leb, ltb}
 use lib.ListN.{length, getD, drop}
 use Rattle.buffers.specs.Text.{every}
 use Rattle.buffers.specs.Fields.{number-at, text-at, is-filled, zeros-at}
 use Rattle.syntax.specs.Number.{is-mode}
 use Rattle.syntax.specs.Path.{Name, entry-path}
-use Rattle.syntax.specs.Field.{is-content}
+use Rattle.syntax.specs.Field.{content-byte, is-content}
 use Rattle.syntax.specs.Form.{is-some}
 use Rattle.tree.specs.Layout.{mode-offset, revision-offset, name-offset, name-width, tag-offset, tag-width, tag-revision-offset, whole-tag-width, content-offset, content-width}
 use Rattle.tree.specs.WellFormed.{last-revision, fits-kind}
@@ -32,6 +32,15 @@ unfoldable pub has-content : List ℕ → Bool
 has-content x =
     let c = text-at content-offset content-width x in
     (is-content c && fits-kind (kind-of (getD x 1 0)) (number-at mode-offset x) c) && zeros-at (72 + length c) (160 - length c) x
+
+-- a content filled up, byte by byte: a byte of a content may stand before any, a zero before a zero
+unfoldable pub may-stand : ℕ → ℕ → Bool
+may-stand b next = cond (eqb b 0) (eqb next 0) (content-byte b)
+
+-- so many bytes from a place may each stand before the next
+unfoldable pub stand-from : ℕ → ℕ → List ℕ → Bool
+stand-from i zero x = true
+stand-from i (suc n) x = may-stand (getD x i 0) (getD x (suc i) 0) && stand-from (suc i) n x
 
 unfoldable pub row-test : List ℕ → Bool
 row-test x = (has-numbers x && is-filled name-offset name-width x) && (has-tag x && has-content x)

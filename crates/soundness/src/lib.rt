@@ -8,8 +8,8 @@ ghost use Rattle.soundness.specs.Sound.{is-top-row};
 
 mod order;
 mod row;
+mod zeros;
 
-use buffers::is_zero;
 use order::in_order;
 use row::is_directory;
 use row::is_row;
@@ -17,6 +17,7 @@ use tree::FIRST;
 use tree::MOST_ROWS;
 use tree::ROW;
 use tree::TREE;
+pub use zeros::is_zero_in_blocks;
 
 // Whether the first row is that of `/`.
 fn is_top_row(tree: &[u8]) -> bool
@@ -55,5 +56,5 @@ pub fn holds_tree(tree: &[u8]) -> bool
     if !in_order(tree, n) {
         return false;
     }
-    is_zero(tree, FIRST + ROW * n, TREE)
+    is_zero_in_blocks(tree, FIRST + ROW * n, TREE)
 }

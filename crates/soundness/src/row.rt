@@ -1,8 +1,10 @@
 // The bytes of one row, field by field.
 ghost use mathlib.Core.Path.{_≡_};
 ghost use mathlib.Core.Bool.{_||_};
-ghost use Prim.Native.Nat.{_-_, _<_};
+ghost use mathlib.Core.List.{List};
+ghost use Prim.Native.Nat.{ℕ, _+_, _-_, _<_};
 ghost use lib.Dec.{eqb};
+ghost use lib.ListN.{length};
 ghost use Rattle.buffers.specs.Fields.{is-filled};
 ghost use Rattle.syntax.specs.Number.{is-mode};
 ghost use Rattle.tree.specs.Layout.{name-offset, name-width};
@@ -11,7 +13,7 @@ ghost use Rattle.tree.specs.WellFormed.{fits-kind};
 ghost use Rattle.tree.specs.RowAt.{row-bytes-at};
 ghost use Rattle.tree.specs.TreeBytes.{Has-row};
 ghost use Rattle.soundness.specs.Sound.{is-row};
-ghost use Rattle.soundness.specs.Tests.{has-numbers, has-tag, has-content};
+ghost use Rattle.soundness.specs.Tests.{has-numbers, has-tag, has-content, may-stand, stand-from};
 use buffers::is_zero;
 use tree::CONTENT;
 use tree::FIRST;
@@ -23,6 +25,9 @@ use tree::OWNER;
 use tree::ROW;
 use tree::TAG;
 use tree::TAG_REVISION;
+
+// The bytes of the longest content.
+const LONGEST: usize = 64;
 
 // Whether a byte says what a node is.
 fn is_kind(b: u8) -> bool
@@ -54,13 +59,13 @@ pub fn is_directory(kind: Kind) -> bool
     }
 }
 
-// Whether a kind allows a mode and a content: set-gid on directories only, content in files only.
-fn fits_kind(kind: Kind, mode: u16, content: &[u8]) -> bool
-    ensures { λ r. ⌜ r ≡ fits-kind kind mode (now (content .entry)) ⌝ }
+// Whether a kind allows a mode and a content, empty or not: set-gid on directories only, content in files only.
+fn fits_kind(kind: Kind, mode: u16, empty: bool) -> bool
+    ensures { λ r. ⌜ ((t : List ℕ) → empty ≡ eqb (length t) 0 → r ≡ fits-kind kind mode t) ⌝ }
 {
     match kind {
         Kind::File => mode / 512 != 2,
-        Kind::Directory => content.len() == 0,
+        Kind::Directory => empty,
     }
 }
 
@@ -112,21 +117,45 @@ fn has_tag(tree: &[u8], i: usize) -> bool
     tree::tag_revision_at(tree, i) <= 9999
 }
 
+// Whether a byte may stand before the next in a content filled up: a byte of a content before any, a zero before a zero.
+fn may_stand(b: u8, next: u8) -> bool
+    ensures { λ r. ⌜ r ≡ may-stand b next ⌝ }
+{
+    ((b == 0) & (next == 0)) | ((32 <= b) & (b <= 126) & (b != 44))
+}
+
+// Whether the longest content's bytes from a place may each stand before the next. All of them are looked at, with no exit
+// before the last, so that many are tested at once.
+fn all_stand(s: &[u8], at: usize) -> bool
+    requires { ⌜ at + 64 < length (now s) ⌝ }
+    ensures { λ r. ⌜ r ≡ stand-from at 64 (now (s .entry)) ⌝ }
+{
+    let mut all = true;
+    let mut i: usize = 0;
+    while i < LONGEST {
+        all = all & may_stand(s[at + i], s[at + i + 1]);
+        i += 1;
+    }
+    all
+}
+
 // Whether the content is one that the kind allows, and zeros fill up the row.
 fn has_content(tree: &[u8], i: usize) -> bool
     requires { ⌜ Has-row (now tree) i ⌝ }
     ensures { λ r. ⌜ r ≡ has-content (row-bytes-at (now (tree .entry)) i) ⌝ }
 {
     let at = FIRST + ROW * i;
-    let content = tree::content_at(tree, i);
-    if !syntax::is_content(content) {
+    if !all_stand(tree, at + CONTENT) {
         return false;
     }
-    if !fits_kind(tree::kind_at(tree, i), tree::mode_at(tree, i), content) {
+    if !fits_kind(
+        tree::kind_at(tree, i),
+        tree::mode_at(tree, i),
+        tree[at + CONTENT] == 0,
+    ) {
         return false;
     }
-    let n = content.len();
-    is_zero(tree, at + CONTENT + n, at + ROW)
+    is_zero(tree, at + CONTENT + LONGEST, at + ROW)
 }
 
 // Whether the bytes of a row are those of a node in range.

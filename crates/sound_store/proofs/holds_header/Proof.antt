@@ -47,9 +47,9 @@ has-grants-requires c κs = omega arith
 returns-4 : tie.Need-returns-4
 returns-4 c = let k = c .before .before .before .before .before .before .before .before in sym (grants-fail (bytes-of k) (answers-false (c .before .has-grants .ensures) (c .if4 .taken))) ∙ whole k
 
-is-zero-requires : tie.Need-is-zero-requires
+is-zero-in-blocks-requires : tie.Need-is-zero-in-blocks-requires
 unfolding header-width
-is-zero-requires c κs = (omega arith, omega arith)
+is-zero-in-blocks-requires c κs = (omega arith, omega arith)
 
 returns-5 : tie.Need-returns-5
 returns-5 c =
@@ -58,7 +58,7 @@ returns-5 c =
     let sessions = answers-true (c .before .before .before .before .before .before .has-sessions .ensures) (c .before .before .before .before .before .if2 .left) in
     let pairs = answers-true (c .before .before .before .before .has-pairs .ensures) (c .before .before .before .if3 .left) in
     let grants = answers-true (c .before .before .has-grants .ensures) (c .before .if4 .left) in
-    c .is-zero .ensures ∙ sym (by-spare (bytes-of k) slots sessions pairs grants) ∙ whole k
+    c .is-zero-in-blocks .ensures ∙ sym (by-spare (bytes-of k) slots sessions pairs grants) ∙ whole k
 
 pub holds-header-spec : {M : Type 1} → statement M
 holds-header-spec =
@@ -72,5 +72,5 @@ holds-header-spec =
     returns-3
     has-grants-requires
     returns-4
-    is-zero-requires
+    is-zero-in-blocks-requires
     returns-5)

@@ -68,14 +68,14 @@ returns-6 c =
     let e = answers-false (c .before .in-order .ensures) (c .if6 .taken) in
     sym (parts ((c .before .before .before .before .before .before)) ∙ simp (e, and-false)) ∙ sound-is (now (start ((c .before .before .before .before .before .before)) .args .tree))
 
-mul-is-zero : tie.Need-mul-is-zero
-mul-is-zero c = search needs
+mul-is-zero-in-blocks : tie.Need-mul-is-zero-in-blocks
+mul-is-zero-in-blocks c = search needs
 
-add-is-zero : tie.Need-add-is-zero
-add-is-zero c = search needs
+add-is-zero-in-blocks : tie.Need-add-is-zero-in-blocks
+add-is-zero-in-blocks c = search needs
 
-is-zero-requires : tie.Need-is-zero-requires
-is-zero-requires c κs = search needs
+is-zero-in-blocks-requires : tie.Need-is-zero-in-blocks-requires
+is-zero-in-blocks-requires c κs = search needs
 
 returns-7 : tie.Need-returns-7
 returns-7 c =
@@ -83,7 +83,7 @@ returns-7 c =
     let row = answers-true (c .before .before .before .before .before .before .is-row .ensures) (c .before .before .before .before .before .if4 .left) in
     let top = answers-true (c .before .before .before .before .is-top-row .ensures) (c .before .before .before .if5 .left) in
     let order = answers-true (c .before .before .in-order .ensures) (c .before .if6 .left) in
-    c .is-zero .ensures
+    c .is-zero-in-blocks .ensures
     ∙ ap (λ (n : ℕ). zeros-at (row-start n) (tree-width - (row-start n)) t) (c .before .before .before .before .before .before .before .before .before .count .ensures)
     ∙ sym (parts ((c .before .before .before .before .before .before .before)) ∙ rw (row, top, order))
     ∙ sound-is t
@@ -102,7 +102,7 @@ holds-tree-spec =
     returns-5
     in-order-requires
     returns-6
-    mul-is-zero
-    add-is-zero
-    is-zero-requires
+    mul-is-zero-in-blocks
+    add-is-zero-in-blocks
+    is-zero-in-blocks-requires
     returns-7)

@@ -1,6 +1,5 @@
 -- `soundness::row::fits_kind` meets its contract: by its variants.
-use mathlib.Core.Path.{sym, ap}
-use denote.Ref.{now}
+use mathlib.Core.Path.{sym, _∙_, ap}
 use Rattle.syntax.specs.Number.{set-gid}
 use Rattle.tree.specs.declared.Kind.{Kind}
 use Rattle.tree.specs.WellFormed.{fits-kind}
@@ -16,11 +15,11 @@ enum-told-2 c = search needs
 
 returns : tie.Need-returns
 unfolding fits-kind set-gid
-returns c = let a = c .before .before .args in sym (ap (λ (k : Kind). fits-kind k (a .mode) (now (a .content))) (c .enum-told .given .1))
+returns c = let a = c .before .before .args in λ t e. sym (ap (λ (k : Kind). fits-kind k (a .mode) t) (c .enum-told .given .1))
 
 returns-2 : tie.Need-returns-2
 unfolding fits-kind
-returns-2 c = let a = c .before .before .args in sym (ap (λ (k : Kind). fits-kind k (a .mode) (now (a .content))) (c .enum-told2 .given .1))
+returns-2 c = let a = c .before .before .args in λ t e. e ∙ sym (ap (λ (k : Kind). fits-kind k (a .mode) t) (c .enum-told2 .given .1))
 
 pub fits-kind-spec : {M : Type 1} → statement M
 fits-kind-spec = tie.close (tie.spec enum-told enum-told-2 returns returns-2)
