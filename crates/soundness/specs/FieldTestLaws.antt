@@ -20,9 +20,10 @@ use Rattle.tree.specs.Encoding.{read-row}
 use Rattle.tree.specs.RowAt.{row-bytes-at, row-at, tag-text-at, tag-number-at}
 use Rattle.tree.specs.RowAtLaws.{byte-in-row}
 use Rattle.soundness.specs.Sound.{is-row}
-use Rattle.soundness.specs.Tests.{has-numbers, has-tag, has-content, stand-from, row-test}
+use Rattle.soundness.specs.Tests.{has-numbers, has-tag, has-content, may-fill, may-stand, neighbours-pass, row-test}
 use Rattle.soundness.specs.RowTestLaws.{length-text-at, row-test-is}
-use Rattle.soundness.specs.ContentTestLaws.{stand-alike, empty-by-first, content-by-bytes}
+use Rattle.soundness.specs.NeighbourLaws.{pass-alike}
+use Rattle.soundness.specs.FilledLaws.{filled-by-bytes, empty-by-first, content-by-bytes}
 
 module _ (b : List ℕ) (i : ℕ) where
   -- zeros of a row
@@ -102,6 +103,14 @@ module _ (b : List ℕ) (i : ℕ) where
         let q : w - n ≡ k + w - (k + n) = omega arith in
         rw (← e) (ap (λ (m : ℕ). zeros-at (k + n) m (row-bytes-at b i)) q ∙ zeros-behind k (k + w) n (omega arith) j)
 
+    -- so the name, byte by byte
+    pub name-in-row : is-filled name-offset name-width (row-bytes-at b i) ≡ neighbours-pass may-fill (row-start i + name-offset) 7 b
+    name-in-row =
+        filled-by-bytes 8 7 (row-bytes-at b i) (omega (arith, length-row))
+        ∙ pass-alike may-fill 7 8 (row-start i + 8) (row-bytes-at b i) b (λ k j.
+        let q : row-start i + (8 + k) ≡ row-start i + 8 + k = omega arith in
+        byte-in-row b i (8 + k) (omega arith) ∙ ap (λ (n : ℕ). getD b n 0) q)
+
     -- an entry path that is not filled up
     pub tag-unfilled : (n : ℕ) → is-some (entry-path (tag-text-at b i)) ≡ true → n ≡ length (tag-text-at b i)
         → zeros-at (row-start i + tag-offset + n) (row-start i + tag-revision-offset - (row-start i + tag-offset + n)) b ≡ false → has-tag (row-bytes-at b i) ≡ false
@@ -116,13 +125,13 @@ module _ (b : List ℕ) (i : ℕ) where
 
     -- the content: its bytes, what the kind allows, and the zeros behind
     pub content-in-row : has-content (row-bytes-at b i)
-        ≡ ((stand-from (row-start i + content-offset) 64 b && fits-kind (row-at b i .here .kind) (row-at b i .here .mode) (row-at b i .here .content))
+        ≡ ((neighbours-pass may-stand (row-start i + content-offset) 64 b && fits-kind (row-at b i .here .kind) (row-at b i .here .mode) (row-at b i .here .content))
         && zeros-at (row-start i + content-offset + 64) (row-start i + row-width - (row-start i + content-offset + 64)) b)
     unfolding row-at read-row
     content-in-row =
         let x = row-bytes-at b i in
-        let stand : stand-from 72 64 x ≡ stand-from (row-start i + 72) 64 b =
-        stand-alike 64 72 (row-start i + 72) x b (λ k j.
+        let stand : neighbours-pass may-stand 72 64 x ≡ neighbours-pass may-stand (row-start i + 72) 64 b =
+        pass-alike may-stand 64 72 (row-start i + 72) x b (λ k j.
         let q : row-start i + (72 + k) ≡ row-start i + 72 + k = omega arith in
         byte-in-row b i (72 + k) (omega arith) ∙ ap (λ (n : ℕ). getD b n 0) q) in
         content-by-bytes x length-row

@@ -3,7 +3,8 @@ pub mod OrderLaws
 pub mod SoundLaws
 pub mod Tests
 pub mod RowTestLaws
-pub mod ContentTestLaws
+pub mod NeighbourLaws
+pub mod FilledLaws
 pub mod FieldTestLaws
 pub mod OrderTestLaws
 pub mod SoundTestLaws

@@ -75,7 +75,7 @@ same-unpadded (x ∷ l) = case (eqb x 0)
     let q : suc (length l) - suc (length (unpadded l)) ≡ length l - length (unpadded l) = omega arith in
     rw t (rw (q, eq-eqb x x refl) (same-unpadded l)))
 
-drop-take : (k w : ℕ) (l : List ℕ) → drop k (take w l) ≡ take (w - k) (drop k l)
+pub drop-take : (k w : ℕ) (l : List ℕ) → drop k (take w l) ≡ take (w - k) (drop k l)
 drop-take zero w l = let q : w - 0 ≡ w = omega arith in rw q
 drop-take (suc k) zero l = let q : 0 - suc k ≡ 0 = omega arith in rw q
 drop-take (suc k) (suc w) [] = sym (take-nil (suc w - suc k))

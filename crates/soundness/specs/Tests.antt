@@ -1,6 +1,6 @@
 -- What the code tests: a row's bytes field by field, and the rows from one on.
 use mathlib.Core.List.{List}
-use mathlib.Core.Bool.{Bool, true, _&&_, _||_, cond}
+use mathlib.Core.Bool.{Bool, true, _&&_, _||_, not, cond}
 use Prim.Native.Nat.{ℕ, zero, suc, _+_, _-_}
 use lib.Dec.{eqb, leb, ltb}
 use lib.ListN.{length, getD, drop}
@@ -33,14 +33,18 @@ has-content x =
     let c = text-at content-offset content-width x in
     (is-content c && fits-kind (kind-of (getD x 1 0)) (number-at mode-offset x) c) && zeros-at (72 + length c) (160 - length c) x
 
--- a content filled up, byte by byte: a byte of a content may stand before any, a zero before a zero
+-- so many bytes from a place each pass a test with the next
+unfoldable pub neighbours-pass : (ℕ → ℕ → Bool) → ℕ → ℕ → List ℕ → Bool
+neighbours-pass f i zero x = true
+neighbours-pass f i (suc n) x = f (getD x i 0) (getD x (suc i) 0) && neighbours-pass f (suc i) n x
+
+-- in a field filled up, behind a zero stands a zero
+unfoldable pub may-fill : ℕ → ℕ → Bool
+may-fill b next = not (eqb b 0) || eqb next 0
+
+-- in a content filled up, a byte of a content may stand before any, a zero before a zero
 unfoldable pub may-stand : ℕ → ℕ → Bool
 may-stand b next = cond (eqb b 0) (eqb next 0) (content-byte b)
-
--- so many bytes from a place may each stand before the next
-unfoldable pub stand-from : ℕ → ℕ → List ℕ → Bool
-stand-from i zero x = true
-stand-from i (suc n) x = may-stand (getD x i 0) (getD x (suc i) 0) && stand-from (suc i) n x
 
 unfoldable pub row-test : List ℕ → Bool
 row-test x = (has-numbers x && is-filled name-offset name-width x) && (has-tag x && has-content x)

@@ -13,7 +13,7 @@ ghost use Rattle.tree.specs.WellFormed.{fits-kind};
 ghost use Rattle.tree.specs.RowAt.{row-bytes-at};
 ghost use Rattle.tree.specs.TreeBytes.{Has-row};
 ghost use Rattle.soundness.specs.Sound.{is-row};
-ghost use Rattle.soundness.specs.Tests.{has-numbers, has-tag, has-content, may-stand, stand-from};
+ghost use Rattle.soundness.specs.Tests.{has-numbers, has-tag, has-content, may-stand, neighbours-pass};
 use buffers::is_zero;
 use tree::CONTENT;
 use tree::FIRST;
@@ -21,6 +21,7 @@ use tree::GROUP;
 use tree::KIND;
 use tree::Kind;
 use tree::NAME;
+use tree::NAME_WIDTH;
 use tree::OWNER;
 use tree::ROW;
 use tree::TAG;
@@ -90,14 +91,19 @@ fn has_numbers(tree: &[u8], i: usize) -> bool
     tree::revision_at(tree, i) <= 9999
 }
 
-// Whether zeros fill up the name.
+// Whether zeros fill up the name: behind a zero stands none but a zero. All bytes are looked at, as in `all_stand`.
 fn name_is_filled(tree: &[u8], i: usize) -> bool
     requires { ⌜ Has-row (now tree) i ⌝ }
     ensures { λ r. ⌜ r ≡ is-filled name-offset name-width (row-bytes-at (now (tree .entry)) i) ⌝ }
 {
-    let at = FIRST + ROW * i;
-    let n = tree::name_at(tree, i).len();
-    is_zero(tree, at + NAME + n, at + TAG)
+    let at = FIRST + ROW * i + NAME;
+    let mut all = true;
+    let mut k: usize = 0;
+    while k < NAME_WIDTH - 1 {
+        all = all & ((tree[at + k] != 0) | (tree[at + k + 1] == 0));
+        k += 1;
+    }
+    all
 }
 
 // Whether the tag is zeros, or an entry path filled up and a revision.
@@ -128,7 +134,7 @@ fn may_stand(b: u8, next: u8) -> bool
 // before the last, so that many are tested at once.
 fn all_stand(s: &[u8], at: usize) -> bool
     requires { ⌜ at + 64 < length (now s) ⌝ }
-    ensures { λ r. ⌜ r ≡ stand-from at 64 (now (s .entry)) ⌝ }
+    ensures { λ r. ⌜ r ≡ neighbours-pass may-stand at 64 (now (s .entry)) ⌝ }
 {
     let mut all = true;
     let mut i: usize = 0;

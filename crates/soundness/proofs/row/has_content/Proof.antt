@@ -1,11 +1,10 @@
 -- `soundness::row::has_content` meets its contract: each return by the bytes, the kind, or the zeros behind them.
-use mathlib.Core.Path.{_≡_, sym, _∙_}
+use mathlib.Core.Path.{sym, _∙_}
 use mathlib.Core.Bool.{and-false}
 use native.Mathlib.Omega.{arith}
 use denote.Ref.{now}
 use Rattle.buffers.specs.Cases.{answers-false, answers-true}
 use Rattle.tree.specs.RowAt.{row-at}
-use Rattle.tree.specs.WellFormed.{fits-kind}
 use Rattle.soundness.specs.FieldTestLaws.{content-empty, content-in-row}
 use borrow.Author.Needs.{needs}
 use Rattle.soundness.proofs.row.has_content.Statement.{statement}
@@ -50,7 +49,7 @@ returns-2 c =
     let t = now (a .tree) in
     let f = answers-false (c .before .fits-kind .ensures (row-at t (a .i) .here .content) (content-empty t (a .i))) (c .if2 .taken) in
     let e = rw (c .before .before .before .before .kind-at .ensures, c .before .before .before .mode-at .ensures) at f in
-    sym (content-in-row (now (a .tree)) (a .i) (omega arith) ∙ simp (e, and-false))
+    sym (content-in-row t (a .i) (omega arith) ∙ simp (e, and-false))
 
 add-is-zero : tie.Need-add-is-zero
 add-is-zero c = search needs

@@ -1,57 +1,87 @@
--- `soundness::row::name_is_filled` meets its contract: behind the name its field is tested.
-use mathlib.Core.Path.{sym, _∙_, ap}
+-- `soundness::row::name_is_filled` meets its contract: what is left, with what was seen, is the whole.
+use mathlib.Core.Path.{refl, sym, _∙_}
+use Prim.Native.Nat.{_-_, _+_}
 use native.Mathlib.Omega.{arith}
-use lib.ListN.{length}
 use denote.Ref.{now}
-use Rattle.tree.specs.Encoding.{read-row}
-use Rattle.tree.specs.RowAt.{row-at}
-use Rattle.soundness.specs.FieldTestLaws.{text-within, filled-in-row}
-use borrow.Author.Needs.{needs}
+use Rattle.tree.specs.Layout.{row-start, name-offset}
+use Rattle.soundness.specs.Tests.{may-fill}
+use Rattle.soundness.specs.NeighbourLaws.{Seen, begins, one-more, ends}
+use Rattle.soundness.specs.FieldTestLaws.{name-in-row}
 use Rattle.soundness.proofs.row.name_is_filled.Statement.{statement}
 use Rattle.soundness.proofs.row.name_is_filled.Tie as tie
 
-mul-at : tie.Need-mul-at
-mul-at c = search needs
+abbrev Inv-loop : tie.InvT-loop
+Inv-loop tree i at all₀ k₀ all k = Seen may-fill tree at 7 all k
 
-add-at : tie.Need-add-at
-add-at c = search needs
+abbrev μ-loop : tie.MeasureT-loop
+μ-loop tree i at all₀ k₀ all k = 7 - k
 
-name-at-requires : tie.Need-name-at-requires
-name-at-requires c κs = search needs
+mul-at : tie.Need-mul-at Inv-loop μ-loop
+mul-at c = omega arith
 
-add-is-zero : tie.Need-add-is-zero
-add-is-zero c = search needs
+add-at : tie.Need-add-at Inv-loop μ-loop
+add-at c = omega arith
 
-add-is-zero-2 : tie.Need-add-is-zero-2
-add-is-zero-2 c = search needs
+add-at-2 : tie.Need-add-at-2 Inv-loop μ-loop
+add-at-2 c = omega arith
 
-add-is-zero-3 : tie.Need-add-is-zero-3
-add-is-zero-3 c = search needs
+loop-holds : tie.Need-loop-holds Inv-loop μ-loop
+loop-holds c = let a = c .args in begins may-fill (now (a .tree)) (row-start (a .i) + name-offset) 7
 
-is-zero-requires : tie.Need-is-zero-requires
-unfolding row-at read-row
-is-zero-requires c κs =
-    let a = c .before .before .args in
-    let f = text-within (now (a .tree)) (a .i) (omega arith) 8 8 (omega arith) in
-    let e = ap length (c .name-at .ensures) in
-    (omega arith, omega arith)
+sub-loop : tie.Need-sub-loop Inv-loop μ-loop
+sub-loop c = omega arith
 
-returns : tie.Need-returns
-unfolding row-at read-row
+add-all : tie.Need-add-all Inv-loop μ-loop
+add-all c = omega arith
+
+shared-slice-read-all : tie.Need-shared-slice-read-all Inv-loop μ-loop
+shared-slice-read-all c = omega arith
+
+add-all-2 : tie.Need-add-all-2 Inv-loop μ-loop
+add-all-2 c = omega arith
+
+add-all-3 : tie.Need-add-all-3 Inv-loop μ-loop
+add-all-3 c = omega arith
+
+shared-slice-read-all-2 : tie.Need-shared-slice-read-all-2 Inv-loop μ-loop
+shared-slice-read-all-2 c = omega arith
+
+add-k : tie.Need-add-k Inv-loop μ-loop
+add-k c = omega arith
+
+loop-less : tie.Need-loop-less Inv-loop μ-loop
+loop-less c = omega arith
+
+loop-again : tie.Need-loop-again Inv-loop μ-loop
+unfolding may-fill
+loop-again c =
+    let l = c .before .before .before in
+    let a = l .before .args in
+    one-more may-fill (now (a .tree)) (row-start (a .i) + name-offset) 7 _ (l .loop .inv) (omega arith) refl
+
+returns : tie.Need-returns Inv-loop μ-loop
 returns c =
-    let a = c .before .before .before .args in
-    let n = c .before .name-at in
-    c .is-zero .ensures ∙ sym (filled-in-row (now (a .tree)) (a .i) (omega arith) 8 8 (length (now (n .result))) (omega arith) (ap length (n .ensures)))
+    let a = c .before .before .args in
+    ends may-fill (now (a .tree)) (row-start (a .i) + name-offset) 7 (c .before .loop .inv) (omega arith)
+    ∙ sym (name-in-row (now (a .tree)) (a .i) (omega arith))
 
 pub name-is-filled-spec : {M : Type 1} → statement M
 name-is-filled-spec =
     tie.close
     (tie.spec
+    Inv-loop
+    μ-loop
     mul-at
     add-at
-    name-at-requires
-    add-is-zero
-    add-is-zero-2
-    add-is-zero-3
-    is-zero-requires
+    add-at-2
+    loop-holds
+    sub-loop
+    add-all
+    shared-slice-read-all
+    add-all-2
+    add-all-3
+    shared-slice-read-all-2
+    add-k
+    loop-less
+    loop-again
     returns)
