@@ -1,8 +1,8 @@
 // The command `co` on a tree's bytes. There are no more copies than the entry has rows with all below it: by how many these are, the
-// copies are made in an array for few, some, many or all rows.
+// copies are made in an array for few, some, many, half or all of the rows of a tree.
 ghost use mathlib.Core.Path.{_≡_};
 ghost use Prim.Native.Nat.{_≤_};
-ghost use Rattle.tree.specs.Layout.{few-rows, some-rows, many-rows, most-rows};
+ghost use Rattle.tree.specs.Layout.{few-rows, some-rows, many-rows, half-rows, most-rows};
 ghost use Rattle.tree.specs.TreeBytes.{Whole, Path-text, Entry-path-text};
 ghost use Rattle.copying.specs.CopyRows.{subtree-rows};
 ghost use Rattle.shell.specs.CommandBytes.{Follows-silently};
@@ -16,6 +16,7 @@ use accounts::Caller;
 use copying::Copier;
 use shell::Answer;
 use tree::FEW_ROWS;
+use tree::HALF_ROWS;
 use tree::MANY_ROWS;
 use tree::SOME_ROWS;
 use tree::TREE;
@@ -27,6 +28,8 @@ const FEW_WIDTH: usize = 930;
 const SOME_WIDTH: usize = 3714;
 
 const MANY_WIDTH: usize = 14850;
+
+const HALF_WIDTH: usize = 29698;
 
 // What is left of the command behind its first checks, by an array for the copies of few rows.
 fn co_few(tree: &mut [u8], who: Copier, site: Site, entry: &[u8], to: &[u8]) -> Answer
@@ -58,6 +61,16 @@ fn co_many(tree: &mut [u8], who: Copier, site: Site, entry: &[u8], to: &[u8]) ->
     co_by(tree, who, site, entry, to, &mut out)
 }
 
+// By one for half the rows of a tree.
+fn co_half(tree: &mut [u8], who: Copier, site: Site, entry: &[u8], to: &[u8]) -> Answer
+    requires { ⌜ Checkout who (now tree) (now entry) (now to) site ⌝ }
+    requires { ⌜ subtree-rows (now tree) (site .filed) ≤ half-rows ⌝ }
+    ensures { λ r. ⌜ Checked-out who (now (tree .entry)) (now (entry .entry)) (now (to .entry)) site r (now (tree .exit)) ⌝ }
+{
+    let mut out = [0u8; HALF_WIDTH];
+    co_by(tree, who, site, entry, to, &mut out)
+}
+
 // By one for as many rows as there is room for in a tree.
 fn co_all(tree: &mut [u8], who: Copier, site: Site, entry: &[u8], to: &[u8]) -> Answer
     requires { ⌜ Checkout who (now tree) (now entry) (now to) site ⌝ }
@@ -83,6 +96,9 @@ fn co_at(tree: &mut [u8], who: Copier, site: Site, entry: &[u8], to: &[u8]) -> A
     }
     if n <= MANY_ROWS {
         return co_many(tree, who, site, entry, to);
+    }
+    if n <= HALF_ROWS {
+        return co_half(tree, who, site, entry, to);
     }
     co_all(tree, who, site, entry, to)
 }

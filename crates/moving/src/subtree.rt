@@ -3,7 +3,7 @@ ghost use mathlib.Core.Path.{_≡_};
 ghost use Prim.Native.Nat.{_+_, _*_, _≤_, _<_};
 ghost use lib.ListN.{length, drop};
 ghost use lib.Seq.{paste};
-ghost use Rattle.tree.specs.Layout.{row-width, row-start, most-rows, few-rows, some-rows, many-rows};
+ghost use Rattle.tree.specs.Layout.{row-width, row-start, most-rows, few-rows, some-rows, many-rows, half-rows};
 ghost use Rattle.tree.specs.RowScan.{end-of-subtree};
 ghost use Rattle.tree.specs.Encoding.{encode-tree};
 ghost use Rattle.tree.specs.RowAt.{row-count, all-rows};
@@ -22,6 +22,7 @@ use gaps::last_name;
 use gaps::room_for;
 use tree::FEW_ROWS;
 use tree::FIRST;
+use tree::HALF_ROWS;
 use tree::MANY_ROWS;
 use tree::ROW;
 use tree::SOME_ROWS;
@@ -33,6 +34,8 @@ const FEW_WIDTH: usize = 928;
 const SOME_WIDTH: usize = 3712;
 
 const MANY_WIDTH: usize = 14848;
+
+const HALF_WIDTH: usize = 29696;
 
 const ALL_WIDTH: usize = 59392;
 
@@ -115,6 +118,17 @@ fn move_many(tree: &mut [u8], at: usize, n: usize, to: &[u8])
     move_by(tree, at, n, to, &mut held);
 }
 
+// By one for half the rows of a tree.
+fn move_half(tree: &mut [u8], at: usize, n: usize, to: &[u8])
+    requires { ⌜ Movable (now tree) at (now to) ⌝ }
+    requires { ⌜ at + n ≡ end-of-subtree (all-rows (now tree)) at ⌝ }
+    requires { ⌜ n ≤ half-rows ⌝ }
+    ensures { λ _. ⌜ ((m : Movable (now (tree .entry)) at (now (to .entry))) → now (tree .exit) ≡ encode-tree (moved m)) ⌝ }
+{
+    let mut held = [0u8; HALF_WIDTH];
+    move_by(tree, at, n, to, &mut held);
+}
+
 // By one for as many rows as there is room for in a tree.
 fn move_all(tree: &mut [u8], at: usize, n: usize, to: &[u8])
     requires { ⌜ Movable (now tree) at (now to) ⌝ }
@@ -142,6 +156,10 @@ pub fn move_place(tree: &mut [u8], at: usize, to: &[u8])
     }
     if n <= MANY_ROWS {
         move_many(tree, at, n, to);
+        return;
+    }
+    if n <= HALF_ROWS {
+        move_half(tree, at, n, to);
         return;
     }
     move_all(tree, at, n, to);

@@ -47,7 +47,7 @@ last-piece {t} {at} {f} i e =
     pieces-only-from comma t at (f .end) (i .begins) (i .ends) (eqb-true (f .end) (length t) (sym (i .last) ∙ e))
 
 -- another is the first of them
-pub next-piece : {t : Text} {at : ℕ} {f : Field} → Field-at t at f → f .last ≡ false →
+next-piece : {t : Text} {at : ℕ} {f : Field} → Field-at t at f → f .last ≡ false →
     pieces comma (drop at t) ≡ part t at (f .end) ∷ pieces comma (drop (f .end + 1) t)
 next-piece {t} {at} {f} i e =
     rw (add-one (f .end)) (pieces-first-from comma t at (f .end) (i .begins) (i .ends) (omega (arith, field-goes-on i e)))

@@ -16,7 +16,7 @@ use Rattle.buffers.specs.Text.{same-text, precedes}
 use Rattle.buffers.specs.TextLaws.{same-text-sound}
 use Rattle.syntax.specs.Path.{Name, Path, root, _▹_, same-path, extended}
 use Rattle.syntax.specs.PathLaws.{names-from-root}
-use Rattle.syntax.specs.WithinLaws.{Lies, itself, deeper, same-path-sound, same-path-refl}
+use Rattle.syntax.specs.WithinLaws.{Lies, itself, deeper, same-path-sound}
 use Rattle.syntax.specs.FormLaws.{no-answer, answered}
 use Rattle.tree.specs.Forest.{Forest, nil, node, Place, get, insert, at, under, update, place-at, alter, put, size, map-forest, map-place}
 use Rattle.tree.specs.ForestLaws.{get-map, size-map, under-map, at-map, at-at, at-twice, differ-sym}
@@ -184,10 +184,6 @@ module _ {b : List ℕ} {p : Path} {g : Node → Node} {t : Place Node} {q : Pat
   -- what the alteration keeps of a payload stays
   pub kept-part : {B : Type 0} (f : Node → B) → f (g (d .here)) ≡ f (d .here) → f (k .place .here) ≡ f (d .here)
   kept-part f e = ap f (k .here) ∙ case (same-path q p) (λ s. rw s e) (λ s. rw s)
-
--- at the path itself the payload is the altered one
-pub kept-same : {b : List ℕ} {p : Path} {g : Node → Node} {t : Place Node} {i : ℕ} {d : Place Node} (k : Kept b p g t p i d) → k .place .here ≡ g (d .here)
-kept-same {p = p} k = k .here ∙ rw (same-path-refl p)
 
 -- ---- a child put in beside an altered payload
 

@@ -25,6 +25,9 @@ some-rows = 16
 abbrev pub many-rows : ℕ
 many-rows = 64
 
+abbrev pub half-rows : ℕ
+half-rows = 128
+
 -- the number of rows, and all rows
 abbrev pub tree-width : ℕ
 tree-width = 59394

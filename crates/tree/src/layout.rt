@@ -31,6 +31,8 @@ pub const SOME_ROWS: usize = 16;
 
 pub const MANY_ROWS: usize = 64;
 
+pub const HALF_ROWS: usize = 128;
+
 // The fields of a row by their offsets, but for the depth, which stands first.
 pub const KIND: usize = 1;
 

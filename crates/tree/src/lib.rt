@@ -9,6 +9,7 @@ pub use layout::CONTENT_WIDTH;
 pub use layout::FEW_ROWS;
 pub use layout::FIRST;
 pub use layout::GROUP;
+pub use layout::HALF_ROWS;
 pub use layout::KIND;
 pub use layout::MANY_ROWS;
 pub use layout::MODE;

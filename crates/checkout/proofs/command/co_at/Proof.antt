@@ -38,14 +38,23 @@ same-length-3 c = search needs
 returns-3 : tie.Need-returns-3
 returns-3 c = search needs
 
-co-all-requires : tie.Need-co-all-requires
-co-all-requires c κs = search needs
+co-half-requires : tie.Need-co-half-requires
+co-half-requires c κs = search needs
 
 same-length-4 : tie.Need-same-length-4
 same-length-4 c = search needs
 
 returns-4 : tie.Need-returns-4
 returns-4 c = search needs
+
+co-all-requires : tie.Need-co-all-requires
+co-all-requires c κs = search needs
+
+same-length-5 : tie.Need-same-length-5
+same-length-5 c = search needs
+
+returns-5 : tie.Need-returns-5
+returns-5 c = search needs
 
 pub co-at-spec : {M : Type 1} → statement M
 co-at-spec =
@@ -62,6 +71,9 @@ co-at-spec =
     co-many-requires
     same-length-3
     returns-3
-    co-all-requires
+    co-half-requires
     same-length-4
-    returns-4)
+    returns-4
+    co-all-requires
+    same-length-5
+    returns-5)

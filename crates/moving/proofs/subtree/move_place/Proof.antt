@@ -50,18 +50,31 @@ same-length-3 c = c .before .before .move-many .kept .0
 returns-3 : tie.Need-returns-3
 returns-3 c = c .before .before .move-many .ensures
 
+move-half-requires : tie.Need-move-half-requires
+move-half-requires c κs =
+    let e = c .before .before .before .before .before in
+    let m = e .before .before .before .before .pre in
+    let z = movable-span m (e .subtree-end .result) (e .subtree-end .ensures .0) in
+    (m, (z .1 .0, omega arith))
+
+same-length-4 : tie.Need-same-length-4
+same-length-4 c = c .before .before .move-half .kept .0
+
+returns-4 : tie.Need-returns-4
+returns-4 c = c .before .before .move-half .ensures
+
 move-all-requires : tie.Need-move-all-requires
 move-all-requires c κs =
-    let e = c .before .before .before .before in
+    let e = c .before .before .before .before .before in
     let m = e .before .before .before .before .pre in
     let z = movable-span m (e .subtree-end .result) (e .subtree-end .ensures .0) in
     (m, (z .1 .0, z .1 .1))
 
-same-length-4 : tie.Need-same-length-4
-same-length-4 c = c .before .before .move-all .kept .0
+same-length-5 : tie.Need-same-length-5
+same-length-5 c = c .before .before .move-all .kept .0
 
-returns-4 : tie.Need-returns-4
-returns-4 c = c .before .before .move-all .ensures
+returns-5 : tie.Need-returns-5
+returns-5 c = c .before .before .move-all .ensures
 
 pub move-place-spec : {M : Type 1} → statement M
 move-place-spec =
@@ -78,6 +91,9 @@ move-place-spec =
     move-many-requires
     same-length-3
     returns-3
-    move-all-requires
+    move-half-requires
     same-length-4
-    returns-4)
+    returns-4
+    move-all-requires
+    same-length-5
+    returns-5)

@@ -1,0 +1,22 @@
+-- `checkout::command::co_half` meets its contract: the array has room for the copies of the rows.
+use native.Mathlib.Omega.{arith}
+use borrow.Author.Needs.{needs}
+use Rattle.checkout.proofs.command.co_half.Statement.{statement}
+use Rattle.checkout.proofs.command.co_half.Tie as tie
+
+slice-aggregate-co-by : tie.Need-slice-aggregate-co-by
+slice-aggregate-co-by c = search needs
+
+co-by-requires : tie.Need-co-by-requires
+co-by-requires c κs =
+    let p = c .before .before .before .before .before .pre in
+    (p .0, omega (arith, p .1))
+
+same-length : tie.Need-same-length
+same-length c = c .before .before .before .co-by .kept .0
+
+returns : tie.Need-returns
+returns c = c .before .before .before .co-by .ensures
+
+pub co-half-spec : {M : Type 1} → statement M
+co-half-spec = tie.close (tie.spec slice-aggregate-co-by co-by-requires same-length returns)
