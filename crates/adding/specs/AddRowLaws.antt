@@ -32,7 +32,7 @@ use Rattle.tree.specs.WellFormedLaws.{leaf-place}
 use Rattle.tree.specs.UpdateLaws.{place-at-root, place-at-child, leaf-height}
 use Rattle.tree.specs.ChangeLaws.{keep-put}
 use Rattle.tree.specs.OtherPathLaws.{put-stands}
-use Rattle.tree.specs.AlterLaws.{nodes-bare, lesser-bare, unused-bare, Kept, altered-at, put-altered}
+use Rattle.tree.specs.AlterLaws.{nodes-bare, lesser-bare, unused-bare, Altered-place, altered-at, put-altered}
 use Rattle.tree.specs.Rows.{Row}
 use Rattle.tree.specs.RowPlaces.{place-rows, lesser}
 use Rattle.tree.specs.Encoding.{tag-bytes, row-bytes, encode-tree, row-head, row-spare}
@@ -127,7 +127,7 @@ module _ {b : List ℕ} {s : Text} {i at k : ℕ} (j : Addition b s i at k) wher
     bytes = h ∙ ap (λ (x : Text). field-put b i tag-offset (tag-field x 1)) (text-of-entry s (j .filed) (j .reads)) ∙ tag-law (j .file) (j .filed) 1 valid
 
     -- a place of the tree before is one of the tagged
-    still : {q : Path} {m : ℕ} {d : Place Node} → At b (j .top) q m d → Kept b₁ (j .path) (set-tag tag) (j .top) q m d
+    still : {q : Path} {m : ℕ} {d : Place Node} → At b (j .top) q m d → Altered-place b₁ (j .path) (set-tag tag) (j .top) q m d
     still a =
         let x = j .found .here in
         let low : 1 ≤ last-revision = omega (arith, last-revision-is) in

@@ -5,11 +5,11 @@ use Rattle.shell.specs.Replies.{told, answer-of, written}
 use Rattle.store.specs.Compute.{compute-bytes as compute-store-bytes}
 use Rattle.machine.specs.Compute.{compute as compute-machine}
 use Rattle.listing.specs.Compute.{compute as compute-listing}
-use Rattle.calls.specs.Transcript.{after-end, parts, command-lines, reply-line, lines-text, call-of, session-text, output, transcript}
+use Rattle.calls.specs.Transcript.{after-end, input-parts, command-lines, reply-line, lines-text, call-of, session-text, output, transcript}
 use Rattle.calls.specs.Calls.{set-up, setup-call, called, on-state, line-on, run-result, run-call, listing-on, listing-result, listing-call}
 
 unfoldable pub compute : Unit {0}
-unfolding compute-machine compute-listing after-end parts command-lines reply-line lines-text call-of session-text output transcript
+unfolding compute-machine compute-listing after-end input-parts command-lines reply-line lines-text call-of session-text output transcript
 compute = tt
 
 -- and those of the calls on bytes beside them

@@ -13,7 +13,7 @@ use Rattle.machine.specs.Machine.{Machine}
 use Rattle.machine.specs.StoreMachine.{store}
 use Rattle.machine.specs.AbstractMachine.{abstract, initial-abstract}
 use Rattle.machine.specs.Runs.{runs}
-use Rattle.calls.specs.Transcript.{parts, command-lines, reply-line, call-of, transcript}
+use Rattle.calls.specs.Transcript.{input-parts, command-lines, reply-line, call-of, transcript}
 use Rattle.calls.specs.Compute.{compute}
 
 -- the answers of a machine to the commands of the program's input
@@ -23,7 +23,7 @@ answers M initial (accepted u) commands = map reply-line (runs M u (initial u) (
 
 answers-to : {S A : Type 0} → Machine S A → (Setup → S) → Text → List Text
 answers-to M initial text =
-    let i = parts (pieces newline text) in
+    let i = input-parts (pieces newline text) in
     answers M initial (setup (joined newline (i .of-setup))) (command-lines (i .of-commands))
 
 input : Text

@@ -14,7 +14,7 @@ use Rattle.tree.specs.declared.Cause.the-variants.{Missing}
 use Rattle.tree.specs.Causes.{number}
 use Rattle.tree.specs.WellFormed.{most-nodes}
 use Rattle.shell.specs.Replies.{Told}
-use Rattle.calls.specs.Transcript.{parts, command-lines, lines-text}
+use Rattle.calls.specs.Transcript.{input-parts, command-lines, lines-text}
 use Rattle.calls.specs.Calls.{Set-up, setup-call, run-call, listing-call}
 
 -- the text whose length a done call tells
@@ -68,5 +68,5 @@ after-setup called answer ts =
 
 unfoldable pub program : List ℕ → List ℕ → Text → Text
 program b answer input =
-    let i = parts (pieces newline input) in
+    let i = input-parts (pieces newline input) in
     after-setup (setup-call b (joined newline (i .of-setup))) answer (command-lines (i .of-commands))

@@ -29,7 +29,7 @@ use Rattle.machine.specs.Runs.{least-room, step, runs}
 use Rattle.machine.specs.MachineKeepingLaws.{step-keeps, runs-keep}
 use Rattle.listing.specs.Listing.{listing}
 use Rattle.listing.specs.ListingLaws.{listing-few}
-use Rattle.calls.specs.Transcript.{parts, command-lines, reply-line, call-of, session-text, output, transcript}
+use Rattle.calls.specs.Transcript.{input-parts, command-lines, reply-line, call-of, session-text, output, transcript}
 use Rattle.calls.specs.Calls.{setup-call, called, run-call, listing-on, listing-result, listing-call}
 use Rattle.calls.specs.CallsLaws.{on-encoding, past-the-end-is-3}
 use Rattle.calls.specs.CallBoundsLaws.{run-keeps-lengths, listing-keeps-lengths}
@@ -136,6 +136,6 @@ module _ (b answer : List ℕ) (width : length b ≡ 65536) (room : length answe
   pub program-is-transcript : (input : Text) → program b answer input ≡ transcript input
   unfolding program transcript
   program-is-transcript input =
-      let i = parts (pieces newline input) in
+      let i = input-parts (pieces newline input) in
       let text = joined newline (i .of-setup) in
       printed text (command-lines (i .of-commands)) (setup text) refl

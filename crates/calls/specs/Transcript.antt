@@ -24,10 +24,10 @@ after-end [] = record { of-setup = []; of-commands = [] }
 after-end (t ∷ ts) = record { of-setup = [] ∷ []; of-commands = t ∷ ts }
 
 -- the setup is the input through its first line `end`, or all of it where there is none
-unfoldable pub parts : List Text → Input
-parts [] = record { of-setup = []; of-commands = [] }
-parts (t ∷ ts) =
-    let rest = cond (same-text t (bytes "end")) (after-end ts) (parts ts) in
+unfoldable pub input-parts : List Text → Input
+input-parts [] = record { of-setup = []; of-commands = [] }
+input-parts (t ∷ ts) =
+    let rest = cond (same-text t (bytes "end")) (after-end ts) (input-parts ts) in
     record { of-setup = t ∷ rest .of-setup; of-commands = rest .of-commands }
 
 -- a command line ends at byte 10 or the input's end; nothing after a last byte 10 is no line
@@ -63,5 +63,5 @@ output (accepted u) commands = session-text u commands
 
 unfoldable pub transcript : Text → Text
 transcript input =
-    let i = parts (pieces newline input) in
+    let i = input-parts (pieces newline input) in
     output (setup (joined newline (i .of-setup))) (command-lines (i .of-commands))

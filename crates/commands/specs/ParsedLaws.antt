@@ -137,9 +137,9 @@ unfolding command-of
 word-first t u w ts ps r e h = rw e h
 
 -- a line of one field has no form
-pub line-short : (t s : Text) → pieces comma t ≡ s ∷ [] → parsed t NoForm ≡ Option·map some (line t)
+pub one-field-line : (t s : Text) → pieces comma t ≡ s ∷ [] → parsed t NoForm ≡ Option·map some (line t)
 unfolding parsed line line-of
-line-short t s e = rw e
+one-field-line t s e = rw e
 
 line-parts : (s : Text) (ps : List Text) → line-of (s ∷ ps) ≡ (uid s >>= λ u. line-with u (command-of ps))
 unfolding line-of line-with command-of _>>=_

@@ -82,8 +82,8 @@ length-row H N T C h n t c =
     length-append H (N ++ (T ++ (C ++ row-spare)))
     ∙ omega (arith, length-append N (T ++ (C ++ row-spare)), length-append T (C ++ row-spare), length-append C row-spare, length-replicate {A = ℕ} 80 0)
 
-pub length-fitting : (r : Row Node) → Fitting r → length (row-bytes r) ≡ row-width
-length-fitting r f =
+pub length-fitting-row : (r : Row Node) → Fitting r → length (row-bytes r) ≡ row-width
+length-fitting-row r f =
     ap length (row-parts r)
     ∙ length-row (row-head r) (padded name-width (r .name)) (tag-bytes (r .here .tag)) (padded content-width (r .here .content))
     (length-row-head r) (length-padded name-width (r .name) (f .name)) (f .tag) (length-padded content-width (r .here .content) (f .content))
@@ -118,7 +118,7 @@ module _ (o : List ℕ) (to : ℕ) (r : Row Node) (f : Fitting r) (room : row-st
       let R = padded name-width (r .name) ++ (tag-bytes (r .here .tag) ++ (padded content-width (r .here .content) ++ row-spare)) in
       let q : row-start to ≡ row-start to + 0 = omega arith in
       ap (λ (at : ℕ). paste (row-put o to r) at (row-head v) 8) q ∙ piece-put (row-put o to r) to 0 (row-head v) 8 refl
-      ∙ field-in-row o [] (row-head r) (row-head v) R to 0 r v (row-parts r) (row-parts v) refl refl (length-fitting r f) room
+      ∙ field-in-row o [] (row-head r) (row-head v) R to 0 r v (row-parts r) (row-parts v) refl refl (length-fitting-row r f) room
 
   -- another name
   name-put : (n : Name) → length n ≤ name-width → paste (row-put o to r) (row-start to + 8) (padded name-width n) 8 ≡ row-put o to (record { depth = r .depth; name = n; here = r .here })
@@ -127,7 +127,7 @@ module _ (o : List ℕ) (to : ℕ) (r : Row Node) (f : Fitting r) (room : row-st
       let l = length-padded name-width n h in
       piece-put (row-put o to r) to 8 (padded name-width n) 8 l
       ∙ field-in-row o (row-head r) (padded name-width (r .name)) (padded name-width n) (tag-bytes (r .here .tag) ++ (padded content-width (r .here .content) ++ row-spare)) to 8 r v
-      (row-parts r) (row-parts v) (length-row-head r) (length-padded name-width (r .name) (f .name) ∙ sym l) (length-fitting r f) room
+      (row-parts r) (row-parts v) (length-row-head r) (length-padded name-width (r .name) (f .name) ∙ sym l) (length-fitting-row r f) room
 
   -- another tag
   tag-put : (t : Tag) → is-entry-path (t .path) ≡ true
@@ -141,7 +141,7 @@ module _ (o : List ℕ) (to : ℕ) (r : Row Node) (f : Fitting r) (room : row-st
       let T = padded tag-width (entry-text (t .path)) ++ two-bytes (t .revision) in
       field-in-row o (H ++ N) (tag-bytes (r .here .tag)) T R to 16 r v
       (row-parts r ∙ before-tag H N (tag-bytes (r .here .tag) ++ R)) (row-parts v ∙ before-tag H N (T ++ R))
-      (length-append H N ∙ omega (arith, length-row-head r, length-padded name-width (r .name) (f .name))) (f .tag ∙ sym (length-tag t valid)) (length-fitting r f) room
+      (length-append H N ∙ omega (arith, length-row-head r, length-padded name-width (r .name) (f .name))) (f .tag ∙ sym (length-tag t valid)) (length-fitting-row r f) room
 
 -- ---- a row read
 
@@ -219,14 +219,14 @@ module _ (w : Copier) (k : ℕ) (n : Name) (g : Gid) (e : Entry-path) (x : Node)
     unfolding tag-text-at
     tag-there =
         let r = tagged-row w k n g e x in
-        ap (text-at tag-offset tag-width) (row-there o (row-bytes r) to (length-fitting r (copy-fitting ln lc valid)) room) ∙ tag-of-copy ln valid
+        ap (text-at tag-offset tag-width) (row-there o (row-bytes r) to (length-fitting-row r (copy-fitting ln lc valid)) room) ∙ tag-of-copy ln valid
 
     -- and so is its depth
     pub depth-there : row-at (row-put o to (tagged-row w k n g e x)) to .depth ≡ k
     unfolding row-at tagged-row
     depth-there =
         let r = tagged-row w k n g e x in
-        ap (λ (l : List ℕ). read-row l .depth) (row-there o (row-bytes r) to (length-fitting r (copy-fitting ln lc valid)) room) ∙ depth-of-bytes r
+        ap (λ (l : List ℕ). read-row l .depth) (row-there o (row-bytes r) to (length-fitting-row r (copy-fitting ln lc valid)) room) ∙ depth-of-bytes r
 
 -- ---- what the code writes
 
@@ -258,7 +258,7 @@ module _ (b : List ℕ) (at : ℕ) (h : Holds-row b at) where
   unfolding row-bytes-at
   bytes-copied o to =
       let r = row-at b at in
-      ap (λ (s : List ℕ). take (row-start to) o ++ s ++ drop (row-start to + row-width) o) (h .bytes ∙ sym (take-all row-width (row-bytes r) (omega (arith, length-fitting r held-fitting))))
+      ap (λ (s : List ℕ). take (row-start to) o ++ s ++ drop (row-start to + row-width) o) (h .bytes ∙ sym (take-all row-width (row-bytes r) (omega (arith, length-fitting-row r held-fitting))))
 
   module _ (o : List ℕ) (to : ℕ) (p : Has-row o to) where
     start-fits : row-start to ≤ length o

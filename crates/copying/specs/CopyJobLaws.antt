@@ -30,7 +30,7 @@ use Rattle.copying.specs.declared.Copier.{Copier}
 use Rattle.copying.specs.Copying.{copy-mode, copied, copy}
 use Rattle.copying.specs.CopyRows.{deepest, most-levels, Holds-row, row-put, Spelled, child-entry, read-by, copy-rows, tagged-row, copy-of-row, children, alone, Below, Job, job-rows, Written}
 use Rattle.copying.specs.CopyRowLaws.{row-held, row-stands, children-stand, stands-end, first-stands, others-stand, primary-group, copied-plain, copy-place-rows, copy-rows-nil, copy-rows-few, copy-rows-more, copy-rows-read, copy-rows-skipped}
-use Rattle.copying.specs.CopyBytesLaws.{child-depth, child-valid, length-fitting, copy-fitting, tag-there, depth-there}
+use Rattle.copying.specs.CopyBytesLaws.{child-depth, child-valid, length-fitting-row, copy-fitting, tag-there, depth-there}
 use Rattle.copying.specs.RowsWrittenLaws.{written-as, written-nothing, written-one, written-join, written-length, tag-kept, depth-kept}
 
 -- ---- one node
@@ -69,7 +69,7 @@ module _ {w : Copier} {o z : List ℕ} {to left k : ℕ} {n : Name} {group : Gid
   depth-is = ap (λ (s : List ℕ). row-at s to .depth) is ∙ depth-there w k n group e (d .here) o to (f .name) (f .content) (f .valid) start-fits
 
   row-wide : length (row-bytes (tagged-row w k n group e (d .here))) ≡ row-width
-  row-wide = length-fitting (tagged-row w k n group e (d .here)) (copy-fitting w k n group e (d .here) (f .name) (f .content) (f .valid))
+  row-wide = length-fitting-row (tagged-row w k n group e (d .here)) (copy-fitting w k n group e (d .here) (f .name) (f .content) (f .valid))
 
   -- the row leaves as many bytes
   pub copy-length : length z ≡ length o

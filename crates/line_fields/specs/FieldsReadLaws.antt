@@ -19,9 +19,9 @@ use Rattle.line_fields.specs.declared.Fields.{Fields}
 use Rattle.line_fields.specs.FieldsRead.{place-after, span-of, fields-of, fields-read, at-most, argument-texts, given, field-texts, Fields-inside}
 
 -- the line goes on inside it
-pub place-inside : (t : Text) (f : Field) → place-after t f ≤ length t
+pub place-after-inside : (t : Text) (f : Field) → place-after t f ≤ length t
 unfolding place-after
-place-inside t f = case (ltb (f .end) (length t)) (λ h. rw h (omega (arith, ltb-true (f .end) (length t) h))) (λ h. rw h (omega arith))
+place-after-inside t f = case (ltb (f .end) (length t)) (λ h. rw h (omega (arith, ltb-true (f .end) (length t) h))) (λ h. rw h (omega arith))
 
 -- four fields that are read one after another are those read from a place on
 pub read-in-turn : (t : Text) (at : ℕ) (w a b c : Field) (f : Fields) → w ≡ field-at t at → a ≡ field-at t (place-after t w) → b ≡ field-at t (place-after t a) → c ≡ field-at t (place-after t b)
@@ -74,7 +74,7 @@ module _ (t : Text) (at : ℕ) (h : at ≤ length t) where
   from-start = field-is t at _ h refl
 
   from-behind : (f : Field) → Field-at t (place-after t f) (field-at t (place-after t f))
-  from-behind f = field-is t (place-after t f) _ (place-inside t f) refl
+  from-behind f = field-is t (place-after t f) _ (place-after-inside t f) refl
 
   pub read-texts : field-texts t (fields-read t at) ≡ at-most 4 (pieces comma (drop at t))
   unfolding fields-read

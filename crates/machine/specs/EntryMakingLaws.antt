@@ -37,7 +37,7 @@ use Rattle.machine.specs.Embedding.{in-store, met}
 use Rattle.machine.specs.Observed.{Reached-without-root}
 use Rattle.machine.specs.SimulationLaws.{remove-tie}
 use Rattle.machine.specs.EntryChanges.{node-of, entry-of, Rightful, Making, by-add}
-use Rattle.machine.specs.EntryPlacesLaws.{same-entry, of-holds, of-none, none-of, free, filed-after, revised-after, by-session, node-tied, no-node, none-tied, tagged-tied, rightful-tied, In-both, in-both}
+use Rattle.machine.specs.EntryPlacesLaws.{same-entry, of-holds, of-none, no-entry-place, free, filed-after, revised-after, by-session, node-tied, no-node, none-tied, tagged-tied, rightful-tied, In-both, in-both}
 
 -- ---- one command of the abstract machine
 
@@ -70,7 +70,7 @@ module _ (u : Setup) (h : Abstract) (c : Caller) (e : Entry-path) (missing : ent
           here = leaf-here x;
         })),
       ))
-      (λ s. inl (of-none h′ e (rw made (put-leaf-none (abstract .entries h) (below-rep e) (e′ .folder) (e′ .name) x f folder unfiled s (none-of h e missing)))))
+      (λ s. inl (of-none h′ e (rw made (put-leaf-none (abstract .entries h) (below-rep e) (e′ .folder) (e′ .name) x f folder unfiled s (no-entry-place h e missing)))))
 
   own-add : (w : Path) (e′ : Entry-path) (r : Bounded-role) (d : Place Node)
       → walk (by-modes (c .account)) (h .workspace) w ≡ done d → owns (c .account) (d .here) ≡ true
@@ -120,7 +120,7 @@ module _ (u : Setup) (h : Abstract) (c : Caller) (e : Entry-path) (missing : ent
       then-check Stale tt _ λ _.
       then-check RevisionsSpent tt _ λ _.
       gives (inl (of-none _ e (rw (revised-after (k .tag .path) (k .node .content) h)
-      (alter-none (abstract .entries h) (below-rep e) (below-rep (k .tag .path)) _ (none-of h e missing)))))
+      (alter-none (abstract .entries h) (below-rep e) (below-rep (k .tag .path)) _ (no-entry-place h e missing)))))
 
   up-unmade : (w : Path) → Ensures (Unmade (repository (up w))) (run-up abstract u h c w)
   unfolding run-up entry-of Unmade

@@ -75,9 +75,9 @@ map-none f none i = refl
 map-none f (some a) i = no-answer (sym i)
 
 -- and where no entry is, there is no place
-pub none-of : (h : Abstract) (e : Entry-path) → entry-of h e ≡ none → place-at (abstract .entries h) (below-rep e) ≡ none
+pub no-entry-place : (h : Abstract) (e : Entry-path) → entry-of h e ≡ none → place-at (abstract .entries h) (below-rep e) ≡ none
 unfolding entry-of
-none-of h e i = map-none (λ d. d .here) (place-at (abstract .entries h) (below-rep e)) i
+no-entry-place h e i = map-none (λ d. d .here) (place-at (abstract .entries h) (below-rep e)) i
 
 -- where a walk finds the name unused there is no entry
 pub free : (j : Judge Filed) (t : Place Filed) (e : Entry-path) (f : Place Filed)

@@ -11,26 +11,26 @@ use Rattle.patterns.specs.declared.Turn.the-variants.{Line, Read}
 use Rattle.patterns.specs.declared.Turn.the-variants
 
 -- the buffer that standard input is read into
-abbrev pub Wide : List ℕ → Type 0
-Wide b = length b ≡ 65536
+abbrev pub Wide-window : List ℕ → Type 0
+Wide-window b = length b ≡ 65536
 
 -- a window lies in a buffer of that length
-pub record Held (w : Window) (n : ℕ) : Type 0 where
+pub record Window-held (w : Window) (n : ℕ) : Type 0 where
   pub wide : n ≡ 65536
   pub ordered : w .from ≤ w .to
   pub within : w .to ≤ n
 
 -- the windows that a step leaves lie in it too
 abbrev pub Stays : Step → ℕ → Type 0
-Stays (On w) n = Held w n
-Stays (Over w) n = Held w n
+Stays (On w) n = Window-held w n
+Stays (Over w) n = Window-held w n
 Stays Failed n = Unit {0}
 
 -- the line that a turn takes lies between the window's start and the buffer's end, and so does what is left behind it
 pub record Line-held (end : ℕ) (rest w : Window) (n : ℕ) : Type 0 where
   pub begins : w .from ≤ end
   pub ends : end ≤ n
-  pub behind : Held rest n
+  pub behind : Window-held rest n
 
 abbrev pub Turns : Turn → Window → ℕ → Type 0
 Turns (Line end rest) w n = Line-held end rest w n

@@ -1,7 +1,7 @@
 // The command lines: each is handed to the library as it comes, and its answer printed.
 ghost use Prim.Native.Nat.{_≤_};
 ghost use lib.ListN.{length};
-ghost use Rattle.patterns.specs.Held.{Held, Stays, Turns, Answering};
+ghost use Rattle.patterns.specs.Held.{Window-held, Stays, Turns, Answering};
 use crate::Step;
 use crate::Turn;
 use crate::Window;
@@ -13,7 +13,7 @@ use printing::next_line;
 // What to do with a line whose end has not been read. One that fills the window is too long for any form, as its first bytes are: these
 // are run, and the others passed over.
 fn unended(buffer: &[u8], w: Window) -> Turn
-    requires { ⌜ Held w (length (now buffer)) ⌝ }
+    requires { ⌜ Window-held w (length (now buffer)) ⌝ }
     ensures { λ r. ⌜ Turns r w (length (now (buffer .entry))) ⌝ }
 {
     let from = w.from;
@@ -32,7 +32,7 @@ fn unended(buffer: &[u8], w: Window) -> Turn
 
 // What to do next.
 fn next_turn(buffer: &[u8], w: Window) -> Turn
-    requires { ⌜ Held w (length (now buffer)) ⌝ }
+    requires { ⌜ Window-held w (length (now buffer)) ⌝ }
     ensures { λ r. ⌜ Turns r w (length (now (buffer .entry))) ⌝ }
 {
     let from = w.from;
@@ -70,7 +70,7 @@ fn take_line(
 ) -> Step
     requires { ⌜ w .from ≤ end ⌝ }
     requires { ⌜ end ≤ length (now buffer) ⌝ }
-    requires { ⌜ Held rest (length (now buffer)) ⌝ }
+    requires { ⌜ Window-held rest (length (now buffer)) ⌝ }
     requires { ⌜ Answering (now answer) ⌝ }
     ensures { λ r. ⌜ Stays r (length (now (buffer .entry))) ⌝ }
 {
@@ -86,7 +86,7 @@ fn take_line(
 
 // Takes the next line, or reads more of it.
 fn step(store: &mut [u8], buffer: &mut [u8], w: Window, answer: &mut [u8]) -> Step
-    requires { ⌜ Held w (length (now buffer)) ⌝ }
+    requires { ⌜ Window-held w (length (now buffer)) ⌝ }
     requires { ⌜ Answering (now answer) ⌝ }
     ensures { λ r. ⌜ Stays r (length (now (buffer .exit))) ⌝ }
 {
@@ -99,7 +99,7 @@ fn step(store: &mut [u8], buffer: &mut [u8], w: Window, answer: &mut [u8]) -> St
 
 // Runs all lines from a window on. Whether all were answered. The turns are more than any run uses.
 pub fn run_lines(store: &mut [u8], buffer: &mut [u8], first: Window, answer: &mut [u8]) -> bool
-    requires { ⌜ Held first (length (now buffer)) ⌝ }
+    requires { ⌜ Window-held first (length (now buffer)) ⌝ }
     requires { ⌜ Answering (now answer) ⌝ }
 {
     let mut w = first;

@@ -5,7 +5,7 @@ mod setup_phase;
 mod streams;
 
 ghost use lib.ListN.{length};
-ghost use Rattle.patterns.specs.Held.{Held, Answering, Wide};
+ghost use Rattle.patterns.specs.Held.{Window-held, Answering, Wide-window};
 use command_phase::run_lines;
 use listing_phase::print_listing;
 use setup_phase::read_setup;
@@ -43,7 +43,7 @@ pub enum Turn {
 
 // The command lines from a window on, and then the listing.
 fn run_all(store: &mut [u8], window: &mut [u8], w: Window, answer: &mut [u8])
-    requires { ⌜ Held w (length (now window)) ⌝ }
+    requires { ⌜ Window-held w (length (now window)) ⌝ }
     requires { ⌜ Answering (now answer) ⌝ }
 {
     if run_lines(store, window, w, answer) {
@@ -53,7 +53,7 @@ fn run_all(store: &mut [u8], window: &mut [u8], w: Window, answer: &mut [u8])
 
 // The whole program over its buffers.
 fn serve(store: &mut [u8], window: &mut [u8], answer: &mut [u8])
-    requires { ⌜ Wide (now window) ⌝ }
+    requires { ⌜ Wide-window (now window) ⌝ }
     requires { ⌜ Answering (now answer) ⌝ }
 {
     let Step::Over(w) = read_setup(window) else {

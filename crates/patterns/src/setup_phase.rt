@@ -1,5 +1,5 @@
 // The setup: read to its end, and handed to the library.
-ghost use Rattle.patterns.specs.Held.{Held, Stays, Answering, Wide};
+ghost use Rattle.patterns.specs.Held.{Window-held, Stays, Answering, Wide-window};
 ghost use lib.ListN.{length};
 use crate::Step;
 use crate::Window;
@@ -12,7 +12,7 @@ use printing::setup_end;
 
 // Reads more of a setup whose end has not been read; where the input has ended, all of it is the setup.
 fn read_more(buffer: &mut [u8], w: Window) -> Step
-    requires { ⌜ Held w (length (now buffer)) ⌝ }
+    requires { ⌜ Window-held w (length (now buffer)) ⌝ }
     ensures { λ r. ⌜ Stays r (length (now (buffer .exit))) ⌝ }
 {
     let to = w.to;
@@ -28,7 +28,7 @@ fn read_more(buffer: &mut [u8], w: Window) -> Step
 
 // Seeks the setup's end in what has been read: the commands follow it.
 fn seek_end(buffer: &mut [u8], w: Window) -> Step
-    requires { ⌜ Held w (length (now buffer)) ⌝ }
+    requires { ⌜ Window-held w (length (now buffer)) ⌝ }
     ensures { λ r. ⌜ Stays r (length (now (buffer .exit))) ⌝ }
 {
     let to = w.to;
@@ -40,7 +40,7 @@ fn seek_end(buffer: &mut [u8], w: Window) -> Step
 
 // Reads the setup, which is what stands in front of the window that is left. The turns are more than any run uses.
 pub fn read_setup(buffer: &mut [u8]) -> Step
-    requires { ⌜ Wide (now buffer) ⌝ }
+    requires { ⌜ Wide-window (now buffer) ⌝ }
     ensures { λ r. ⌜ Stays r (length (now (buffer .exit))) ⌝ }
 {
     let mut w = Window {
@@ -63,7 +63,7 @@ pub fn read_setup(buffer: &mut [u8]) -> Step
 
 // Sets the store up from the text in front of the window, and prints a refusal. Whether it is set up.
 pub fn set_up(store: &mut [u8], buffer: &[u8], w: Window, answer: &[u8]) -> bool
-    requires { ⌜ Held w (length (now buffer)) ⌝ }
+    requires { ⌜ Window-held w (length (now buffer)) ⌝ }
     requires { ⌜ Answering (now answer) ⌝ }
 {
     let from = w.from;

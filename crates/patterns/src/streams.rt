@@ -2,7 +2,7 @@
 ghost use mathlib.Core.Path.{_≡_};
 ghost use Prim.Native.Nat.{_≤_};
 ghost use lib.ListN.{length};
-ghost use Rattle.patterns.specs.Held.{Held, Stays, Wide, Answering};
+ghost use Rattle.patterns.specs.Held.{Window-held, Stays, Wide-window, Answering};
 use crate::Step;
 use crate::Window;
 use buffers::move_bytes;
@@ -64,7 +64,7 @@ pub fn print_listed(r: Answer, answer: &[u8]) -> bool
 
 // Reads once behind the first bytes of the buffer, which are kept.
 fn read_behind(buffer: &mut [u8], kept: usize, passing: bool) -> Step
-    requires { ⌜ Wide (now buffer) ⌝ }
+    requires { ⌜ Wide-window (now buffer) ⌝ }
     requires { ⌜ kept ≤ length (now buffer) ⌝ }
     ensures { λ r. ⌜ Stays r (length (now (buffer .exit))) ⌝ }
 {
@@ -84,7 +84,7 @@ fn read_behind(buffer: &mut [u8], kept: usize, passing: bool) -> Step
 
 // Moves what is left to the front of the buffer and reads more behind it, where there is room.
 pub fn refill(buffer: &mut [u8], w: Window) -> Step
-    requires { ⌜ Held w (length (now buffer)) ⌝ }
+    requires { ⌜ Window-held w (length (now buffer)) ⌝ }
     ensures { λ r. ⌜ Stays r (length (now (buffer .exit))) ⌝ }
 {
     let from = w.from;

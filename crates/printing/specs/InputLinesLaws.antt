@@ -16,7 +16,7 @@ use Rattle.syntax.specs.Pieces.{bytes, newline, prefix-first, pieces, joined, p
 use Rattle.syntax.specs.FormLaws.{answered, no-answer}
 use Rattle.syntax.specs.Parts.{part}
 use Rattle.syntax.specs.PartsLaws.{pieces-some, pieces-first, pieces-first-from, pieces-only-from, piece-end-le, joined-pieces}
-use Rattle.calls.specs.Transcript.{Input, after-end, parts, command-lines}
+use Rattle.calls.specs.Transcript.{Input, after-end, input-parts, command-lines}
 use Rattle.printing.specs.declared.NextLine.the-variants.{Line, Last, More, Nothing}
 use Rattle.printing.specs.InputLines.{end-after, setup-length, next-line}
 
@@ -131,20 +131,20 @@ first-line t p q ps w = case (ltb (piece-length newline t) (length t))
     let z : part t 0 (length t) ∷ [] ≡ p ∷ (q ∷ ps) = sym k ∙ w in
     contra {b = true} refl (cc))
 
--- the parts of an input by its first line
+-- the input-parts of an input by its first line
 parts-end : (p : Text) (ps : List Text) → same-text p (bytes "end") ≡ true → 1 ≤ length ps →
-    parts (p ∷ ps) ≡ record { of-setup = p ∷ ([] ∷ []); of-commands = ps }
-unfolding parts after-end
+    input-parts (p ∷ ps) ≡ record { of-setup = p ∷ ([] ∷ []); of-commands = ps }
+unfolding input-parts after-end
 parts-end p [] e h = let z : ⊥ = omega arith in absurd z
 parts-end p (q ∷ ps) e h = rw e
 
 parts-more : (p : Text) (ps : List Text) → same-text p (bytes "end") ≡ false →
-    parts (p ∷ ps) ≡ record { of-setup = p ∷ parts ps .of-setup; of-commands = parts ps .of-commands }
-unfolding parts
+    input-parts (p ∷ ps) ≡ record { of-setup = p ∷ input-parts ps .of-setup; of-commands = input-parts ps .of-commands }
+unfolding input-parts
 parts-more p ps e = rw e
 
-parts-some : (ps : List Text) → 1 ≤ length ps → 1 ≤ length (parts ps .of-setup)
-unfolding parts
+parts-some : (ps : List Text) → 1 ≤ length ps → 1 ≤ length (input-parts ps .of-setup)
+unfolding input-parts
 parts-some [] h = let z : ⊥ = omega arith in absurd z
 parts-some (p ∷ ps) h = omega arith
 
@@ -154,8 +154,8 @@ record Split (t rest : Text) (at e : ℕ) : Type 0 where
   back : Text
   whole : t ≡ front ++ back
   long : e ≡ at + length front
-  setup-is : joined newline (parts (pieces newline (t ++ rest)) .of-setup) ≡ front
-  commands-are : parts (pieces newline (t ++ rest)) .of-commands ≡ pieces newline (back ++ rest)
+  setup-is : joined newline (input-parts (pieces newline (t ++ rest)) .of-setup) ≡ front
+  commands-are : input-parts (pieces newline (t ++ rest)) .of-commands ≡ pieces newline (back ++ rest)
 
 split : (ps : List Text) (t rest : Text) (at e : ℕ) → pieces newline t ≡ ps → end-after at ps ≡ some e → Split t rest at e
 unfolding end-after joined
@@ -168,7 +168,7 @@ split (p ∷ (q ∷ ps)) t rest at e w h =
     case (same-text p (bytes "end"))
     (λ s.
     let n : e ≡ at + suc (length p) = answered (rw s at h) in
-    let i = ap parts (f .before rest) ∙ parts-end p R s some-left in
+    let i = ap input-parts (f .before rest) ∙ parts-end p R s some-left in
     record {
       front = p ++ (newline ∷ []);
       back = f .behind;
@@ -179,7 +179,7 @@ split (p ∷ (q ∷ ps)) t rest at e w h =
     })
     (λ s.
     let r = split (q ∷ ps) (f .behind) rest (at + suc (length p)) e (f .lines) (rw s at h) in
-    let i = ap parts (f .before rest) ∙ parts-more p R s in
+    let i = ap input-parts (f .before rest) ∙ parts-more p R s in
     record {
       front = p ++ (newline ∷ r .front);
       back = r .back;
@@ -187,7 +187,7 @@ split (p ∷ (q ∷ ps)) t rest at e w h =
       long = omega (arith, r .long, length-append p (newline ∷ r .front));
       setup-is =
           ap (λ (x : Input). joined newline (x .of-setup)) i
-          ∙ joined-first newline p (parts R .of-setup) (parts-some R some-left)
+          ∙ joined-first newline p (input-parts R .of-setup) (parts-some R some-left)
           ∙ ap (λ (x : Text). p ++ (newline ∷ x)) (r .setup-is);
       commands-are = ap (λ (x : Input). x .of-commands) i ∙ r .commands-are;
     })
@@ -195,8 +195,8 @@ split (p ∷ (q ∷ ps)) t rest at e w h =
 -- the setup and the commands of an input of which a text has been read
 pub record Setup-in (t rest : Text) (e : ℕ) : Type 0 where
   pub within : e ≤ length t
-  pub setup-text : joined newline (parts (pieces newline (t ++ rest)) .of-setup) ≡ take e t
-  pub commands : parts (pieces newline (t ++ rest)) .of-commands ≡ pieces newline (drop e t ++ rest)
+  pub setup-text : joined newline (input-parts (pieces newline (t ++ rest)) .of-setup) ≡ take e t
+  pub commands : input-parts (pieces newline (t ++ rest)) .of-commands ≡ pieces newline (drop e t ++ rest)
 
 -- where the text has the setup's end, that is the end of the whole input's setup
 pub setup-in : (t rest : Text) (e : ℕ) → setup-length t ≡ some e → Setup-in t rest e
@@ -212,8 +212,8 @@ setup-in t rest e h =
       commands = s .commands-are ∙ ap (λ (x : Text). pieces newline (x ++ rest)) (sym b);
     }
 
-all-setup : (at : ℕ) (ps : List Text) → end-after at ps ≡ none → parts ps ≡ record { of-setup = ps; of-commands = [] }
-unfolding end-after parts after-end
+all-setup : (at : ℕ) (ps : List Text) → end-after at ps ≡ none → input-parts ps ≡ record { of-setup = ps; of-commands = [] }
+unfolding end-after input-parts after-end
 all-setup at [] h = refl
 all-setup at (p ∷ []) h = case (same-text p (bytes "end")) (λ s. rw s) (λ s. rw s)
 all-setup at (p ∷ (q ∷ ps)) h = case (same-text p (bytes "end"))
@@ -224,7 +224,7 @@ all-setup at (p ∷ (q ∷ ps)) h = case (same-text p (bytes "end"))
 
 -- where an input has no such end, all of it is the setup and there are no commands
 pub no-setup-end : (t : Text) → setup-length t ≡ none →
-    (joined newline (parts (pieces newline t) .of-setup) ≡ t) × (parts (pieces newline t) .of-commands ≡ [])
+    (joined newline (input-parts (pieces newline t) .of-setup) ≡ t) × (input-parts (pieces newline t) .of-commands ≡ [])
 unfolding setup-length
 no-setup-end t h =
     let i = all-setup 0 (pieces newline t) h in

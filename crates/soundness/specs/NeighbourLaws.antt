@@ -8,7 +8,7 @@ use lib.ListN.{getD}
 use Rattle.soundness.specs.Tests.{neighbours-pass}
 
 -- a loop over n places: what is left, with what was seen, is the whole
-pub record Seen (f : ℕ → ℕ → Bool) (s : List ℕ) (at n : ℕ) (all : Bool) (i : ℕ) : Type 0 where
+pub record Passed-up-to (f : ℕ → ℕ → Bool) (s : List ℕ) (at n : ℕ) (all : Bool) (i : ℕ) : Type 0 where
   pub le : i ≤ n
   pub goes : (all && neighbours-pass f (at + i) (n - i) s) ≡ neighbours-pass f at n s
 
@@ -30,13 +30,13 @@ module _ (f : ℕ → ℕ → Bool) where
   pass-behind n b l = pass-alike n 1 0 (b ∷ l) l (λ k h. let p : 1 + k ≡ suc k = omega arith in let q : 0 + k ≡ k = omega arith in rw (p, q))
 
   module _ (s : List ℕ) (at n : ℕ) where
-    pub begins : Seen f s at n true 0
+    pub begins : Passed-up-to f s at n true 0
     begins =
         let q : at + 0 ≡ at = omega arith in
         let p : n - 0 ≡ n = omega arith in
         record { le = omega arith; goes = ap₂ (λ (k m : ℕ). neighbours-pass f k m s) q p }
 
-    pub one-more : {all : Bool} {i : ℕ} (r : Bool) → Seen f s at n all i → i < n → r ≡ f (getD s (at + i) 0) (getD s (at + i + 1) 0) → Seen f s at n (all && r) (i + 1)
+    pub one-more : {all : Bool} {i : ℕ} (r : Bool) → Passed-up-to f s at n all i → i < n → r ≡ f (getD s (at + i) 0) (getD s (at + i + 1) 0) → Passed-up-to f s at n (all && r) (i + 1)
     unfolding neighbours-pass
     one-more {all} {i} r g h e =
         let q : n - i ≡ suc (n - (i + 1)) = omega arith in
@@ -55,7 +55,7 @@ module _ (f : ℕ → ℕ → Bool) where
               ∙ g .goes;
         }
 
-    pub ends : {all : Bool} {i : ℕ} → Seen f s at n all i → n ≤ i → all ≡ neighbours-pass f at n s
+    pub ends : {all : Bool} {i : ℕ} → Passed-up-to f s at n all i → n ≤ i → all ≡ neighbours-pass f at n s
     unfolding neighbours-pass
     ends {all} {i} g h =
         let q : n - i ≡ 0 = omega arith in

@@ -24,10 +24,10 @@ pieces-one b [] h = refl
 pieces-one b (c ∷ p) h = let i : _ = lacks-both b c p h in rw (i .0, pieces-one b p (i .1))
 
 -- and before a separator it is the first
-pub pieces-first : (b : ℕ) (p t : Text) → lacks b p ≡ true → pieces b (p ++ (b ∷ t)) ≡ p ∷ pieces b t
+pub pieces-before : (b : ℕ) (p t : Text) → lacks b p ≡ true → pieces b (p ++ (b ∷ t)) ≡ p ∷ pieces b t
 unfolding pieces prefix-first
-pieces-first b [] t h = rw (eq-eqb b b refl)
-pieces-first b (c ∷ p) t h = let i : _ = lacks-both b c p h in rw (i .0, pieces-first b p t (i .1))
+pieces-before b [] t h = rw (eq-eqb b b refl)
+pieces-before b (c ∷ p) t h = let i : _ = lacks-both b c p h in rw (i .0, pieces-before b p t (i .1))
 
 -- texts without the separator, joined by it and cut again, are the same texts
 pub pieces-joined : (b : ℕ) (p : Text) (ps : List Text) → every (lacks b) (p ∷ ps) ≡ true → pieces b (joined b (p ∷ ps)) ≡ p ∷ ps
@@ -35,7 +35,7 @@ unfolding joined every
 pieces-joined b p [] h = pieces-one b p (and-both (lacks b p) true h .0)
 pieces-joined b p (q ∷ ps) h =
     let i : _ = and-both (lacks b p) (every (lacks b) (q ∷ ps)) h in
-    rw (pieces-first b p (joined b (q ∷ ps)) (i .0), pieces-joined b q ps (i .1))
+    rw (pieces-before b p (joined b (q ∷ ps)) (i .0), pieces-joined b q ps (i .1))
 
 -- a joined text is as long as its pieces and the separators
 pub joined-one : (b : ℕ) (p : Text) → length (joined b (p ∷ [])) ≡ length p

@@ -13,7 +13,7 @@ use Rattle.buffers.specs.Cases.{case, and-both, contra}
 use Rattle.buffers.specs.Text.{Text, same-text, every, lacks}
 use Rattle.buffers.specs.TextLaws.{same-text-refl, same-text-sound, every-implies, every-append}
 use Rattle.syntax.specs.Pieces.{bytes, joined, pieces}
-use Rattle.syntax.specs.JoinedLaws.{pieces-first, pieces-joined}
+use Rattle.syntax.specs.JoinedLaws.{pieces-before, pieces-joined}
 use Rattle.syntax.specs.Form.{_>>=_, _>>_, check}
 use Rattle.syntax.specs.FormLaws.{no-answer, both-read, checked, answered}
 use Rattle.syntax.specs.Path.{Name, Path, root, _▹_, Entry-path, parent, last, depth, is-top, rep, in-rep, entry-location, reserved, name-byte, is-name, most-names, has-names, is-path, is-entry-path, extended, names-from-top, path, without-rep, entry-at, entry-path, names-text, path-text, entry-text}
@@ -99,7 +99,7 @@ unfolding names-text names has-names pieces
 pieces-names-more root t h = refl
 pieces-names-more (p ▹ n) t h =
     let i : _ = and-both (has-names p) (is-name n) h in
-    rw (append-assoc (names-text p) (47 ∷ n) (47 ∷ t), pieces-names-more p (n ++ (47 ∷ t)) (i .0), pieces-first 47 n t (name-lacks 47 (omega arith) n (i .1)))
+    rw (append-assoc (names-text p) (47 ∷ n) (47 ∷ t), pieces-names-more p (n ++ (47 ∷ t)) (i .0), pieces-before 47 n t (name-lacks 47 (omega arith) n (i .1)))
     (ap (λ (l : List Text). [] ∷ l) (sym (append-assoc (names p) (n ∷ []) (pieces 47 t))))
 
 extended-append : (q : Path) (k l : List Name) → extended q (k ++ l) ≡ extended (extended q k) l

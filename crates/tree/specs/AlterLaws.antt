@@ -4,7 +4,7 @@
 -- In order:
 --   two changes at one path, and changes that come to the same at a place: update-twice, alter-twice, alter-alike;
 --   the shape of a tree, and what goes by it: bare to unused-bare;
---   the row of a place after a payload was altered: Kept, altered-at, and what it holds;
+--   the row of a place after a payload was altered: Altered-place, altered-at, and what it holds;
 --   a child put in beside an altered payload: put-altered.
 use mathlib.Core.Path.{_≡_, refl, sym, _∙_, ap}
 use mathlib.Core.List.{List, [], _∷_}
@@ -145,7 +145,7 @@ module _ {A : Type 0} where
 -- ---- the row of a place after a payload was altered
 
 -- row i is that of the place at q still, which has the shape of d; its payload is altered if q is where that was done
-pub record Kept (b : List ℕ) (p : Path) (g : Node → Node) (t : Place Node) (q : Path) (i : ℕ) (d : Place Node) : Type 0 where
+pub record Altered-place (b : List ℕ) (p : Path) (g : Node → Node) (t : Place Node) (q : Path) (i : ℕ) (d : Place Node) : Type 0 where
   pub place : Place Node
   pub at : At b (update p (alter g) t) q i place
   pub shape : bare place ≡ bare d
@@ -164,7 +164,7 @@ module _ {b : List ℕ} {t : Place Node} {q : Path} {i : ℕ} {d : Place Node} (
 
   -- the bytes of the altered tree have it at its row
   pub altered-at : {p : Path} {e : Place Node} (g : Node → Node) → place-at t p ≡ some e → is-node (g (e .here)) ≡ true → g (e .here) .kind ≡ e .here .kind
-      → {b₁ : List ℕ} → b₁ ≡ encode-tree (update p (alter g) t) → Kept b₁ p g t q i d
+      → {b₁ : List ℕ} → b₁ ≡ encode-tree (update p (alter g) t) → Altered-place b₁ p g t q i d
   altered-at {p} {e} g there own kind {b₁} bytes =
       let t₁ = update p (alter g) t in
       let s = bare-altered p g t in
@@ -180,7 +180,7 @@ module _ {b : List ℕ} {t : Place Node} {q : Path} {i : ℕ} {d : Place Node} (
         here = altered-here p g (w .0) (w .1);
       }
 
-module _ {b : List ℕ} {p : Path} {g : Node → Node} {t : Place Node} {q : Path} {i : ℕ} {d : Place Node} (k : Kept b p g t q i d) where
+module _ {b : List ℕ} {p : Path} {g : Node → Node} {t : Place Node} {q : Path} {i : ℕ} {d : Place Node} (k : Altered-place b p g t q i d) where
   -- what the alteration keeps of a payload stays
   pub kept-part : {B : Type 0} (f : Node → B) → f (g (d .here)) ≡ f (d .here) → f (k .place .here) ≡ f (d .here)
   kept-part f e = ap f (k .here) ∙ case (same-path q p) (λ s. rw s e) (λ s. rw s)

@@ -10,7 +10,7 @@ use Rattle.buffers.specs.Text.{Text}
 use Rattle.syntax.specs.Pieces.{comma, pieces}
 use Rattle.syntax.specs.Parts.{part, span-text, number-of}
 use Rattle.syntax.specs.FieldPartsLaws.{Field-at, field-is, field-goes-on, field-inside, last-piece, next-field}
-use Rattle.commands.specs.ParsedLaws.{uid-not-read, line-short, line-no-caller, line-found}
+use Rattle.commands.specs.ParsedLaws.{uid-not-read, one-field-line, line-no-caller, line-found}
 use Rattle.commands.proofs.parser.parse.Statement.{statement}
 use Rattle.commands.proofs.parser.parse.Tie as tie
 
@@ -35,7 +35,7 @@ returns : tie.Need-returns
 returns c =
     let u = c .before .first-field in
     let t = now (c .before .before .before .args .line) in
-    line-short t (part t 0 (u .result .end)) (last-piece (field-is t 0 (u .result) (omega arith) (u .ensures)) (c .if1 .taken))
+    one-field-line t (part t 0 (u .result .end)) (last-piece (field-is t 0 (u .result) (omega arith) (u .ensures)) (c .if1 .taken))
 
 span-requires : tie.Need-span-requires
 span-requires c κs = search needs

@@ -39,7 +39,7 @@ use Rattle.syntax.specs.Parts.{field-at}
 use Rattle.line_fields.specs.declared.FieldReader.{FieldReader}
 use Rattle.line_fields.specs.declared.Fields.{Fields}
 use Rattle.line_fields.specs.FieldsRead.{place-after, fields-read}
-use Rattle.line_fields.specs.FieldsReadLaws.{place-inside, read-in-turn}
+use Rattle.line_fields.specs.FieldsReadLaws.{place-after-inside, read-in-turn}
 use Rattle.line_fields.proofs.FieldReader.Laws as T′
 use Rattle.syntax.proofs.Field as S
 use Rattle.syntax.proofs.Field.Laws as S′
@@ -130,7 +130,7 @@ module _ {M : Type 1} (𝓤 : URA M) (H : Heap 𝓤) (A : Atoms 𝓤) (W : Given
           → Sq W (Going r u (holds field l₄ w₁) (holds field l₅ w₂) (holds field l₆ w₃)) (runs C Λ En pieces.t-14 (atRet En Post))
       ends f₁ w₁ f₂ w₂ f₃ w₃ r u is₁ is₂ is₃ e₁ e₂ e₃ stands is =
           assigns ! (of-opd ! (load ! (from ! (stop !)) (look ! 26 refl))) (from ! (stop !)) (init ! 4 refl (reader-fits W κ r is)) $
-          reads-field ! mem run fm known-next r u stands (place-inside (now s) f₃) (and-then ! (load ! (from ! (stop !)) (look ! 4 refl)) (no-more !)) (λ f₄ w₄ e₄ is₄.
+          reads-field ! mem run fm known-next r u stands (place-after-inside (now s) f₃) (and-then ! (load ! (from ! (stop !)) (look ! 4 refl)) (no-more !)) (λ f₄ w₄ e₄ is₄.
           land ! (from ! (stop !)) (init ! 18 refl (field-fits W is₄)) $
           puts-together ! mem run fm known-four f₁ w₁ f₂ w₂ f₃ w₃ f₄ w₄ is₁ is₂ is₃ is₄
           (and-then ! (load ! (from ! (stop !)) (look ! 25 refl)) (and-then ! (load ! (from ! (stop !)) (look ! 23 refl)) (and-then ! (load ! (from ! (stop !)) (look ! 21 refl)) (and-then ! (load ! (from ! (stop !)) (look ! 19 refl)) (no-more !))))) (λ f w e is-f.
@@ -147,7 +147,7 @@ module _ {M : Type 1} (𝓤 : URA M) (H : Heap 𝓤) (A : Atoms 𝓤) (W : Given
           → Sq W (Going r u (holds field l₄ w₁) (holds field l₅ w₂) (room field l₆)) (runs C Λ En pieces.t-10 (atRet En Post))
       third f₁ w₁ f₂ w₂ r u is₁ is₂ e₁ e₂ stands is =
           assigns ! (of-opd ! (load ! (from ! (stop !)) (look ! 26 refl))) (from ! (stop !)) (init ! 8 refl (reader-fits W κ r is)) $
-          reads-field ! mem run fm known-next r u stands (place-inside (now s) f₂) (and-then ! (load ! (from ! (stop !)) (look ! 8 refl)) (no-more !)) (λ f₃ w₃ e₃ is₃.
+          reads-field ! mem run fm known-next r u stands (place-after-inside (now s) f₂) (and-then ! (load ! (from ! (stop !)) (look ! 8 refl)) (no-more !)) (λ f₃ w₃ e₃ is₃.
           land ! (from ! (stop !)) (init ! 20 refl (field-fits W is₃)) $ forget ! 8 refl $
           assigns ! (of-opd ! (load ! (from ! (stop !)) (look ! 26 refl))) (from ! (stop !)) (init ! 6 refl (reader-fits W κ r is)) $
           moves-past ! mem run fm known-past r u f₃ w₃ stands is₃ (and-then ! (load ! (from ! (stop !)) (look ! 5 refl)) (and-then ! (load ! (from ! (stop !)) (look ! 19 refl)) (no-more !))) (λ r′ u′ stands′ is′.
@@ -158,7 +158,7 @@ module _ {M : Type 1} (𝓤 : URA M) (H : Heap 𝓤) (A : Atoms 𝓤) (W : Given
           → Sq W (Going r u (holds field l₄ w₁) (room field l₅) (room field l₆)) (runs C Λ En pieces.t-6 (atRet En Post))
       second f₁ w₁ r u is₁ e₁ stands is =
           assigns ! (of-opd ! (load ! (from ! (stop !)) (look ! 26 refl))) (from ! (stop !)) (init ! 12 refl (reader-fits W κ r is)) $
-          reads-field ! mem run fm known-next r u stands (place-inside (now s) f₁) (and-then ! (load ! (from ! (stop !)) (look ! 12 refl)) (no-more !)) (λ f₂ w₂ e₂ is₂.
+          reads-field ! mem run fm known-next r u stands (place-after-inside (now s) f₁) (and-then ! (load ! (from ! (stop !)) (look ! 12 refl)) (no-more !)) (λ f₂ w₂ e₂ is₂.
           land ! (from ! (stop !)) (init ! 22 refl (field-fits W is₂)) $ forget ! 12 refl $
           assigns ! (of-opd ! (load ! (from ! (stop !)) (look ! 26 refl))) (from ! (stop !)) (init ! 10 refl (reader-fits W κ r is)) $
           moves-past ! mem run fm known-past r u f₂ w₂ stands is₂ (and-then ! (load ! (from ! (stop !)) (look ! 9 refl)) (and-then ! (load ! (from ! (stop !)) (look ! 21 refl)) (no-more !))) (λ r′ u′ stands′ is′.

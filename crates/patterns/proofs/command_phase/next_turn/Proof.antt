@@ -10,14 +10,14 @@ use Rattle.printing.specs.declared.NextLine.{NextLine}
 use Rattle.printing.specs.declared.NextLine.the-variants.{Line}
 use Rattle.printing.specs.InputLines.{next-line}
 use Rattle.printing.specs.InputLinesLaws.{next-is-line}
-use Rattle.patterns.specs.Held.{Held}
+use Rattle.patterns.specs.Held.{Window-held}
 use Rattle.patterns.specs.declared.Window.{Window}
 use borrow.Author.Needs.{needs}
 use Rattle.patterns.proofs.command_phase.next_turn.Statement.{statement}
 use Rattle.patterns.proofs.command_phase.next_turn.Tie as tie
 
 -- where the line ends
-line-within : (b : List ℕ) {w : Window} {r : NextLine} {e : ℕ} → Held w (length b) → r ≡ next-line (take (w .to) b) (w .from) (w .ended) → r ≡ Line e →
+line-within : (b : List ℕ) {w : Window} {r : NextLine} {e : ℕ} → Window-held w (length b) → r ≡ next-line (take (w .to) b) (w .from) (w .ended) → r ≡ Line e →
     (w .from ≤ e) × (e < w .to)
 line-within b {w} {e = e} h q k =
     let i = next-is-line (take (w .to) b) (w .from) (w .ended) [] e (sym q ∙ k) in

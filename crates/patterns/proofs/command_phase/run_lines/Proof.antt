@@ -5,7 +5,7 @@ use Prim.Native.Nat.{ℕ}
 use native.Mathlib.Omega.{arith}
 use lib.ListN.{length}
 use borrow.Author.Needs.{needs}
-use Rattle.patterns.specs.Held.{Held, Answering}
+use Rattle.patterns.specs.Held.{Window-held, Answering}
 use Rattle.patterns.specs.declared.Window.{Window}
 use Rattle.patterns.proofs.command_phase.run_lines.Statement.{statement}
 use Rattle.patterns.proofs.command_phase.run_lines.Tie as tie
@@ -14,7 +14,7 @@ record Running (store₀ buffer₀ answer₀ store buffer answer : List ℕ) (w 
   stores : length store ≡ length store₀
   buffers : length buffer ≡ length buffer₀
   answers : length answer ≡ length answer₀
-  held : Held w (length buffer)
+  held : Window-held w (length buffer)
   answering : Answering answer
 
 abbrev Inv-loop : tie.InvT-loop

@@ -5,14 +5,14 @@ use Prim.Native.Nat.{ℕ}
 use native.Mathlib.Omega.{arith}
 use lib.ListN.{length}
 use borrow.Author.Needs.{needs}
-use Rattle.patterns.specs.Held.{Held}
+use Rattle.patterns.specs.Held.{Window-held}
 use Rattle.patterns.specs.declared.Window.{Window}
 use Rattle.patterns.proofs.setup_phase.read_setup.Statement.{statement}
 use Rattle.patterns.proofs.setup_phase.read_setup.Tie as tie
 
 record Seeking (buffer₀ buffer : List ℕ) (w : Window) : Type 0 where
   buffers : length buffer ≡ length buffer₀
-  held : Held w (length buffer)
+  held : Window-held w (length buffer)
 
 abbrev Inv-loop : tie.InvT-loop
 Inv-loop buffer₀ w₀ turns₀ buffer w turns = Seeking buffer₀ buffer w

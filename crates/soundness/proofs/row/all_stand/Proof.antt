@@ -3,12 +3,12 @@ use Prim.Native.Nat.{_-_}
 use native.Mathlib.Omega.{arith}
 use denote.Ref.{now}
 use Rattle.soundness.specs.Tests.{may-stand}
-use Rattle.soundness.specs.NeighbourLaws.{Seen, begins, one-more, ends}
+use Rattle.soundness.specs.NeighbourLaws.{Passed-up-to, begins, one-more, ends}
 use Rattle.soundness.proofs.row.all_stand.Statement.{statement}
 use Rattle.soundness.proofs.row.all_stand.Tie as tie
 
 abbrev Inv-loop : tie.InvT-loop
-Inv-loop s at all₀ i₀ all i = Seen may-stand s at 64 all i
+Inv-loop s at all₀ i₀ all i = Passed-up-to may-stand s at 64 all i
 
 abbrev μ-loop : tie.MeasureT-loop
 μ-loop s at all₀ i₀ all i = 64 - i

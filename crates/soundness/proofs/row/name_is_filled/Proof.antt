@@ -5,13 +5,13 @@ use native.Mathlib.Omega.{arith}
 use denote.Ref.{now}
 use Rattle.tree.specs.Layout.{row-start, name-offset}
 use Rattle.soundness.specs.Tests.{may-fill}
-use Rattle.soundness.specs.NeighbourLaws.{Seen, begins, one-more, ends}
+use Rattle.soundness.specs.NeighbourLaws.{Passed-up-to, begins, one-more, ends}
 use Rattle.soundness.specs.FieldTestLaws.{name-in-row}
 use Rattle.soundness.proofs.row.name_is_filled.Statement.{statement}
 use Rattle.soundness.proofs.row.name_is_filled.Tie as tie
 
 abbrev Inv-loop : tie.InvT-loop
-Inv-loop tree i at all₀ k₀ all k = Seen may-fill tree at 7 all k
+Inv-loop tree i at all₀ k₀ all k = Passed-up-to may-fill tree at 7 all k
 
 abbrev μ-loop : tie.MeasureT-loop
 μ-loop tree i at all₀ k₀ all k = 7 - k
