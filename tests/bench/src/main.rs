@@ -7,6 +7,7 @@
 mod agree;
 mod bench;
 mod cases;
+#[path = "../../library.rs"]
 mod library;
 mod plain;
 mod program;

@@ -4,6 +4,7 @@ mod damage;
 mod edges;
 mod generate;
 mod layout;
+#[path = "../../library.rs"]
 mod library;
 mod model;
 mod mutate;

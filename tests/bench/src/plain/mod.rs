@@ -13,19 +13,12 @@ mod sound;
 mod text;
 mod tree;
 
+pub use crate::library::{Answer, NO_VALUE};
 use number::{Number, NO_FORM, SHORT_ANSWER, UNKNOWN_CALLER, UNSOUND};
 use rows::Store;
 
 pub const STORE: usize = 65536;
 pub const ANSWER: usize = 4096;
-pub const NO_VALUE: u64 = u64::MAX;
-
-/// What a call says: a number of the table, and a length or a line where there is one.
-#[derive(Clone, Copy, Debug, PartialEq, Eq)]
-pub struct Answer {
-    pub number: u32,
-    pub value: u64,
-}
 
 /// The length of the answer's text, or none; or why the call is refused.
 type Outcome = Result<Option<usize>, Number>;
