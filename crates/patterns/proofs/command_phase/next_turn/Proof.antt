@@ -12,7 +12,6 @@ use Rattle.printing.specs.InputLines.{next-line}
 use Rattle.printing.specs.InputLinesLaws.{next-is-line}
 use Rattle.patterns.specs.Held.{Window-held}
 use Rattle.patterns.specs.declared.Window.{Window}
-use borrow.Author.Needs.{needs}
 use Rattle.patterns.proofs.command_phase.next_turn.Statement.{statement}
 use Rattle.patterns.proofs.command_phase.next_turn.Tie as tie
 
@@ -27,10 +26,10 @@ slice-aggregate-next-line : tie.Need-slice-aggregate-next-line
 slice-aggregate-next-line c = let s = c .before .before in sym (length-take-le (s .args .w .to) (now (s .args .buffer)) (s .pre .within))
 
 next-line-requires : tie.Need-next-line-requires
-next-line-requires c κs = search needs
+next-line-requires c κs = tt
 
 enum-known-end : tie.Need-enum-known-end
-enum-known-end c = search needs
+enum-known-end c = c .match .keys1
 
 add-behind : tie.Need-add-behind
 add-behind c =
@@ -43,19 +42,19 @@ behind-requires c κs =
     omega (arith, line-within (now (s .args .buffer)) (s .pre) (c .before .before .before .next-line .ensures) (c .before .end .given .1) .1)
 
 enum-told : tie.Need-enum-told
-enum-told c = search needs
+enum-told c = c .match .keys2
 
 behind-requires-2 : tie.Need-behind-requires-2
-behind-requires-2 c κs = search needs
+behind-requires-2 c κs = omega arith
 
 enum-told-2 : tie.Need-enum-told-2
-enum-told-2 c = search needs
+enum-told-2 c = c .match .keys3
 
 unended-requires : tie.Need-unended-requires
-unended-requires c κs = search needs
+unended-requires c κs = c .before .before .before .before .before .pre
 
 enum-told-3 : tie.Need-enum-told-3
-enum-told-3 c = search needs
+enum-told-3 c = c .match .keys4
 
 returns : tie.Need-returns
 returns c =
@@ -70,13 +69,20 @@ returns c =
     }
 
 returns-2 : tie.Need-returns-2
-returns-2 c = search needs
+returns-2 c =
+    let h = c .before .before .before .before .before .before .pre in
+    let r = c .behind2 .ensures in
+    record {
+      begins = h .ordered;
+      ends = h .within;
+      behind = record { wide = h .wide; ordered = omega (arith, r .0, r .1); within = omega (arith, r .1, h .within) };
+    }
 
 returns-3 : tie.Need-returns-3
-returns-3 c = search needs
+returns-3 c = c .unended .ensures
 
 returns-4 : tie.Need-returns-4
-returns-4 c = search needs
+returns-4 c = tt
 
 pub next-turn-spec : {M : Type 1} → statement M
 next-turn-spec =

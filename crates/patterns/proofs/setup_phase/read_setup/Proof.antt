@@ -1,10 +1,9 @@
 -- `patterns::setup_phase::read_setup` meets its contract: the window stays in the buffer, which keeps its length, and the turns fall.
-use mathlib.Core.Path.{_≡_, refl}
+use mathlib.Core.Path.{_≡_, refl, _∙_}
 use mathlib.Core.List.{List}
 use Prim.Native.Nat.{ℕ}
 use native.Mathlib.Omega.{arith}
 use lib.ListN.{length}
-use borrow.Author.Needs.{needs}
 use Rattle.patterns.specs.Held.{Window-held}
 use Rattle.patterns.specs.declared.Window.{Window}
 use Rattle.patterns.proofs.setup_phase.read_setup.Statement.{statement}
@@ -24,16 +23,16 @@ loop-holds : tie.Need-loop-holds Inv-loop μ-loop
 loop-holds c = record { buffers = refl; held = record { wide = c .before .pre; ordered = omega arith; within = omega arith } }
 
 sub-turns : tie.Need-sub-turns Inv-loop μ-loop
-sub-turns c = search needs
+sub-turns c = c .loop-test .taken
 
 seek-end-requires : tie.Need-seek-end-requires Inv-loop μ-loop
 seek-end-requires c κs = c .before .before .loop .inv .held
 
 enum-known-next : tie.Need-enum-known-next Inv-loop μ-loop
-enum-known-next c = search needs
+enum-known-next c = c .match .keys1
 
 loop-less : tie.Need-loop-less Inv-loop μ-loop
-loop-less c = search needs
+loop-less c = omega (arith, c .before .before .before .before .before .before .before .loop-test .taken)
 
 loop-again : tie.Need-loop-again Inv-loop μ-loop
 loop-again c =
@@ -44,25 +43,25 @@ loop-again c =
     }
 
 enum-known-rest : tie.Need-enum-known-rest Inv-loop μ-loop
-enum-known-rest c = search needs
+enum-known-rest c = c .match .keys2
 
 same-length : tie.Need-same-length Inv-loop μ-loop
-same-length c = search needs
+same-length c = c .before .before .before .before .before .seek-end .kept .0 ∙ c .before .before .before .before .before .before .before .before .loop .inv .buffers
 
 returns : tie.Need-returns Inv-loop μ-loop
 returns c = rw (c .before .rest .given .1) at (c .before .before .before .before .before .seek-end .ensures)
 
 enum-told : tie.Need-enum-told Inv-loop μ-loop
-enum-told c = search needs
+enum-told c = c .match .keys3
 
 same-length-2 : tie.Need-same-length-2 Inv-loop μ-loop
-same-length-2 c = search needs
+same-length-2 c = c .before .before .before .before .seek-end .kept .0 ∙ c .before .before .before .before .before .before .before .loop .inv .buffers
 
 returns-2 : tie.Need-returns-2 Inv-loop μ-loop
 returns-2 c = tt
 
 same-length-3 : tie.Need-same-length-3 Inv-loop μ-loop
-same-length-3 c = search needs
+same-length-3 c = c .before .loop .inv .buffers
 
 returns-3 : tie.Need-returns-3 Inv-loop μ-loop
 returns-3 c = tt
