@@ -10,7 +10,6 @@ use Rattle.shell_runner.specs.MeaningLaws.{meant-as, part-read}
 use Rattle.runner.specs.RunnerLaws.{same-repository, role-low}
 use Rattle.runner.specs.SessionStepLaws.{session-tells}
 use Rattle.shell_runner.specs.CasesLaws.{no-entry-case}
-use borrow.Author.Needs.{needs}
 use Rattle.runner.proofs.entry_part.entry_command.Statement.{statement}
 use Rattle.runner.proofs.entry_part.entry_command.Tie as tie
 
@@ -18,7 +17,7 @@ enum-known-command : tie.Need-enum-known-command
 enum-known-command c = c .match .keys1
 
 dominates-requires : tie.Need-dominates-requires
-dominates-requires c κs = search needs
+dominates-requires c κs = tt
 
 part-requires : tie.Need-part-requires
 unfolding Means

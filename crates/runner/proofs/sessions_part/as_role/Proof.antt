@@ -11,10 +11,10 @@ use Rattle.runner.proofs.sessions_part.as_role.Statement.{statement}
 use Rattle.runner.proofs.sessions_part.as_role.Tie as tie
 
 dominance-in-requires : tie.Need-dominance-in-requires
-dominance-in-requires c κs = search needs
+dominance-in-requires c κs = c .before .before .before .pre .0
 
 account-requires : tie.Need-account-requires
-account-requires c κs = search needs
+account-requires c κs = c .before .before .before .before .pre .1 .1
 
 sub-entry-command : tie.Need-sub-entry-command
 sub-entry-command c = long-enough (c .before .before .before .before .before .pre .0)

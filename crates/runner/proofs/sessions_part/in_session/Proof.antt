@@ -1,21 +1,20 @@
 -- `runner::sessions_part::in_session` meets its contract: without a session it is refused, else it is that of the role.
-use mathlib.Core.Path.{sym, _∙_}
+use mathlib.Core.Path.{sym, _∙_, refl}
 use mathlib.Core.Option.{none}
 use lib.ListN.{getD}
 use Rattle.header.specs.SessionBytesLaws.{role-bounded}
 use Rattle.runner.specs.SessionStepLaws.{held-some, nobody-carries}
-use borrow.Author.Needs.{needs}
 use Rattle.runner.proofs.sessions_part.in_session.Statement.{statement}
 use Rattle.runner.proofs.sessions_part.in_session.Tie as tie
 
 session-in-requires : tie.Need-session-in-requires
-session-in-requires c κs = search needs
+session-in-requires c κs = (c .before .before .before .before .pre .0, c .before .before .before .before .pre .1 .1)
 
 enum-told : tie.Need-enum-told
-enum-told c = search needs
+enum-told c = c .match .keys1
 
 enum-known-role : tie.Need-enum-known-role
-enum-known-role c = search needs
+enum-known-role c = c .match .keys2
 
 as-role-requires : tie.Need-as-role-requires
 as-role-requires c κs =
@@ -25,7 +24,7 @@ as-role-requires c κs =
     (h, (s .pre .1 .0, role-bounded _ (_, e)))
 
 same-length : tie.Need-same-length
-same-length c = search needs
+same-length c = refl
 
 returns : tie.Need-returns
 returns c s k h n m =
@@ -33,7 +32,7 @@ returns c s k h n m =
     nobody-carries h (a .caller) k n (sym (c .enum-told .given .1) ∙ c .before .before .session-in .ensures s h)
 
 same-length-2 : tie.Need-same-length-2
-same-length-2 c = search needs
+same-length-2 c = c .before .before .as-role .kept .0
 
 returns-2 : tie.Need-returns-2
 returns-2 c s k h n m =

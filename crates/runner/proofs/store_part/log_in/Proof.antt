@@ -17,7 +17,7 @@ slice-aggregate-login : tie.Need-slice-aggregate-login
 slice-aggregate-login c = sym (header-length (c .before .before .before .before .pre .0))
 
 part-requires : tie.Need-part-requires
-part-requires c κs = search needs
+part-requires c κs = c .before .before .before .before .pre .1 .1 .1
 
 login-requires : tie.Need-login-requires
 login-requires c κs = let s = c .before .before .before .before .before in (lent-headed (s .pre .0), (s .pre .1 .0, s .pre .1 .1 .0))

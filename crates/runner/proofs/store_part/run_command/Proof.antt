@@ -5,12 +5,11 @@ use Rattle.machine.specs.Machine.{run-repository, run}
 use Rattle.shell_runner.specs.MeaningLaws.{meant-as}
 use Rattle.runner.specs.RunnerLaws.{role-low}
 use Rattle.shell_runner.specs.CasesLaws.{shell-case, entry-case}
-use borrow.Author.Needs.{needs}
 use Rattle.runner.proofs.store_part.run_command.Statement.{statement}
 use Rattle.runner.proofs.store_part.run_command.Tie as tie
 
 enum-known-command : tie.Need-enum-known-command
-enum-known-command c = search needs
+enum-known-command c = c .match .keys1
 
 log-in-requires : tie.Need-log-in-requires
 unfolding Means
@@ -20,13 +19,13 @@ log-in-requires c κs =
     (s .pre .0, (s .pre .1 .1 .1, (role-low (i .0) (i .1), i .2)))
 
 enum-told : tie.Need-enum-told
-enum-told c = search needs
+enum-told c = c .match .keys2
 
 log-out-requires : tie.Need-log-out-requires
-log-out-requires c κs = search needs
+log-out-requires c κs = let s = c .before .before .before .before .before .before in (s .pre .0, s .pre .1 .1 .1)
 
 in-session-requires : tie.Need-in-session-requires
-in-session-requires c κs = search needs
+in-session-requires c κs = let s = c .before .before .before .before .before in (s .pre .0, (s .pre .1 .0, s .pre .1 .1 .1))
 
 in-shell-requires : tie.Need-in-shell-requires
 in-shell-requires c κs =
@@ -36,7 +35,7 @@ in-shell-requires c κs =
     (s .pre .0, ((i .0, rw (i .1) at m), s .pre .1 .1 .0))
 
 same-length : tie.Need-same-length
-same-length c = search needs
+same-length c = c .before .before .log-in .kept .0
 
 returns : tie.Need-returns
 unfolding Means run run-repository
@@ -46,7 +45,7 @@ returns c s k h m =
     rw (i .3) (c .before .before .log-in .ensures s (i .0) h (i .1) (now (a .answer)))
 
 same-length-2 : tie.Need-same-length-2
-same-length-2 c = search needs
+same-length-2 c = c .before .before .log-out .kept .0
 
 returns-2 : tie.Need-returns-2
 unfolding Means run run-repository
@@ -55,7 +54,7 @@ returns-2 c s k h m =
     rw (meant-as (c .before .before .before .before .enum-told .given .1) m) (c .before .before .log-out .ensures s h (now (a .answer)))
 
 same-length-3 : tie.Need-same-length-3
-same-length-3 c = search needs
+same-length-3 c = c .before .before .in-session .kept .0
 
 returns-3 : tie.Need-returns-3
 unfolding run
@@ -65,10 +64,10 @@ returns-3 c s k h m =
     rw (i .2) (c .before .before .in-session .ensures s (i .0) h (i .1) (rw (i .2) at m) (now (a .answer)))
 
 same-length-4 : tie.Need-same-length-4
-same-length-4 c = search needs
+same-length-4 c = c .before .before .before .before .in-shell .kept .0
 
 same-length-5 : tie.Need-same-length-5
-same-length-5 c = search needs
+same-length-5 c = c .before .before .before .before .in-shell .kept .1 .1 .1 .1 .0
 
 returns-4 : tie.Need-returns-4
 returns-4 c s k h m =
