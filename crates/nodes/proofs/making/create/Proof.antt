@@ -1,5 +1,5 @@
 -- `nodes::making::create` meets its contract: what the checks refuse stays, and where they pass the caller's new node is put in.
-use mathlib.Core.Path.{_∙_, ap}
+use mathlib.Core.Path.{_∙_, ap, refl}
 use native.Mathlib.Omega.{arith}
 use lib.ListN.{length}
 use denote.Ref.{now}
@@ -8,18 +8,17 @@ use Rattle.gaps.specs.GapsLaws.{last-in-text, last-fits, place-row, stands-inse
 use Rattle.shell.specs.CommandBytesLaws.{refusal-follows, silence-follows}
 use Rattle.nodes.specs.NodeChecksLaws.{create-refused, create-done, making-stands, making-not}
 use Rattle.nodes.specs.NodeChangesLaws.{create-law}
-use borrow.Author.Needs.{needs}
 use Rattle.nodes.proofs.making.create.Statement.{statement}
 use Rattle.nodes.proofs.making.create.Tie as tie
 
 may-create-requires : tie.Need-may-create-requires
-may-create-requires c κs = search needs
+may-create-requires c κs = c .before .before .before .before .pre
 
 enum-known-cause : tie.Need-enum-known-cause
-enum-known-cause c = search needs
+enum-known-cause c = c .match .keys1
 
 enum-known-row : tie.Need-enum-known-row
-enum-known-row c = search needs
+enum-known-row c = c .match .keys2
 
 new-group-requires : tie.Need-new-group-requires
 new-group-requires c κs =
@@ -45,7 +44,7 @@ put-child-requires c κs =
     (stands-insertable (g .0) 1 (omega (arith, g .1 .1)), omega (arith, ap length (c .last-name .ensures), fits))
 
 same-length : tie.Need-same-length
-same-length c = search needs
+same-length c = refl
 
 returns : tie.Need-returns
 returns c t p tree reads =
@@ -55,7 +54,7 @@ returns c t p tree reads =
     (create-refused (a .caller) t (a .kind) p (a .mode) (making-not tree (a .caller .account) p told (c .before .cause .given .1)))
 
 same-length-2 : tie.Need-same-length-2
-same-length-2 c = search needs
+same-length-2 c = c .before .before .put-child .kept .0
 
 returns-2 : tie.Need-returns-2
 returns-2 c t p tree reads =

@@ -6,21 +6,20 @@ use Rattle.gaps.specs.Gaps.{gap-from, gap-told}
 use Rattle.gaps.specs.GapsLaws.{told-not, room-to, room-not}
 use Rattle.nodes.specs.NodeChecks.{may-create}
 use Rattle.nodes.specs.NodeChecksLaws.{making-stops, making-full, making-done}
-use borrow.Author.Needs.{needs}
 use Rattle.nodes.proofs.making.may_create.Statement.{statement}
 use Rattle.nodes.proofs.making.may_create.Tie as tie
 
 room-for-requires : tie.Need-room-for-requires
-room-for-requires c κs = search needs
+room-for-requires c κs = c .before .before .pre
 
 enum-known-cause : tie.Need-enum-known-cause
-enum-known-cause c = search needs
+enum-known-cause c = c .match .keys1
 
 enum-known-row : tie.Need-enum-known-row
-enum-known-row c = search needs
+enum-known-row c = c .match .keys2
 
 count-requires : tie.Need-count-requires
-count-requires c κs = search needs
+count-requires c κs = c .before .before .before .before .before .before .pre .0 .1 .sized .wide
 
 returns : tie.Need-returns
 returns c t p tree reads =

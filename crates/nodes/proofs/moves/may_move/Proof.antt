@@ -6,12 +6,11 @@ use Rattle.walks.specs.WalkBytesLaws.{walk-to, walk-not}
 use Rattle.gaps.specs.GapsLaws.{place-row}
 use Rattle.nodes.specs.NodeChecks.{may-move}
 use Rattle.nodes.specs.NodeChecksLaws.{moving-reserved, moving-stops, moving-there, refusal-told-at}
-use borrow.Author.Needs.{needs}
 use Rattle.nodes.proofs.moves.may_move.Statement.{statement}
 use Rattle.nodes.proofs.moves.may_move.Tie as tie
 
 is-reserved-requires : tie.Need-is-reserved-requires
-is-reserved-requires c κs = search needs
+is-reserved-requires c κs = tt
 
 returns : tie.Need-returns
 returns c t p q tree from to =
@@ -20,7 +19,7 @@ returns c t p q tree from to =
     refusal-told-at t p (may-move (a .account) t p q) (moving-reserved (a .account) t p q (rw first))
 
 is-reserved-requires-2 : tie.Need-is-reserved-requires-2
-is-reserved-requires-2 c κs = search needs
+is-reserved-requires-2 c κs = tt
 
 returns-2 : tie.Need-returns-2
 returns-2 c t p q tree from to =
@@ -30,13 +29,13 @@ returns-2 c t p q tree from to =
     refusal-told-at t p (may-move (a .account) t p q) (moving-reserved (a .account) t p q (rw (first, second)))
 
 walk-requires : tie.Need-walk-requires
-walk-requires c κs = search needs
+walk-requires c κs = c .before .before .before .before .before .before .before .pre .0 .1 .sized
 
 enum-known-cause : tie.Need-enum-known-cause
-enum-known-cause c = search needs
+enum-known-cause c = c .match .keys1
 
 enum-known-row : tie.Need-enum-known-row
-enum-known-row c = search needs
+enum-known-row c = c .match .keys2
 
 may-move-row-requires : tie.Need-may-move-row-requires
 may-move-row-requires c κs =

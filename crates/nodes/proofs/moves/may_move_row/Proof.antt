@@ -14,16 +14,16 @@ use Rattle.nodes.proofs.moves.may_move_row.Statement.{statement}
 use Rattle.nodes.proofs.moves.may_move_row.Tie as tie
 
 room-for-requires : tie.Need-room-for-requires
-room-for-requires c κs = search needs
+room-for-requires c κs = let s = c .before .before .before in (s .pre .0, s .pre .1 .1 .1)
 
 enum-known-cause : tie.Need-enum-known-cause
-enum-known-cause c = search needs
+enum-known-cause c = c .match .keys1
 
 enum-known-depth : tie.Need-enum-known-depth
-enum-known-depth c = search needs
+enum-known-depth c = c .match .keys2
 
 may-at-requires : tie.Need-may-at-requires
-may-at-requires c κs = search needs
+may-at-requires c κs = c .before .before .before .before .before .before .before .pre .1 .1 .0
 
 returns : tie.Need-returns
 returns c t p q tree from to d e x y =
@@ -34,7 +34,7 @@ returns c t p q tree from to d e x y =
     (entry-shut (a .account) t p q d e (g .found) (may ∙ answers-false (c .before .may-at .ensures) (c .if1 .taken)))
 
 is-within-requires : tie.Need-is-within-requires
-is-within-requires c κs = search needs
+is-within-requires c κs = tt
 
 returns-2 : tie.Need-returns-2
 returns-2 c t p q tree from to d e x y =
@@ -49,7 +49,7 @@ cast-if3 : tie.Need-cast-if3
 cast-if3 c = search needs
 
 height-below-requires : tie.Need-height-below-requires
-height-below-requires c κs = search needs
+height-below-requires c κs = c .before .before .before .before .before .before .before .before .before .before .before .pre .1 .0
 
 add-if3 : tie.Need-add-if3
 add-if3 c = search needs

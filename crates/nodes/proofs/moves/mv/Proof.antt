@@ -1,5 +1,5 @@
 -- `nodes::moves::mv` meets its contract: what the checks refuse stays, and what they pass may be moved, to the tree of the steps.
-use mathlib.Core.Path.{_∙_, ap}
+use mathlib.Core.Path.{_∙_, ap, refl}
 use denote.Ref.{now}
 use Rattle.tree.specs.Encoding.{encode-tree}
 use Rattle.walks.specs.WalkBytesLaws.{came-not}
@@ -7,18 +7,17 @@ use Rattle.shell.specs.CommandBytesLaws.{refusal-follows, silence-follows}
 use Rattle.nodes.specs.NodeChecks.{may-move}
 use Rattle.nodes.specs.NodeChecksLaws.{mv-refused, mv-done, moving-passed, moving-came}
 use Rattle.nodes.specs.NodeChangesLaws.{movable, movable-moves}
-use borrow.Author.Needs.{needs}
 use Rattle.nodes.proofs.moves.mv.Statement.{statement}
 use Rattle.nodes.proofs.moves.mv.Tie as tie
 
 may-move-requires : tie.Need-may-move-requires
-may-move-requires c κs = search needs
+may-move-requires c κs = c .before .before .before .before .before .pre
 
 enum-known-cause : tie.Need-enum-known-cause
-enum-known-cause c = search needs
+enum-known-cause c = c .match .keys1
 
 enum-known-row : tie.Need-enum-known-row
-enum-known-row c = search needs
+enum-known-row c = c .match .keys2
 
 move-place-requires : tie.Need-move-place-requires
 move-place-requires c κs =
@@ -31,7 +30,7 @@ move-place-requires c κs =
     movable (t .1) (now (s .args .to)) (q .1) (w .at) (moving-passed (s .args .caller .account) (t .0) (p .0) (q .0) (w .walked))
 
 same-length : tie.Need-same-length
-same-length c = search needs
+same-length c = refl
 
 returns : tie.Need-returns
 returns c t p q tree from to =
@@ -40,7 +39,7 @@ returns c t p q tree from to =
     refusal-follows (now (a .tree)) (mv-refused (a .caller) t p q (came-not tree (may-move (a .caller .account) t p q) p told (c .before .cause .given .1)))
 
 same-length-2 : tie.Need-same-length-2
-same-length-2 c = search needs
+same-length-2 c = c .before .before .move-place .kept .0
 
 returns-2 : tie.Need-returns-2
 returns-2 c t p q tree from to =

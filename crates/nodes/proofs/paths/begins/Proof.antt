@@ -5,7 +5,6 @@ use lib.ListN.{length, take, length-take}
 use lib.Seq.{length-take-le}
 use denote.Ref.{now}
 use Rattle.buffers.specs.TextLaws.{same-length}
-use borrow.Author.Needs.{needs}
 use Rattle.nodes.proofs.paths.begins.Statement.{statement}
 use Rattle.nodes.proofs.paths.begins.Tie as tie
 
@@ -21,10 +20,10 @@ slice-aggregate-same c =
     sym (length-take-le (length (now (a .front))) (now (a .text)) (omega arith))
 
 same-requires : tie.Need-same-requires
-same-requires c κs = search needs
+same-requires c κs = tt
 
 returns-2 : tie.Need-returns-2
-returns-2 c = search needs
+returns-2 c = c .same .ensures
 
 pub begins-spec : {M : Type 1} → statement M
 begins-spec =

@@ -14,7 +14,6 @@ use Rattle.buffers.specs.TextLaws.{same-text-sound}
 use Rattle.syntax.specs.Path.{Path, root, _▹_, path, is-top, within}
 use Rattle.syntax.specs.WithinLaws.{lies-top, lies-within}
 use Rattle.syntax.specs.PathTextLaws.{top-by-length, below-by-length, goes-on, within-by-text}
-use borrow.Author.Needs.{needs}
 use Rattle.nodes.proofs.paths.is_within.Statement.{statement}
 use Rattle.nodes.proofs.paths.is_within.Tie as tie
 
@@ -50,7 +49,7 @@ returns c p q reads other =
     sym (within-top p q (top-by-length (now (a .above)) p reads (c .if1 .taken)))
 
 begins-requires : tie.Need-begins-requires
-begins-requires c κs = search needs
+begins-requires c κs = tt
 
 returns-2 : tie.Need-returns-2
 returns-2 c p q reads other =

@@ -5,7 +5,6 @@ use Rattle.tree.specs.declared.Kind.{Kind}
 use Rattle.tree.specs.declared.Kind.the-variants.{File, Directory}
 use Rattle.tree.specs.Node.{is-directory, same-kind}
 use Rattle.tree.specs.JudgeLaws.{file-is-none, directory-is-one, kind-of-file, kind-of-directory}
-use borrow.Author.Needs.{needs}
 use Rattle.nodes.proofs.removing.is_of_kind.Statement.{statement}
 use Rattle.nodes.proofs.removing.is_of_kind.Tie as tie
 
@@ -16,28 +15,28 @@ asked-directory : {j : Kind} (k : Kind) {i : Kind} → j ≡ Directory → i ≡
 asked-directory k e h = rw (e, h) (kind-of-directory k)
 
 enum-told : tie.Need-enum-told
-enum-told c = search needs
+enum-told c = c .match .keys1
 
 kind-at-requires : tie.Need-kind-at-requires
-kind-at-requires c κs = search needs
+kind-at-requires c κs = c .before .before .before .pre
 
 enum-told-2 : tie.Need-enum-told-2
-enum-told-2 c = search needs
+enum-told-2 c = c .match2 .keys1
 
 enum-told-3 : tie.Need-enum-told-3
-enum-told-3 c = search needs
+enum-told-3 c = c .match2 .keys2
 
 enum-told-4 : tie.Need-enum-told-4
-enum-told-4 c = search needs
+enum-told-4 c = c .match .keys2
 
 kind-at-requires-2 : tie.Need-kind-at-requires-2
-kind-at-requires-2 c κs = search needs
+kind-at-requires-2 c κs = c .before .before .before .pre
 
 enum-told-5 : tie.Need-enum-told-5
-enum-told-5 c = search needs
+enum-told-5 c = c .match3 .keys1
 
 enum-told-6 : tie.Need-enum-told-6
-enum-told-6 c = search needs
+enum-told-6 c = c .match3 .keys2
 
 returns : tie.Need-returns
 returns c =

@@ -7,12 +7,11 @@ use Rattle.walks.specs.WalkBytesLaws.{walk-to, walk-not}
 use Rattle.gaps.specs.GapsLaws.{place-row}
 use Rattle.nodes.specs.NodeChecks.{may-remove}
 use Rattle.nodes.specs.NodeChecksLaws.{removing-reserved, removing-stops, removing-there, refusal-told-at}
-use borrow.Author.Needs.{needs}
 use Rattle.nodes.proofs.removing.may_remove.Statement.{statement}
 use Rattle.nodes.proofs.removing.may_remove.Tie as tie
 
 is-reserved-requires : tie.Need-is-reserved-requires
-is-reserved-requires c κs = search needs
+is-reserved-requires c κs = tt
 
 returns : tie.Need-returns
 returns c t p tree reads =
@@ -21,13 +20,13 @@ returns c t p tree reads =
     (removing-reserved (a .account) t (a .kind) p (sym (c .before .is-reserved .ensures p reads) ∙ c .if1 .taken))
 
 walk-requires : tie.Need-walk-requires
-walk-requires c κs = search needs
+walk-requires c κs = c .before .before .before .before .pre .0 .1 .sized
 
 enum-known-cause : tie.Need-enum-known-cause
-enum-known-cause c = search needs
+enum-known-cause c = c .match .keys1
 
 enum-known-row : tie.Need-enum-known-row
-enum-known-row c = search needs
+enum-known-row c = c .match .keys2
 
 may-remove-row-requires : tie.Need-may-remove-row-requires
 may-remove-row-requires c κs =

@@ -5,16 +5,15 @@ use Rattle.buffers.specs.Cases.{answers-false, answers-true}
 use Rattle.accounts.specs.declared.Right.the-variants.{W}
 use Rattle.tree.specs.Forest.{is-empty}
 use Rattle.tree.specs.Node.{same-kind, Node, allows}
-use Rattle.tree.specs.TreeBytesLaws.{at-here}
+use Rattle.tree.specs.TreeBytesLaws.{at-here, used-row}
 use Rattle.walks.specs.RowBelowLaws.{at-has-children}
 use Rattle.nodes.specs.NodeChecks.{removal}
 use Rattle.nodes.specs.NodeChecksLaws.{removal-kind, removal-shut, removal-full, removal-done, refusal-told, spot-told}
-use borrow.Author.Needs.{needs}
 use Rattle.nodes.proofs.removing.may_remove_row.Statement.{statement}
 use Rattle.nodes.proofs.removing.may_remove_row.Tie as tie
 
 is-of-kind-requires : tie.Need-is-of-kind-requires
-is-of-kind-requires c κs = search needs
+is-of-kind-requires c κs = used-row (c .before .pre .0)
 
 returns : tie.Need-returns
 returns c t p q d e x y =
@@ -24,7 +23,7 @@ returns c t p q d e x y =
     (removal-kind (a .account) (a .kind) d e (kind ∙ answers-false (c .before .is-of-kind .ensures) (c .if1 .taken)))
 
 may-at-requires : tie.Need-may-at-requires
-may-at-requires c κs = search needs
+may-at-requires c κs = c .before .before .before .pre .1
 
 returns-2 : tie.Need-returns-2
 returns-2 c t p q d e x y =
@@ -36,7 +35,7 @@ returns-2 c t p q d e x y =
     (may ∙ answers-false (c .before .may-at .ensures) (c .if2 .taken)))
 
 has-children-requires : tie.Need-has-children-requires
-has-children-requires c κs = search needs
+has-children-requires c κs = c .before .before .before .before .before .pre .0
 
 returns-3 : tie.Need-returns-3
 returns-3 c t p q d e x y =

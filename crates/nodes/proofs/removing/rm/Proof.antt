@@ -1,23 +1,22 @@
 -- `nodes::removing::rm` meets its contract: what the checks refuse stays, and what they pass is taken out with its one row.
-use mathlib.Core.Path.{_∙_}
+use mathlib.Core.Path.{_∙_, refl}
 use denote.Ref.{now}
 use Rattle.walks.specs.WalkBytesLaws.{came-not}
 use Rattle.shell.specs.CommandBytesLaws.{refusal-follows, silence-follows}
 use Rattle.nodes.specs.NodeChecks.{may-remove}
 use Rattle.nodes.specs.NodeChecksLaws.{rm-refused, rm-done, removing-passed, removing-came}
 use Rattle.nodes.specs.NodeChangesLaws.{rm-row, rm-law}
-use borrow.Author.Needs.{needs}
 use Rattle.nodes.proofs.removing.rm.Statement.{statement}
 use Rattle.nodes.proofs.removing.rm.Tie as tie
 
 may-remove-requires : tie.Need-may-remove-requires
-may-remove-requires c κs = search needs
+may-remove-requires c κs = c .before .before .before .before .pre
 
 enum-known-cause : tie.Need-enum-known-cause
-enum-known-cause c = search needs
+enum-known-cause c = c .match .keys1
 
 enum-known-row : tie.Need-enum-known-row
-enum-known-row c = search needs
+enum-known-row c = c .match .keys2
 
 take-rows-requires : tie.Need-take-rows-requires
 take-rows-requires c κs =
@@ -27,7 +26,7 @@ take-rows-requires c κs =
     rm-row (removing-came (t .1) (s .args .caller .account) (s .args .kind) (p .0) (c .before .before .before .before .may-remove .ensures (t .0) (p .0) (t .1) (p .1)) (c .before .before .row .given .1) .at)
 
 same-length : tie.Need-same-length
-same-length c = search needs
+same-length c = refl
 
 returns : tie.Need-returns
 returns c t p tree reads =
@@ -36,7 +35,7 @@ returns c t p tree reads =
     refusal-follows (now (a .tree)) (rm-refused (a .caller) t (a .kind) p (came-not tree (may-remove (a .caller .account) t (a .kind) p) p told (c .before .cause .given .1)))
 
 same-length-2 : tie.Need-same-length-2
-same-length-2 c = search needs
+same-length-2 c = c .before .before .take-rows .kept .0
 
 returns-2 : tie.Need-returns-2
 returns-2 c t p tree reads =
