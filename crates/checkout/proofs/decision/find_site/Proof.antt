@@ -3,27 +3,26 @@ use denote.Ref.{now}
 use Rattle.gaps.specs.GapsLaws.{room-to, room-not}
 use Rattle.checkout.specs.CheckoutLaws.{entry-came, entry-not, co-no-room, co-no-entry, site-told, site-not}
 use Rattle.checkout.specs.CheckoutJobLaws.{site-found}
-use borrow.Author.Needs.{needs}
 use Rattle.checkout.proofs.decision.find_site.Statement.{statement}
 use Rattle.checkout.proofs.decision.find_site.Tie as tie
 
 room-for-requires : tie.Need-room-for-requires
-room-for-requires c κs = search needs
+room-for-requires c κs = let s = c .before .before .before .before .before .before in (s .pre .0, s .pre .1 .1)
 
 enum-known-row : tie.Need-enum-known-row
-enum-known-row c = search needs
+enum-known-row c = c .match .keys1
 
 readable-entry-requires : tie.Need-readable-entry-requires
-readable-entry-requires c κs = search needs
+readable-entry-requires c κs = let s = c .before .before .before .before .before .before .before .before .before .before in (s .pre .0, s .pre .1 .0)
 
 enum-known-filed : tie.Need-enum-known-filed
-enum-known-filed c = search needs
+enum-known-filed c = c .match2 .keys1
 
 enum-known-cause : tie.Need-enum-known-cause
-enum-known-cause c = search needs
+enum-known-cause c = c .match2 .keys2
 
 enum-known-cause-2 : tie.Need-enum-known-cause-2
-enum-known-cause-2 c = search needs
+enum-known-cause-2 c = c .match .keys2
 
 returns : tie.Need-returns
 returns c t e tree reads-entry d reads =

@@ -4,15 +4,14 @@ use borrow.Author.Tests.{not-true, not-false}
 use denote.Ref.{now}
 use Rattle.walks.specs.RowWalk.{outcome}
 use Rattle.checkout.specs.CheckoutLaws.{entry-told-not, entry-told-row, entry-told-shut, entry-told-open}
-use borrow.Author.Needs.{needs}
 use Rattle.checkout.proofs.decision.readable_entry.Statement.{statement}
 use Rattle.checkout.proofs.decision.readable_entry.Tie as tie
 
 walk-requires : tie.Need-walk-requires
-walk-requires c κs = search needs
+walk-requires c κs = c .before .before .pre .0 .1 .sized
 
 enum-known-row : tie.Need-enum-known-row
-enum-known-row c = search needs
+enum-known-row c = c .match .keys1
 
 readable-at-requires : tie.Need-readable-at-requires
 readable-at-requires c κs =
@@ -28,7 +27,7 @@ returns c t e tree reads =
     entry-told-shut tree (s .args .account) (now (s .args .entry)) reads (w .ensures) (c .before .before .before .row .given .1) (v .ensures) (not-true (v .result) (c .if1 .taken))
 
 enum-known-cause : tie.Need-enum-known-cause
-enum-known-cause c = search needs
+enum-known-cause c = c .match .keys2
 
 returns-2 : tie.Need-returns-2
 returns-2 c t e tree reads =

@@ -1,17 +1,16 @@
 -- `checkout::making::co_by` meets its contract: copies that are ready make the tree of the steps, and a refusal is theirs.
-use mathlib.Core.Path.{_∙_}
+use mathlib.Core.Path.{_∙_, refl}
 use denote.Ref.{now}
 use Rattle.shell.specs.CommandBytesLaws.{refusal-follows}
 use Rattle.checkout.specs.CheckoutLaws.{ready-of, refused-of, ready-follows}
-use borrow.Author.Needs.{needs}
 use Rattle.checkout.proofs.making.co_by.Statement.{statement}
 use Rattle.checkout.proofs.making.co_by.Tie as tie
 
 copies-for-requires : tie.Need-copies-for-requires
-copies-for-requires c κs = search needs
+copies-for-requires c κs = c .before .before .before .before .before .before .pre
 
 enum-known-n : tie.Need-enum-known-n
-enum-known-n c = search needs
+enum-known-n c = c .match .keys1
 
 put-copies-requires : tie.Need-put-copies-requires
 put-copies-requires c κs =
@@ -21,13 +20,13 @@ put-copies-requires c κs =
     (r .insertable, r .room)
 
 enum-known-cause : tie.Need-enum-known-cause
-enum-known-cause c = search needs
+enum-known-cause c = c .match .keys2
 
 same-length : tie.Need-same-length
-same-length c = search needs
+same-length c = c .before .before .put-copies .kept .0
 
 same-length-2 : tie.Need-same-length-2
-same-length-2 c = search needs
+same-length-2 c = c .before .before .before .before .before .before .before .before .before .before .copies-for .kept .1 .1 .1 .1 .1 .0
 
 returns : tie.Need-returns
 returns c j =
@@ -38,10 +37,10 @@ returns c j =
     ready-follows (p .last .0) r (p .ensures)
 
 same-length-3 : tie.Need-same-length-3
-same-length-3 c = search needs
+same-length-3 c = refl
 
 same-length-4 : tie.Need-same-length-4
-same-length-4 c = search needs
+same-length-4 c = c .before .before .before .before .before .copies-for .kept .1 .1 .1 .1 .1 .0
 
 returns-2 : tie.Need-returns-2
 returns-2 c j =

@@ -3,7 +3,6 @@ use mathlib.Core.Path.{_∙_}
 use native.Mathlib.Omega.{arith}
 use denote.Ref.{now}
 use Rattle.checkout.specs.CheckoutJobLaws.{job-row, job-text, job-name, job-low, checkout-job, copies-few, copies-fit, copies-too-deep, copies-too-many, copies-ready}
-use borrow.Author.Needs.{needs}
 use Rattle.checkout.proofs.making.copies_for.Statement.{statement}
 use Rattle.checkout.proofs.making.copies_for.Tie as tie
 
@@ -32,7 +31,7 @@ deepest-copy-requires c κs =
     copies-fit j (g .result) (g .ensures) (now (a .out)) (m .last .1 .1 .1 .1 .1 .1 .1 .0) (m .result) (now (name .result)) (name .ensures) (s .pre .1) (m .ensures) (m .kept .1 .1 .1 .1 .1 .1 .1 .0)
 
 same-length : tie.Need-same-length
-same-length c = search needs
+same-length c = c .before .before .before .before .before .copy-entry .kept .1 .1 .1 .1 .1 .1 .1 .0
 
 returns : tie.Need-returns
 returns c j =
@@ -57,7 +56,7 @@ add-if2 c =
     omega (arith, copies-few j (g .result) (g .ensures) (now (a .out)) (m .last .1 .1 .1 .1 .1 .1 .1 .0) (m .result) (now (name .result)) (name .ensures) (s .pre .1) (m .ensures), c .count .ensures, j .found .tree .sized .few-rows)
 
 same-length-2 : tie.Need-same-length-2
-same-length-2 c = search needs
+same-length-2 c = c .before .before .before .before .before .before .before .copy-entry .kept .1 .1 .1 .1 .1 .1 .1 .0
 
 returns-2 : tie.Need-returns-2
 returns-2 c j =
@@ -70,7 +69,7 @@ returns-2 c j =
     copies-too-many j (g .result) (g .ensures) (now (a .out)) (m .last .1 .1 .1 .1 .1 .1 .1 .0) (m .result) (now (name .result)) (name .ensures) (s .pre .1) (m .ensures) (d .result) (d .ensures) (omega arith) (c .before .count .result) (c .before .count .ensures) (omega arith)
 
 same-length-3 : tie.Need-same-length-3
-same-length-3 c = search needs
+same-length-3 c = c .before .before .before .before .before .before .before .copy-entry .kept .1 .1 .1 .1 .1 .1 .1 .0
 
 returns-3 : tie.Need-returns-3
 returns-3 c j =

@@ -12,19 +12,19 @@ use Rattle.checkout.proofs.making.put_copies.Statement.{statement}
 use Rattle.checkout.proofs.making.put_copies.Tie as tie
 
 sub-put-rows : tie.Need-sub-put-rows
-sub-put-rows c = search needs
+sub-put-rows c = omega (arith, c .before .before .before .pre .1)
 
 part-put-rows-start : tie.Need-part-put-rows-start
-part-put-rows-start c = search needs
+part-put-rows-start c = omega (arith, c .before .before .before .pre .1)
 
 part-put-rows-end : tie.Need-part-put-rows-end
-part-put-rows-end c = search needs
+part-put-rows-end c = omega arith
 
 put-rows-requires : tie.Need-put-rows-requires
 put-rows-requires c κs = search needs
 
 same-length : tie.Need-same-length
-same-length c = search needs
+same-length c = c .before .before .put-rows .kept .0
 
 returns : tie.Need-returns
 returns c =
