@@ -10,7 +10,7 @@ use Rattle.library.proofs.lists.line_of.Statement.{statement}
 use Rattle.library.proofs.lists.line_of.Tie as tie
 
 count-requires : tie.Need-count-requires
-count-requires c κs = search needs
+count-requires c κs = c .before .before .pre .0 .1 .sized .wide
 
 returns : tie.Need-returns
 returns c = λ s b e.
@@ -22,7 +22,7 @@ write-line-requires : tie.Need-write-line-requires
 write-line-requires c κs = search needs
 
 same-length : tie.Need-same-length
-same-length c = search needs
+same-length c = c .before .before .write-line .kept .1 .1 .0
 
 returns-2 : tie.Need-returns-2
 returns-2 c = λ s b e.

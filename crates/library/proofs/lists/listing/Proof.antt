@@ -6,7 +6,6 @@ use Rattle.buffers.specs.Cases.{answers-false, answers-true}
 use Rattle.syntax.specs.FormLaws.{the-some}
 use Rattle.store.specs.StoreBytes.{decode}
 use Rattle.library.specs.CallBytesLaws.{listing-short, listing-unsound, listing-sound, tree-part, store-reaches}
-use borrow.Author.Needs.{needs}
 use Rattle.library.proofs.lists.listing.Statement.{statement}
 use Rattle.library.proofs.lists.listing.Tie as tie
 
@@ -16,7 +15,7 @@ returns c =
     listing-short (now (d .store)) (now (d .answer)) (d .n) (omega (arith, c .if1 .taken))
 
 holds-store-requires : tie.Need-holds-store-requires
-holds-store-requires c κs = search needs
+holds-store-requires c κs = tt
 
 returns-2 : tie.Need-returns-2
 returns-2 c =
@@ -30,7 +29,7 @@ part-line-of-start : tie.Need-part-line-of-start
 part-line-of-start c = store-reaches (now (c .before .before .before .before .before .args .store)) (answers-true (c .before .holds-store .ensures) (c .if2 .left))
 
 part-line-of-end : tie.Need-part-line-of-end
-part-line-of-end c = search needs
+part-line-of-end c = omega arith
 
 line-of-requires : tie.Need-line-of-requires
 line-of-requires c κs =
@@ -39,7 +38,7 @@ line-of-requires c κs =
     ((s .0 .store .tree, tree-part b (s .0) (s .1)), omega arith)
 
 same-length : tie.Need-same-length
-same-length c = search needs
+same-length c = c .before .before .line-of .kept .1 .1 .0
 
 returns-3 : tie.Need-returns-3
 returns-3 c =

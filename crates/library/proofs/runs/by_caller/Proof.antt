@@ -1,20 +1,19 @@
 -- `library::runs::by_caller` meets its contract: refused where the setup knows nobody, else the command of whom it knows.
-use mathlib.Core.Path.{sym, _∙_, ap}
+use mathlib.Core.Path.{sym, _∙_, ap, refl}
 use denote.Ref.{now}
 use Rattle.header.specs.HeaderBytes.{known}
 use Rattle.library.specs.RunLaws.{unknown-carries, known-carries, caller-low}
-use borrow.Author.Needs.{needs}
 use Rattle.library.proofs.runs.by_caller.Statement.{statement}
 use Rattle.library.proofs.runs.by_caller.Tie as tie
 
 caller-in-requires : tie.Need-caller-in-requires
-caller-in-requires c κs = search needs
+caller-in-requires c κs = c .before .before .before .before .pre .0
 
 enum-told : tie.Need-enum-told
-enum-told c = search needs
+enum-told c = c .match .keys1
 
 enum-known-caller : tie.Need-enum-known-caller
-enum-known-caller c = search needs
+enum-known-caller c = c .match .keys2
 
 run-command-requires : tie.Need-run-command-requires
 unfolding known
@@ -25,7 +24,7 @@ run-command-requires c κs =
     (h, (s .pre .1 .0, (s .pre .1 .1, caller-low (h .1) (s .args .uid) _ e)))
 
 same-length : tie.Need-same-length
-same-length c = search needs
+same-length c = refl
 
 returns : tie.Need-returns
 unfolding known
@@ -35,10 +34,10 @@ returns c s k h m =
     unknown-carries h (a .uid) k (now (a .answer)) e
 
 same-length-2 : tie.Need-same-length-2
-same-length-2 c = search needs
+same-length-2 c = c .before .before .before .before .run-command .kept .0
 
 same-length-3 : tie.Need-same-length-3
-same-length-3 c = search needs
+same-length-3 c = c .before .before .before .before .run-command .kept .1 .1 .1 .1 .0
 
 returns-2 : tie.Need-returns-2
 unfolding known

@@ -1,5 +1,5 @@
 -- `library::runs::run` meets its contract: the answer buffer's length, then the store, then the line's form, then who calls decide.
-use mathlib.Core.Path.{sym, _∙_, ap}
+use mathlib.Core.Path.{sym, _∙_, ap, refl}
 use native.Mathlib.Omega.{arith}
 use denote.Ref.{now}
 use Rattle.buffers.specs.Cases.{answers-false, answers-true}
@@ -9,7 +9,6 @@ use Rattle.commands.specs.ParsedLaws.{parsed-none, parsed-line}
 use Rattle.store.specs.StoreBytes.{decode}
 use Rattle.runner.specs.RunnerLaws.{read-stored}
 use Rattle.library.specs.RunLaws.{run-short, run-unsound, run-unformed, run-carried}
-use borrow.Author.Needs.{needs}
 use Rattle.library.proofs.runs.run.Statement.{statement}
 use Rattle.library.proofs.runs.run.Tie as tie
 
@@ -19,10 +18,10 @@ returns c =
     run-short (now (a .store)) (now (a .answer)) (now (a .line)) (omega (arith, c .if1 .taken))
 
 holds-store-requires : tie.Need-holds-store-requires
-holds-store-requires c κs = search needs
+holds-store-requires c κs = tt
 
 same-length : tie.Need-same-length
-same-length c = search needs
+same-length c = refl
 
 returns-2 : tie.Need-returns-2
 returns-2 c =
@@ -31,13 +30,13 @@ returns-2 c =
     (answers-false (c .before .holds-store .ensures) (c .if2 .taken))
 
 parse-requires : tie.Need-parse-requires
-parse-requires c κs = search needs
+parse-requires c κs = tt
 
 enum-told : tie.Need-enum-told
-enum-told c = search needs
+enum-told c = c .match .keys1
 
 enum-known-caller : tie.Need-enum-known-caller
-enum-known-caller c = search needs
+enum-known-caller c = c .match .keys2
 
 by-caller-requires : tie.Need-by-caller-requires
 by-caller-requires c κs =
@@ -51,7 +50,7 @@ by-caller-requires c κs =
     ((s .0, read-stored _ (s .0) (s .1)), ((l .0, record { means = l .1; in-range = l .3 }), omega (arith, wide .if1 .left)))
 
 same-length-2 : tie.Need-same-length-2
-same-length-2 c = search needs
+same-length-2 c = refl
 
 returns-3 : tie.Need-returns-3
 returns-3 c =
@@ -64,10 +63,10 @@ returns-3 c =
     run-unformed (now (a .store)) (now (a .answer)) (now (a .line)) (s .0) (omega (arith, wide .if1 .left)) (s .1) n
 
 same-length-3 : tie.Need-same-length-3
-same-length-3 c = search needs
+same-length-3 c = c .before .before .before .before .by-caller .kept .0
 
 same-length-4 : tie.Need-same-length-4
-same-length-4 c = search needs
+same-length-4 c = c .before .before .before .before .by-caller .kept .1 .1 .1 .1 .0
 
 returns-4 : tie.Need-returns-4
 returns-4 c =

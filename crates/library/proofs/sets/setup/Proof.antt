@@ -7,7 +7,6 @@ use Rattle.setup.specs.Reader.{setup-value}
 use Rattle.setups.specs.Writable.{Writable}
 use Rattle.setups.specs.WritableLaws.{read-writable, read-wrong}
 use Rattle.library.specs.CallBytesLaws.{unset-elsewhere, unset-wrong, set-done}
-use borrow.Author.Needs.{needs}
 use Rattle.library.proofs.sets.setup.Statement.{statement}
 use Rattle.library.proofs.sets.setup.Tie as tie
 
@@ -17,7 +16,7 @@ returns c =
     unset-elsewhere (now (d .store)) (now (d .text)) (c .if1 .taken)
 
 read-setup-requires : tie.Need-read-setup-requires
-read-setup-requires c κs = search needs
+read-setup-requires c κs = tt
 
 returns-2 : tie.Need-returns-2
 returns-2 c =
@@ -33,7 +32,7 @@ write-store-requires c κs =
     (omega arith, read-writable (now (d .text)) (r .result) (r .ensures) (omega arith) .1)
 
 same-length : tie.Need-same-length
-same-length c = search needs
+same-length c = c .before .before .write-store .kept .0
 
 returns-3 : tie.Need-returns-3
 returns-3 c =
