@@ -1,12 +1,16 @@
 -- `runner::sessions_part::as_role` meets its contract: the rows tell the role's account, and the tree is lent.
 use mathlib.Core.Path.{sym, _∙_, ap}
+use Prim.Native.Nat.{_-_}
+use native.Mathlib.Omega.{arith}
+use lib.ListN.{length}
+use denote.Ref.{now}
 use Rattle.accounts.specs.declared.Role.{Role}
 use Rattle.accounts.specs.Closure.{row-account}
 use Rattle.header.specs.SessionBytesLaws.{role-is}
 use Rattle.header.specs.PairRowsLaws.{rows-tell-account}
 use Rattle.runner.specs.RunnerLaws.{long-enough, lent-whole}
 use Rattle.runner.specs.SessionStepLaws.{acting, role-carries}
-use borrow.Author.Needs.{needs}
+use borrow.Rule.Slice.PartMut.{same-len-mid}
 use Rattle.runner.proofs.sessions_part.as_role.Statement.{statement}
 use Rattle.runner.proofs.sessions_part.as_role.Tie as tie
 
@@ -23,13 +27,16 @@ part-entry-command-start : tie.Need-part-entry-command-start
 part-entry-command-start c = long-enough (c .before .before .before .before .before .pre .0)
 
 part-entry-command-end : tie.Need-part-entry-command-end
-part-entry-command-end c = search needs
+part-entry-command-end c = omega arith
 
 entry-command-requires : tie.Need-entry-command-requires
 entry-command-requires c κs = let s = c .before .before .before .before .before .before in (lent-whole (s .pre .0), s .pre .1 .0)
 
 same-length : tie.Need-same-length
-same-length c = search needs
+same-length c =
+    let b = now (c .before .before .before .before .before .before .before .before .before .args .store) in
+    let l = c .before .before .entry-command in
+    same-len-mid 6142 (length b - 6142) b (l .last .0) (l .kept .0)
 
 returns : tie.Need-returns
 returns c s z k h e held n m =

@@ -1,7 +1,10 @@
 -- `runner::store_part::in_shell` meets its contract: the tree is lent, and the header stays before what is left of it.
+use Prim.Native.Nat.{_-_}
+use native.Mathlib.Omega.{arith}
+use lib.ListN.{length}
 use denote.Ref.{now}
 use Rattle.runner.specs.RunnerLaws.{long-enough, lent-whole, shell-carries}
-use borrow.Author.Needs.{needs}
+use borrow.Rule.Slice.PartMut.{same-len-mid}
 use Rattle.runner.proofs.store_part.in_shell.Statement.{statement}
 use Rattle.runner.proofs.store_part.in_shell.Tie as tie
 
@@ -12,13 +15,16 @@ part-shell-command-start : tie.Need-part-shell-command-start
 part-shell-command-start c = long-enough (c .before .before .before .pre .0)
 
 part-shell-command-end : tie.Need-part-shell-command-end
-part-shell-command-end c = search needs
+part-shell-command-end c = omega arith
 
 shell-command-requires : tie.Need-shell-command-requires
 shell-command-requires c κs = let s = c .before .before .before .before .before in (lent-whole (s .pre .0), (s .pre .1 .0, s .pre .1 .1))
 
 same-length : tie.Need-same-length
-same-length c = search needs
+same-length c =
+    let b = now (c .before .before .before .before .before .before .before .before .before .before .args .store) in
+    let l = c .before .before .before .before .shell-command in
+    same-len-mid 6142 (length b - 6142) b (l .last .0) (l .kept .0)
 
 same-length-2 : tie.Need-same-length-2
 same-length-2 c = c .before .before .before .before .shell-command .kept .1 .1 .1 .1 .0
