@@ -18,7 +18,7 @@ use Rattle.commands.specs.declared.Shape.{Shape}
 use Rattle.commands.specs.declared.Form.{Form}
 use Rattle.commands.specs.declared.Form.the-variants.{Listed, Unlisted}
 use Rattle.commands.specs.Command.{Command, takes, listed, words, form, forms}
-use Rattle.commands.specs.Words.{shape-of, or-listed, form-among, form-of}
+use Rattle.commands.specs.Words.{shape-of, or-listed, form-among, shell-words, repository-words, form-of}
 
 -- what was found before stays
 stays : (ws : List Word) (w : Word) (s : Shape) (t : Text) → form-among ws (Listed w s) t ≡ Listed w s
@@ -62,21 +62,25 @@ pub finds-form : (t : Text) → Finds (form-of t) (by-form forms t)
 unfolding form-of forms
 finds-form t = finds-among words t
 
--- the words that are left, looked for after those before, give the form of the text
-pub record Left (ws : List Word) (t : Text) (f : Form) : Type 0 where
-  pub whole : form-among ws f t ≡ form-of t
+-- the words that are left, looked for after those before, give what all of them give
+pub record Left (all ws : List Word) (t : Text) (f : Form) : Type 0 where
+  pub whole : form-among ws f t ≡ form-among all Unlisted t
 
-pub start : (t : Text) → Left words t Unlisted
-unfolding form-of
-start t = record { whole = refl }
+pub start : (all : List Word) (t : Text) → Left all all t Unlisted
+start all t = record { whole = refl }
+
+-- behind the shell's words the others are left
+pub goes-on : (t : Text) (f : Form) → f ≡ form-among shell-words Unlisted t → Left words repository-words t f
+unfolding form-among words shell-words repository-words
+goes-on t f e = record { whole = rw e }
 
 infixl 20 _and_
-pub _and_ : {w : Word} {ws : List Word} {t : Text} {f r : Form} → Left (w ∷ ws) t f →
-    r ≡ or-listed f (same-text t (listed w .spelling)) w (shape-of (listed w .kinds)) → Left ws t r
+pub _and_ : {all : List Word} {w : Word} {ws : List Word} {t : Text} {f r : Form} → Left all (w ∷ ws) t f →
+    r ≡ or-listed f (same-text t (listed w .spelling)) w (shape-of (listed w .kinds)) → Left all ws t r
 unfolding form-among
 _and_ h e = record { whole = rw e (h .whole) }
 
-pub all-words : {t : Text} {f : Form} → Left [] t f → f ≡ form-of t
+pub all-words : {all : List Word} {t : Text} {f : Form} → Left all [] t f → f ≡ form-among all Unlisted t
 unfolding form-among
 all-words h = h .whole
 

@@ -3,7 +3,8 @@ ghost use mathlib.Core.Path.{_≡_};
 ghost use mathlib.Core.List.{[], _∷_};
 ghost use Rattle.buffers.specs.Text.{same-text};
 ghost use Rattle.syntax.specs.Parts.{Inside, span-text};
-ghost use Rattle.commands.specs.Words.{shape-of, or-listed, form-of};
+ghost use Rattle.commands.specs.declared.Form.the-variants.{Unlisted};
+ghost use Rattle.commands.specs.Words.{shape-of, or-listed, form-among, shell-words, form-of};
 use crate::Form;
 use crate::Shape;
 use crate::Word;
@@ -102,9 +103,9 @@ impl Form {
     }
 }
 
-// The form of the word that a text is.
-fn form_of(t: &[u8]) -> Form
-    ensures { λ r. ⌜ r ≡ form-of (now (t .entry)) ⌝ }
+// The form of the word that a text is, if it is one of the shell's.
+fn shell_form(t: &[u8]) -> Form
+    ensures { λ r. ⌜ r ≡ form-among shell-words Unlisted (now (t .entry)) ⌝ }
 {
     let mut f = Form::Unlisted;
     f = f.two(
@@ -146,13 +147,20 @@ fn form_of(t: &[u8]) -> Form
         ArgumentKind::Path,
         ArgumentKind::Gid,
     );
-    f = f.two(
+    f.two(
         t,
         b"chown",
         Word::Chown,
         ArgumentKind::Path,
         ArgumentKind::Uid,
-    );
+    )
+}
+
+// The form of the word that a text is.
+fn form_of(t: &[u8]) -> Form
+    ensures { λ r. ⌜ r ≡ form-of (now (t .entry)) ⌝ }
+{
+    let mut f = shell_form(t);
     f = f.two(
         t,
         b"login",

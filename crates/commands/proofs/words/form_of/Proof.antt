@@ -1,65 +1,38 @@
--- `commands::words::form_of` meets its contract: each line adds its word to those that were looked for.
+-- `commands::words::form_of` meets its contract: each line adds its word to the shell's and those before.
 use denote.Ref.{now}
 use borrow.Author.Needs.{needs}
 use Rattle.syntax.specs.Pieces.{bytes}
 use Rattle.commands.specs.Command.{takes, listed, words}
-use Rattle.commands.specs.WordsLaws.{start, _and_, all-words}
+use Rattle.commands.specs.Words.{repository-words, form-of}
+use Rattle.commands.specs.WordsLaws.{goes-on, _and_, all-words}
 use Rattle.commands.proofs.words.form_of.Statement.{statement}
 use Rattle.commands.proofs.words.form_of.Tie as tie
 
 returns : tie.Need-returns
-unfolding words listed takes bytes
+unfolding words listed takes bytes repository-words form-of
 returns c =
-    let c16 = c .before .before in
-    let c15 = c16 .before .before in
-    let c14 = c15 .before .before in
-    let c13 = c14 .before .before in
-    let c12 = c13 .before .before in
-    let c11 = c12 .before .before in
-    let c10 = c11 .before .before in
-    let c9 = c10 .before .before in
-    let c8 = c9 .before .before in
-    let c7 = c8 .before .before in
-    let c6 = c7 .before .before in
+    let c6 = c .before .before in
     let c5 = c6 .before .before in
     let c4 = c5 .before .before in
     let c3 = c4 .before .before in
     let c2 = c3 .before .before in
     let c1 = c2 .before .before in
+    let c0 = c1 .before .before in
     all-words
-    (start (now (c1 .before .before .before .args .t))
+    (goes-on (now (c0 .before .before .args .t)) (c0 .shell-form .result) (c0 .shell-form .ensures)
     and c1 .two .ensures
-    and c2 .two2 .ensures
-    and c3 .one .ensures
-    and c4 .two3 .ensures
-    and c5 .one2 .ensures
-    and c6 .one3 .ensures
-    and c7 .two4 .ensures
-    and c8 .two5 .ensures
-    and c9 .two6 .ensures
-    and c10 .two7 .ensures
-    and c11 .two8 .ensures
-    and c12 .no .ensures
-    and c13 .three .ensures
-    and c14 .two9 .ensures
-    and c15 .one4 .ensures
-    and c16 .one5 .ensures
-    and c .one6 .ensures)
+    and c2 .no .ensures
+    and c3 .three .ensures
+    and c4 .two2 .ensures
+    and c5 .one .ensures
+    and c6 .one2 .ensures
+    and c .one3 .ensures)
 
 pub form-of-spec : {M : Type 1} → statement M
 form-of-spec =
     tie.close
     (tie.spec
-    (λ c. search needs) (λ c κs. search needs)
-    (λ c. search needs) (λ c κs. search needs)
-    (λ c. search needs) (λ c κs. search needs)
-    (λ c. search needs) (λ c κs. search needs)
-    (λ c. search needs) (λ c κs. search needs)
-    (λ c. search needs) (λ c κs. search needs)
-    (λ c. search needs) (λ c κs. search needs)
-    (λ c. search needs) (λ c κs. search needs)
-    (λ c. search needs) (λ c κs. search needs)
-    (λ c. search needs) (λ c κs. search needs)
+    (λ c κs. search needs)
     (λ c. search needs) (λ c κs. search needs)
     (λ c. search needs) (λ c κs. search needs)
     (λ c. search needs) (λ c κs. search needs)
