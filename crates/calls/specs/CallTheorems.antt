@@ -87,13 +87,13 @@ listing-past-the-end-is-3 = CallsLaws.past-the-end-is-3
 
 -- No listing changes the store,
 pub listing-changes-no-store : (b : List ℕ) (n : ℕ) (answer : List ℕ) → listing-call b n answer .store ≡ b
-listing-changes-no-store = CallsLaws.listing-changes-no-store
+listing-changes-no-store = CallsLaws.listing-store-stays
 
 -- and a refused call changes nothing: neither the store's bytes nor the answer buffer's.
 pub refused-changes-nothing : (b : List ℕ) (line : Text) (answer : List ℕ) (why : Cause) → run-result b line (length answer) ≡ refused why →
     run-call b line answer ≡ record { tells = told (Refused why); store = b; answer = answer }
 unfolding run-call
-refused-changes-nothing b line answer why = CallsLaws.refused-changes-nothing b answer
+refused-changes-nothing b line answer why = CallsLaws.refused-call-stays b answer
 
 -- Texts fit. A done command's text has at most 2294 bytes,
 pub text-fits : (b : List ℕ) (line : Text) (room : ℕ) (o : Outcome (List ℕ)) → run-result b line room ≡ done o →

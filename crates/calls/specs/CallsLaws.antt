@@ -63,15 +63,15 @@ past-the-end-is-3 s h n a l e =
     rw (on-encoding (listing-on (encode s) n) s h (length a), least-room-is, le-leb 4096 (length a) l, require-true, done-then, e, present-none, refused-bind, missing-number)
 
 -- a refused call leaves store and answer buffer as they were
-pub refused-changes-nothing : (b a : List ℕ) {r : Result (Outcome (List ℕ))} {why : Cause} → r ≡ refused why
+pub refused-call-stays : (b a : List ℕ) {r : Result (Outcome (List ℕ))} {why : Cause} → r ≡ refused why
     → called b a r ≡ record { tells = told (Refused why); store = b; answer = a }
 unfolding called answer-of written reply after
-refused-changes-nothing b a e = rw e
+refused-call-stays b a e = rw e
 
 -- a listing leaves the store as it was
-pub listing-changes-no-store : (b : List ℕ) (n : ℕ) (a : List ℕ) → listing-call b n a .store ≡ b
+pub listing-store-stays : (b : List ℕ) (n : ℕ) (a : List ℕ) → listing-call b n a .store ≡ b
 unfolding listing-call listing-result on-state listing-on called after
-listing-changes-no-store b n a =
+listing-store-stays b n a =
     let Kept : Result (Outcome (List ℕ)) → Type 0 = λ r. called b a r .store ≡ b in
     holds-then Kept (require (leb least-room (length a)) ShortAnswer) _ (λ k. refl)
     (holds-bind Kept (present (decode b) Unsound) _ (λ k. refl)

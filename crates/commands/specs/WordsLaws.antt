@@ -70,9 +70,9 @@ pub start : (all : List Word) (t : Text) → Left all all t Unlisted
 start all t = record { whole = refl }
 
 -- behind the shell's words the others are left
-pub goes-on : (t : Text) (f : Form) → f ≡ form-among shell-words Unlisted t → Left words repository-words t f
+pub shell-words-gone : (t : Text) (f : Form) → f ≡ form-among shell-words Unlisted t → Left words repository-words t f
 unfolding form-among words shell-words repository-words
-goes-on t f e = record { whole = rw e }
+shell-words-gone t f e = record { whole = rw e }
 
 infixl 20 _and_
 pub _and_ : {all : List Word} {w : Word} {ws : List Word} {t : Text} {f r : Form} → Left all (w ∷ ws) t f →

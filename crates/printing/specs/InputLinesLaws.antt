@@ -86,13 +86,13 @@ module _ (t : Text) (at end : ℕ) (ended : Bool) (is : end ≡ at + piece-lengt
 -- ---- setup and commands of the input
 
 -- a text with a byte 10, whatever follows it, begins with its first line
-pub pieces-before : (b : ℕ) (t rest : Text) → piece-length b t < length t →
+pub pieces-with-rest : (b : ℕ) (t rest : Text) → piece-length b t < length t →
     pieces b (t ++ rest) ≡ take (piece-length b t) t ∷ pieces b (drop (suc (piece-length b t)) t ++ rest)
 unfolding piece-length pieces prefix-first
-pieces-before b [] rest h = let z : ⊥ = omega arith in absurd z
-pieces-before b (c ∷ t) rest h = case (eqb c b)
+pieces-with-rest b [] rest h = let z : ⊥ = omega arith in absurd z
+pieces-with-rest b (c ∷ t) rest h = case (eqb c b)
     (λ e. rw e)
-    (λ e. let k : suc (piece-length b t) < suc (length t) = rw e at h in rw (e, pieces-before b t rest (omega arith)))
+    (λ e. let k : suc (piece-length b t) < suc (length t) = rw e at h in rw (e, pieces-with-rest b t rest (omega arith)))
 
 joined-first : (b : ℕ) (p : Text) (ps : List Text) → 1 ≤ length ps → joined b (p ∷ ps) ≡ p ++ (b ∷ joined b ps)
 unfolding joined
@@ -123,7 +123,7 @@ first-line t p q ps w = case (ltb (piece-length newline t) (length t))
           ∙ ap (joined newline) (pieces-first newline t h)
           ∙ joined-first newline (take n t) (pieces newline r) (pieces-some newline r)
           ∙ ap₂ (λ (x y : Text). x ++ (newline ∷ y)) f (joined-pieces newline r);
-      before = λ rest. pieces-before newline t rest h ∙ ap (λ (x : Text). x ∷ pieces newline (r ++ rest)) f;
+      before = λ rest. pieces-with-rest newline t rest h ∙ ap (λ (x : Text). x ∷ pieces newline (r ++ rest)) f;
     })
     (λ l.
     let h : piece-length newline t ≡ length t = omega (arith, ltb-false (piece-length newline t) (length t) l, piece-end-le newline t 0 (omega arith)) in
@@ -294,7 +294,7 @@ module _ (t : Text) (at : ℕ) (ended : Bool) where
       let r = drop (suc e) t ++ rest in (
         omega (arith, w .1),
         omega (arith, w .1),
-        ap command-lines (pieces-before newline u rest s)
+        ap command-lines (pieces-with-rest newline u rest s)
             ∙ ap₂ (λ (x : ℕ) (y : Text). command-lines (take x u ∷ pieces newline (y ++ rest))) m d
             ∙ first-command (take (e - at) u) (pieces newline r) (pieces-some newline r),
       )

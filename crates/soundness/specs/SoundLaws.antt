@@ -25,7 +25,7 @@ use Rattle.tree.specs.RowLaws.{length-rows}
 use Rattle.tree.specs.WellFormed.{most-nodes, is-node, is-tree}
 use Rattle.tree.specs.WellFormedLaws.{place-parts, place-of-parts, tree-parts, tree-of-parts, most-nodes-is}
 use Rattle.tree.specs.Encoding.{row-bytes, read-row, encode-rows, encode-tree, decode-tree}
-use Rattle.tree.specs.EncodingLaws.{fits, fits-parts, tree-fits, length-fitting, fitting-back, tree-width-is, length-encode-tree, decode-encode, encode-decode}
+use Rattle.tree.specs.EncodingLaws.{fits, fits-parts, tree-fits, length-fitting, fitting-back, length-encode-tree, decode-encode-tree, encode-decode-tree}
 use Rattle.tree.specs.RowAt.{row-count, all-rows}
 use Rattle.tree.specs.RowAtLaws.{length-all-rows, all-rows-of-tree, row-count-of-tree}
 use Rattle.soundness.specs.Sound.{is-row, row-stretches, in-order, is-top-row, form-tree, is-count, is-sound}
@@ -116,9 +116,6 @@ form-of-tree t h =
 
 -- ---- all bytes
 
-row-width-is : row-width ≡ row-width
-row-width-is = refl
-
 -- what passes the test, by its parts
 record Sound (b : List ℕ) : Type 0 where
   long : length b ≡ tree-width
@@ -139,7 +136,7 @@ sound-parts b h =
     let l = and-both r z (i .1) in
     let m = and-both (every is-row (row-stretches b)) (form-tree (all-rows b)) (l .0) in
     record {
-      long = eqb-true (length b) tree-width (j .0) ∙ tree-width-is;
+      long = eqb-true (length b) tree-width (j .0);
       few = leb-true (row-count b) 256 (k .0);
       count = same-text-sound (two-bytes (row-count b)) (take 2 b) (k .1);
       each = m .0;
@@ -206,11 +203,11 @@ module _ (t : Place Node) (h : is-tree t ≡ true) where
       let n = row-count-of-tree t h in
       let w = tree-fits t h in
       let Z : List ℕ = replicate ((256 - length rs) * row-width) 0 in
-      let l : length (all-bytes row-bytes rs) ≡ length rs * row-width = length-all-bytes row-width fits row-bytes length-fitting rs (w .0) ∙ ap (λ (k : ℕ). length rs * k) row-width-is in
+      let l : length (all-bytes row-bytes rs) ≡ length rs * row-width = length-all-bytes row-width fits row-bytes length-fitting rs (w .0) in
       let r : drop (row-start (row-count b)) b ≡ Z =
       sym (drop-drop (row-width * row-count b) 2 b) ∙ ap (drop (row-width * row-count b)) encoded-rows ∙ drop-at (all-bytes row-bytes rs) Z (row-width * row-count b) (omega arith) in
       sound-of-parts b (record {
-        long = length-encode-tree t h ∙ tree-width-is;
+        long = length-encode-tree t h;
         few = omega (arith, w .1, most-nodes-is);
         count = ap two-bytes n ∙ sym encoded-count;
         each = ap₂ (λ (k : ℕ) (x : List ℕ). every is-row (all-from row-width (λ s. s) k x)) n encoded-rows ∙ stretches-of rs Z (w .0);
@@ -222,9 +219,9 @@ module _ (t : Place Node) (h : is-tree t ≡ true) where
 sound-read : (b : List ℕ) (o : Option (Place Node)) → decode-tree b ≡ o → is-sound b ≡ is-some o
 unfolding is-some
 sound-read b none e = case (is-sound b)
-    (λ s. let t = sound-encodes b s in no-answer (sym e ∙ ap decode-tree (sym (t .1 .1)) ∙ decode-encode (t .0) (t .1 .0)))
+    (λ s. let t = sound-encodes b s in no-answer (sym e ∙ ap decode-tree (sym (t .1 .1)) ∙ decode-encode-tree (t .0) (t .1 .0)))
     (λ s. s)
-sound-read b (some t) e = let i = encode-decode b t e in ap is-sound (sym (i .0)) ∙ encoding-is-sound t (i .1)
+sound-read b (some t) e = let i = encode-decode-tree b t e in ap is-sound (sym (i .0)) ∙ encoding-is-sound t (i .1)
 
 -- so the test is whether bytes are read as a tree
 pub sound-is : (b : List ℕ) → is-sound b ≡ is-some (decode-tree b)

@@ -17,7 +17,7 @@ use Rattle.syntax.specs.Form.{is-some}
 use Rattle.syntax.specs.FormLaws.{both, the-some}
 use Rattle.setup.specs.Setup.{Setup, accounts, is-setup}
 use Rattle.tree.specs.Encoding.{encode-tree, decode-tree}
-use Rattle.tree.specs.EncodingLaws.{decode-encode as decode-encode-tree, encode-decode as encode-decode-tree}
+use Rattle.tree.specs.EncodingLaws.{decode-encode-tree, encode-decode-tree}
 use Rattle.tree.specs.TreeBytes.{Encodes}
 use Rattle.tree.specs.TreeBytesLaws.{encodes}
 use Rattle.store.specs.State.{Sessions, State, state-of, well-formed}

@@ -14,7 +14,7 @@ use Rattle.buffers.specs.TextLaws.{same-text-refl, same-text-sound}
 use Rattle.syntax.specs.Form.{_>>=_, _>>_, check}
 use Rattle.syntax.specs.FormLaws.{both-read, checked, answered}
 use Rattle.tree.specs.Encoding.{encode-tree, decode-tree}
-use Rattle.tree.specs.EncodingLaws.{tree-width-is, length-encode-tree, decode-encode as decode-encode-tree}
+use Rattle.tree.specs.EncodingLaws.{length-encode-tree, decode-encode-tree}
 use Rattle.store.specs.State.{State, well-formed}
 use Rattle.store.specs.StateLaws.{parts}
 use Rattle.store.specs.StoreBytes.{header-width, store-width, header-bytes, setup-of, sessions-of, encode, decode}
@@ -28,7 +28,7 @@ length-encode s h =
     let H = header-bytes (s .setup) (s .store .sessions) in
     let a = length-header (s .setup) (s .store .sessions) (i .setup) (i .sessions) in
     let b = length-encode-tree (s .store .tree) (i .tree) in
-    length-append H (encode-tree (s .store .tree)) ∙ omega (arith, a, b, tree-width-is)
+    length-append H (encode-tree (s .store .tree)) ∙ omega (arith, a, b)
 
 -- what bytes are read as whose parts are known
 read-as : (b : List ℕ) (s : State) → decode-tree (drop header-width b) ≡ some (s .store .tree) →

@@ -111,17 +111,17 @@ reserved-by-text s p reads = case (same-text s (path-text root))
 -- ---- a path within another
 
 -- the text u is s, or goes on behind it with a `/`
-unfoldable pub goes-on : Text → Text → Bool
-goes-on s u = same-text (take (length s) u) s && (eqb (length u) (length s) || eqb (getD u (length s) 0) 47)
+unfoldable pub text-goes-on-from : Text → Text → Bool
+text-goes-on-from s u = same-text (take (length s) u) s && (eqb (length u) (length s) || eqb (getD u (length s) 0) 47)
 
-went-on : (s u : Text) → (u ≡ s) ⊎ ((t : Text) × (u ≡ s ++ (47 ∷ t))) → goes-on s u ≡ true
-unfolding goes-on
+went-on : (s u : Text) → (u ≡ s) ⊎ ((t : Text) × (u ≡ s ++ (47 ∷ t))) → text-goes-on-from s u ≡ true
+unfolding text-goes-on-from
 went-on s u (inl e) = rw (e, take-all (length s) s (omega arith), same-text-refl s, eq-eqb (length s) (length s) refl)
 went-on s u (inr e) =
     rw (e .1, take-append-seam s (47 ∷ e .0), same-text-refl s, getD-append-seam s 47 (e .0) 0) (or-true (eqb (length (s ++ (47 ∷ e .0))) (length s)))
 
-how-it-goes-on : (s u : Text) → goes-on s u ≡ true → (u ≡ s) ⊎ ((t : Text) × (u ≡ s ++ (47 ∷ t)))
-unfolding goes-on
+how-it-goes-on : (s u : Text) → text-goes-on-from s u ≡ true → (u ≡ s) ⊎ ((t : Text) × (u ≡ s ++ (47 ∷ t)))
+unfolding text-goes-on-from
 how-it-goes-on s u h =
     let n = length s in
     let i = and-both (same-text (take n u) s) _ h in
@@ -169,9 +169,9 @@ module _ (s u : Text) (p q : Path) (reads : path s ≡ some p) (other : path u �
       (sym (text-of-names q top) ∙ sym (text-of-path u q other) ∙ e .1 ∙ ap (λ (x : Text). x ++ (47 ∷ e .0)) (text-of-path s p reads ∙ text-of-names p below))
 
   -- a path lies within another if its text is the other's, or goes on behind it with a `/`
-  pub within-by-text : within p q ≡ goes-on s u
+  pub within-by-text : within p q ≡ text-goes-on-from s u
   within-by-text = case (within p q)
       (λ i. i ∙ sym (went-on s u (lies-on (lies p q i))))
-      (λ i. case (goes-on s u)
+      (λ i. case (text-goes-on-from s u)
       (λ g. contra (lies-within (on-lies (how-it-goes-on s u g))) i)
       (λ g. i ∙ sym g))

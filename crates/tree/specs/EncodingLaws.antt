@@ -81,10 +81,6 @@ fitting-back r h = let w = fits-parts r h in row-of-bytes r (w .0) (w .1)
 
 -- ---- trees
 
--- how wide all trees are
-pub tree-width-is : tree-width ≡ tree-width
-tree-width-is = refl
-
 -- the encoding of a well-formed tree has the width of all trees
 pub length-encode-tree : (t : Place Node) → is-tree t ≡ true → length (encode-tree t) ≡ tree-width
 unfolding encode-tree encode-rows two-bytes most-nodes
@@ -102,14 +98,14 @@ rows-of-encoded t h =
     ∙ all-from-bytes row-width fits row-bytes length-fitting read-row fitting-back rs Z (tree-fits t h .0)
 
 -- a well-formed tree is read back from its encoding
-pub decode-encode : (t : Place Node) → is-tree t ≡ true → decode-tree (encode-tree t) ≡ some t
+pub decode-encode-tree : (t : Place Node) → is-tree t ≡ true → decode-tree (encode-tree t) ≡ some t
 unfolding decode-tree _>>=_ _>>_ check
-decode-encode t h = rw (rows-of-encoded t h, tree-of-rows t) (rw (h, same-text-refl (encode-tree t)))
+decode-encode-tree t h = rw (rows-of-encoded t h, tree-of-rows t) (rw (h, same-text-refl (encode-tree t)))
 
 -- bytes that are read as a tree are its encoding, and it is well-formed
-pub encode-decode : (b : List ℕ) (t : Place Node) → decode-tree b ≡ some t → (encode-tree t ≡ b) × (is-tree t ≡ true)
+pub encode-decode-tree : (b : List ℕ) (t : Place Node) → decode-tree b ≡ some t → (encode-tree t ≡ b) × (is-tree t ≡ true)
 unfolding decode-tree
-encode-decode b t e =
+encode-decode-tree b t e =
     let i = both-read (tree-of (all-from row-width read-row (number-at 0 b) (drop 2 b))) (λ t. check (is-tree t && same-text (encode-tree t) b) >> some t) t e in
     let j = checked (is-tree (i .0) && same-text (encode-tree (i .0)) b) (some (i .0)) t (i .2) in
     let k = and-both (is-tree (i .0)) (same-text (encode-tree (i .0)) b) (j .0) in
@@ -117,5 +113,5 @@ encode-decode b t e =
     rw q (same-text-sound (encode-tree (i .0)) b (k .1), k .0)
 
 -- bytes that are read as a tree have the width of all trees
-pub decode-length : (b : List ℕ) (t : Place Node) → decode-tree b ≡ some t → length b ≡ tree-width
-decode-length b t e = let i = encode-decode b t e in ap length (sym (i .0)) ∙ length-encode-tree t (i .1)
+pub decode-tree-length : (b : List ℕ) (t : Place Node) → decode-tree b ≡ some t → length b ≡ tree-width
+decode-tree-length b t e = let i = encode-decode-tree b t e in ap length (sym (i .0)) ∙ length-encode-tree t (i .1)

@@ -30,7 +30,7 @@ use Rattle.tree.specs.RowChangesLaws.{tree-sorted}
 use Rattle.tree.specs.RowScanLaws.{row-of-place, depth-of-place, index-bound, subtree-span, child-in-rows, no-child-in-rows, missing-not-found}
 use Rattle.tree.specs.Encoding.{Tag-told, row-bytes, encode-rows, encode-tree}
 use Rattle.tree.specs.RowBytesLaws.{tag-in-bytes}
-use Rattle.tree.specs.EncodingLaws.{fits, fits-parts, tree-fits, length-fitting, tree-width-is, length-encode-tree}
+use Rattle.tree.specs.EncodingLaws.{fits, fits-parts, tree-fits, length-fitting, length-encode-tree}
 use Rattle.tree.specs.RowAt.{row-count, row-bytes-at, row-at, all-rows, tag-text-at, tag-number-at}
 use Rattle.tree.specs.TreeBytes.{Wide, Has-row, Used, Encodes, At}
 use Rattle.tree.specs.RowAtLaws.{row-in-rows, all-rows-of-tree, row-count-of-tree}
@@ -53,7 +53,7 @@ unfolding nodes
 encodes {t} h =
     let c = row-count-of-tree t h ∙ length-rows t in
     record {
-      sized = record { wide = length-encode-tree t h ∙ tree-width-is; some-rows = omega arith; few-rows = omega (arith, tree-parts t h .few) };
+      sized = record { wide = length-encode-tree t h; some-rows = omega arith; few-rows = omega (arith, tree-parts t h .few) };
       whole = h;
       bytes = refl;
     }

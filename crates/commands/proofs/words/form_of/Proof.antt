@@ -4,7 +4,7 @@ use borrow.Author.Needs.{needs}
 use Rattle.syntax.specs.Pieces.{bytes}
 use Rattle.commands.specs.Command.{takes, listed, words}
 use Rattle.commands.specs.Words.{repository-words, form-of}
-use Rattle.commands.specs.WordsLaws.{goes-on, _and_, all-words}
+use Rattle.commands.specs.WordsLaws.{shell-words-gone, _and_, all-words}
 use Rattle.commands.proofs.words.form_of.Statement.{statement}
 use Rattle.commands.proofs.words.form_of.Tie as tie
 
@@ -19,7 +19,7 @@ returns c =
     let c1 = c2 .before .before in
     let c0 = c1 .before .before in
     all-words
-    (goes-on (now (c0 .before .before .args .t)) (c0 .shell-form .result) (c0 .shell-form .ensures)
+    (shell-words-gone (now (c0 .before .before .args .t)) (c0 .shell-form .result) (c0 .shell-form .ensures)
     and c1 .two .ensures
     and c2 .no .ensures
     and c3 .three .ensures

@@ -13,7 +13,7 @@ use Rattle.buffers.specs.Text.{Text, same-text}
 use Rattle.buffers.specs.TextLaws.{same-text-sound}
 use Rattle.syntax.specs.Path.{Path, root, _▹_, path, is-top, within}
 use Rattle.syntax.specs.WithinLaws.{lies-top, lies-within}
-use Rattle.syntax.specs.PathTextLaws.{top-by-length, below-by-length, goes-on, within-by-text}
+use Rattle.syntax.specs.PathTextLaws.{top-by-length, below-by-length, text-goes-on-from, within-by-text}
 use Rattle.nodes.proofs.paths.is_within.Statement.{statement}
 use Rattle.nodes.proofs.paths.is_within.Tie as tie
 
@@ -27,20 +27,20 @@ longer : (s u : Text) → same-text (take (length s) u) s ≡ true → (length u
 longer s u e h = omega (arith, ap length (same-text-sound (take (length s) u) s e), length-take (length s) u, h)
 
 module _ (s u : Text) (p q : Path) (reads : path s ≡ some p) (other : path u ≡ some q) (below : length s ≡ 1 → ⊥) where
-  by-text : within p q ≡ goes-on s u
+  by-text : within p q ≡ text-goes-on-from s u
   by-text = within-by-text s u p q reads other (below-by-length s p reads below)
 
   begins-not : same-text (take (length s) u) s ≡ false → false ≡ within p q
-  unfolding goes-on
+  unfolding text-goes-on-from
   begins-not e = sym (by-text ∙ rw e)
 
   module _ (e : same-text (take (length s) u) s ≡ true) where
     ends-there : length u ≡ length s → true ≡ within p q
-    unfolding goes-on
+    unfolding text-goes-on-from
     ends-there h = sym (by-text ∙ rw (e, eq-eqb (length u) (length s) h))
 
     goes-on-there : (length u ≡ length s → ⊥) → eqb (getD u (length s) 0) 47 ≡ within p q
-    unfolding goes-on
+    unfolding text-goes-on-from
     goes-on-there h = sym (by-text ∙ rw (e, ne-eqb (length u) (length s) h))
 
 returns : tie.Need-returns
