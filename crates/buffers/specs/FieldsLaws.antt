@@ -6,7 +6,7 @@ use Prim.Native.Nat.{ℕ, zero, suc, _+_, _-_, _/_, _%_, _≤_, _<_}
 use native.Mathlib.Omega.{arith}
 use lib.Dec.{eqb}
 use lib.ListN.{length, getD, take, drop, replicate, length-append, length-replicate, length-take}
-use lib.Seq.{take-at, drop-at, getD-at, drop-cons, take-take}
+use lib.Seq.{take-at, drop-at, getD-at, getD-take, getD-drop, drop-cons, drop-drop, take-take}
 use borrow.Author.Tests.{not-true, eq-eqb, ne-eqb}
 use Rattle.buffers.specs.Cases.{case, and-both}
 use Rattle.buffers.specs.Text.{Text, every, lacks}
@@ -101,3 +101,24 @@ part-of-take zero w n l h = take-take w n l (omega arith)
 part-of-take (suc k) w zero l h = let z : ⊥ = omega arith in absurd z
 part-of-take (suc k) w (suc n) [] h = refl
 part-of-take (suc k) w (suc n) (x ∷ l) h = part-of-take k w n l (omega arith)
+
+-- ---- a value of n bytes that stands from o on
+
+module _ (b : List ℕ) (o n : ℕ) where
+  abbrev value : List ℕ
+  value = take n (drop o b)
+
+  -- its byte, number and text at k stand at o + k
+  pub byte-there : (k p : ℕ) → k < n → o + k ≡ p → getD value k 0 ≡ getD b p 0
+  byte-there k p h e = getD-take n (drop o b) k 0 h ∙ getD-drop o b k 0 ∙ ap (λ (j : ℕ). getD b j 0) e
+
+  pub number-there : (k p : ℕ) → k + 1 < n → o + k ≡ p → number-at k value ≡ number-at p b
+  unfolding number-at
+  number-there k p h e =
+      let low = byte-there k p (omega arith) e in
+      let high = byte-there (suc k) (suc p) (omega arith) (omega arith) in
+      omega arith
+
+  pub text-there : (k w : ℕ) → k + w ≤ n → text-at k w value ≡ text-at (o + k) w b
+  unfolding text-at
+  text-there k w h = ap unpadded (part-of-take k w n (drop o b) h ∙ ap (take w) (drop-drop k o b))

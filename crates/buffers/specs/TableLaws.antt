@@ -7,7 +7,7 @@ use Prim.Native.Nat.{ℕ, zero, suc, _+_, _-_, _*_, _≤_, _<_}
 use native.Mathlib.Omega.{arith}
 use native.Mathlib.Nat.{zero-mul, suc-mul, mul-zero, mul-suc, add-comm, add-mul, add-sub-of-le}
 use lib.ListN.{length, getD, take, drop, replicate, length-append, length-replicate}
-use lib.Seq.{take-at, drop-at, drop-drop}
+use lib.Seq.{take-at, drop-at, getD-drop, drop-drop}
 use Rattle.buffers.specs.Cases.{and-both}
 use Rattle.buffers.specs.Text.{every}
 use Rattle.buffers.specs.Fields.{all-bytes, all-from, table-bytes, table-from}
@@ -90,3 +90,24 @@ module _ {A : Type 0} (width : ℕ) (test : A → Bool) (to : A → List ℕ) (l
     unfolding table-bytes table-from
     table-from-bytes most l Q h =
         rw (append-assoc (all-bytes to l) (replicate ((most - length l) * width) 0) Q) (all-from-bytes l _ h)
+
+-- ---- a table that stands from o on
+
+module _ {A : Type 0} (width : ℕ) (from : List ℕ → A) (b : List ℕ) (o : ℕ) where
+  abbrev table : List A
+  table = table-from width from (drop o b)
+
+  -- its first byte says how many values it has
+  pub table-count : getD b o 0 ≡ length table
+  unfolding table-from
+  table-count =
+      let q : o + 0 ≡ o = omega arith in
+      sym (length-all-from width from (getD (drop o b) 0 0) (drop 1 (drop o b)) ∙ getD-drop o b 0 0 ∙ ap (λ (j : ℕ). getD b j 0) q)
+
+  -- which stand behind it one after another
+  pub table-value : (i : ℕ) (d : A) → i < length table → getD table i d ≡ from (take width (drop (o + 1 + width * i) b))
+  unfolding table-from
+  table-value i d h =
+      let n = getD (drop o b) 0 0 in
+      all-from-at width from n i (drop 1 (drop o b)) d (omega (arith, length-all-from width from n (drop 1 (drop o b))))
+      ∙ ap (λ (l : List ℕ). from (take width l)) (ap (drop (width * i)) (drop-drop 1 o b) ∙ drop-drop (width * i) (o + 1) b)

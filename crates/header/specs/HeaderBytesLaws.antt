@@ -1,18 +1,17 @@
 -- What stands in a header's bytes, and where.
 --
--- In order: the fields of a value that stands among other bytes; a table by index; the header whole; an account's slot; an
--- account's session; the role pairs; the grants.
+-- In order: the header whole; an account's slot; an account's session; the role pairs; the grants.
 use mathlib.Core.Path.{_≡_, refl, sym, _∙_, ap, ap₂}
 use mathlib.Core.List.{List, [], append-nil}
 use mathlib.Core.Option.{Option, none, some}
-use Prim.Native.Nat.{ℕ, suc, _+_, _*_, _≤_, _<_}
+use Prim.Native.Nat.{ℕ, _+_, _*_, _≤_, _<_}
 use native.Mathlib.Omega.{arith}
 use lib.ListN.{length, getD, set, take, drop, List·getD-eq-default}
-use lib.Seq.{getD-take, getD-drop, drop-drop}
+use lib.Seq.{getD-drop, drop-drop}
 use borrow.Author.Tests.{eq-eqb, ne-eqb}
-use Rattle.buffers.specs.Fields.{number-at, unpadded, text-at, table-from}
-use Rattle.buffers.specs.FieldsLaws.{part-of-take}
-use Rattle.buffers.specs.TableLaws.{length-all-from, all-from-at}
+use Rattle.buffers.specs.Fields.{number-at, table-from}
+use Rattle.buffers.specs.FieldsLaws.{byte-there, number-there, text-there}
+use Rattle.buffers.specs.TableLaws.{all-from-at, table-count, table-value}
 use Rattle.accounts.specs.declared.Uid.{Uid}
 use Rattle.accounts.specs.Dominance.{Bounded-role}
 use Rattle.accounts.specs.PairBytes.{pair-of}
@@ -24,48 +23,6 @@ use Rattle.store.specs.State.{Sessions}
 use Rattle.store.specs.StoreBytes.{header-width, slot-of, session-byte, grant-of, header-bytes, setup-of}
 use Rattle.store.specs.HeaderLaws.{length-header, setup-of-header, session-in-header, header-with-session}
 use Rattle.header.specs.HeaderBytes.{Wide-header, Heads, Headed, grant-in}
-
--- ---- the value of n bytes from o on
-
-module _ (b : List ℕ) (o n : ℕ) where
-  abbrev value : List ℕ
-  value = take n (drop o b)
-
-  -- its byte, number and text at k stand at o + k
-  byte-there : (k p : ℕ) → k < n → o + k ≡ p → getD value k 0 ≡ getD b p 0
-  byte-there k p h e = getD-take n (drop o b) k 0 h ∙ getD-drop o b k 0 ∙ ap (λ (j : ℕ). getD b j 0) e
-
-  number-there : (k p : ℕ) → k + 1 < n → o + k ≡ p → number-at k value ≡ number-at p b
-  unfolding number-at
-  number-there k p h e =
-      let low = byte-there k p (omega arith) e in
-      let high = byte-there (suc k) (suc p) (omega arith) (omega arith) in
-      omega arith
-
-  text-there : (k w : ℕ) → k + w ≤ n → text-at k w value ≡ text-at (o + k) w b
-  unfolding text-at
-  text-there k w h = ap unpadded (part-of-take k w n (drop o b) h ∙ ap (take w) (drop-drop k o b))
-
--- ---- a table from o on
-
-module _ {A : Type 0} (width : ℕ) (from : List ℕ → A) (b : List ℕ) (o : ℕ) where
-  abbrev table : List A
-  table = table-from width from (drop o b)
-
-  -- its first byte says how many values it has
-  table-count : getD b o 0 ≡ length table
-  unfolding table-from
-  table-count =
-      let q : o + 0 ≡ o = omega arith in
-      sym (length-all-from width from (getD (drop o b) 0 0) (drop 1 (drop o b)) ∙ getD-drop o b 0 0 ∙ ap (λ (j : ℕ). getD b j 0) q)
-
-  -- which stand behind it one after another
-  table-value : (i : ℕ) (d : A) → i < length table → getD table i d ≡ from (take width (drop (o + 1 + width * i) b))
-  unfolding table-from
-  table-value i d h =
-      let n = getD (drop o b) 0 0 in
-      all-from-at width from n i (drop 1 (drop o b)) d (omega (arith, length-all-from width from n (drop 1 (drop o b))))
-      ∙ ap (λ (l : List ℕ). from (take width l)) (ap (drop (width * i)) (drop-drop 1 o b) ∙ drop-drop (width * i) (o + 1) b)
 
 -- ---- a header
 
@@ -121,7 +78,7 @@ module _ {b : List ℕ} {u : Setup} {z : Sessions} (h : Heads b u z) where
 
   -- ---- the role pairs
 
-  pairs-read : u .pairs ≡ table pair-width pair-of b pairs-offset
+  pairs-read : u .pairs ≡ table-from pair-width pair-of (drop pairs-offset b)
   unfolding setup-of
   pairs-read = ap (λ (s : Setup). s .pairs) setup-read
 
@@ -134,7 +91,7 @@ module _ {b : List ℕ} {u : Setup} {z : Sessions} (h : Heads b u z) where
 
   -- ---- the grants
 
-  grants-read : u .grants ≡ table grant-width grant-of b grants-offset
+  grants-read : u .grants ≡ table-from grant-width grant-of (drop grants-offset b)
   unfolding setup-of
   grants-read = ap (λ (s : Setup). s .grants) setup-read
 

@@ -10,14 +10,14 @@ use native.Mathlib.Omega.{arith}
 use native.Mathlib.Nat.{add-zero}
 use lib.Dec.{eqb, leb, ltb}
 use lib.ListN.{length, getD, take, drop, replicate, length-drop, List·getD-eq-default}
-use lib.Seq.{take-all, take-take, getD-take, getD-drop}
+use lib.Seq.{take-all, take-take}
 use borrow.Author.Tests.{eqb-true, eqb-false, ne-eqb, eq-eqb, leb-true, leb-false, le-leb, lt-ltb}
 use Rattle.buffers.specs.Cases.{case}
 use Rattle.buffers.specs.Text.{same-text, every}
 use Rattle.buffers.specs.TextLaws.{same-text-refl}
 use Rattle.buffers.specs.Fields.{two-bytes, number-at, padded, unpadded, text-at, all-zero, zeros-at, all-bytes, all-from, table-bytes, table-from}
-use Rattle.buffers.specs.FieldsLaws.{length-two-bytes, length-padded}
-use Rattle.buffers.specs.TableLaws.{length-all-from, all-from-at}
+use Rattle.buffers.specs.FieldsLaws.{length-two-bytes, length-padded, byte-there}
+use Rattle.buffers.specs.TableLaws.{length-all-from, all-from-at, table-count}
 use Rattle.accounts.specs.Access.{is-root}
 use Rattle.accounts.specs.Dominance.{falls}
 use Rattle.accounts.specs.PairBytes.{pair-bytes, pair-of}
@@ -29,7 +29,7 @@ use Rattle.soundness.specs.RowTestLaws.{eqb-flip, length-text-at, same-filled, 
 use Rattle.store.specs.StoreBytes.{slot-bytes, slot-of, session-byte, session-of, grant-bytes, grant-of, header-bytes, setup-of, sessions-of, is-header}
 use Rattle.store.specs.HeaderLayout.{pair-start, grant-start}
 use Rattle.sound_store.specs.HeaderTests.{Header-wide, passes-from, slot-start, is-slot-at, has-slots, is-session-at, has-sessions, is-pair-at, has-pairs, named-at, is-password-at, is-grant-at, has-grants, header-test}
-use Rattle.sound_store.specs.PassesLaws.{passes-both, passes-same, stretch, opened, all-pass, all-same, table-count, table-values, table-same}
+use Rattle.sound_store.specs.PassesLaws.{passes-both, passes-same, stretch, opened, all-pass, all-same, table-values, table-same}
 
 -- ---- the bytes of one value
 
@@ -167,7 +167,7 @@ module _ (b : List ℕ) (wide : Header-wide b) (small : (k : ℕ) → getD b k 0
       (λ t.
       let at : getD (all-from 3 slot-of 16 b) v none ≡ slot-of (take 3 (drop (3 * v) b)) = all-from-at 3 slot-of 16 v b none (omega (arith, leb-true v 15 t)) in
       let first : getD (take 3 (drop (3 * v) b)) 0 0 ≡ getD b (3 * v) 0 =
-      getD-take 3 (drop (3 * v) b) 0 0 (omega arith) ∙ getD-drop (3 * v) b 0 0 ∙ ap (λ (j : ℕ). getD b j 0) (add-zero (3 * v)) in
+      byte-there b (3 * v) 3 0 (3 * v) (omega arith) (add-zero (3 * v)) in
       rw (at, t) (some-slot (take 3 (drop (3 * v) b)) ∙ rw first))
       (λ t. rw (List·getD-eq-default (all-from 3 slot-of 16 b) none {n = v} (omega (arith, length-all-from 3 slot-of 16 b, leb-false v 15 t)), t) (unfold is-some in refl))
 
@@ -240,11 +240,11 @@ module _ (b : List ℕ) (wide : Header-wide b) (small : (k : ℕ) → getD b k 0
   -- how many of each are read
   pair-number : length (u .pairs) ≡ getD b 64 0
   unfolding setup-of
-  pair-number = table-count 2 28 64 b pair-of ∙ getD-drop 64 b 0 0
+  pair-number = sym (table-count 2 pair-of b 64)
 
   grant-number : length (u .grants) ≡ getD b 121 0
   unfolding setup-of
-  grant-number = table-count 10 32 121 b grant-of ∙ getD-drop 121 b 0 0
+  grant-number = sym (table-count 10 grant-of b 121)
 
   -- the setup in range, part by part
   setup-is : is-setup u ≡ ((eqb (getD b 0 0) 0 && every is-slot (u .persons))

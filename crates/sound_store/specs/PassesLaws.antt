@@ -123,11 +123,6 @@ opened b i h = drop-cons b i 0 h ∙ ap (λ (k : ℕ). getD b i 0 ∷ drop k b) 
 
 -- a table behind its number
 module _ {A : Type 0} (w most o : ℕ) (b : List ℕ) (from : List ℕ → A) where
-  -- the number is that of the values read
-  pub table-count : length (table-from w from (drop o b)) ≡ getD (drop o b) 0 0
-  unfolding table-from
-  table-count = length-all-from w from (getD (drop o b) 0 0) (drop 1 (drop o b))
-
   module _ (h : o < length b) where
     pub table-values : table-from w from (drop o b) ≡ all-from w from (getD b o 0) (drop (o + 1) b)
     unfolding table-from
