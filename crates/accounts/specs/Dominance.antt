@@ -18,6 +18,9 @@ pub record Bounded-role : Type 0 where
   pub role : Role
   pub bound : ltb (role .0) 8 ≡ true
 
+pub role-low : {r : Role} (z : Bounded-role) → z .role ≡ r → r .0 < 8
+role-low z e = rw (← e) (ltb-true (z .role .0) 8 (z .bound))
+
 -- the relation: s is r, or a pair leads from s to a role that dominates r
 pub data Listed (s j : Role) : List Pair → Type 0 where
   first : {ps : List Pair} → Listed s j (record { senior = s; junior = j } ∷ ps)

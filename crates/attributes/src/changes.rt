@@ -2,9 +2,9 @@
 ghost use Prim.Native.Nat.{_≤_};
 ghost use lib.ListN.{length};
 ghost use Rattle.tree.specs.Layout.{content-width};
-ghost use Rattle.tree.specs.TreeBytes.{Whole, Path-text, Whichever};
+ghost use Rattle.tree.specs.TreeBytes.{Whole, Path-text};
 ghost use Rattle.shell.specs.Steps.{run-write, run-chmod, run-chgrp, run-chown};
-ghost use Rattle.shell.specs.CommandBytes.{Follows-silently};
+ghost use Rattle.shell.specs.CommandBytes.{Follows-at};
 use crate::Deed;
 use crate::checks::may_do;
 use accounts::Caller;
@@ -22,8 +22,7 @@ pub fn write(tree: &mut [u8], caller: Caller, path: &[u8], content: &[u8]) -> An
     requires { ⌜ Whole (now tree) ⌝ }
     requires { ⌜ Path-text (now path) ⌝ }
     requires { ⌜ length (now content) ≤ content-width ⌝ }
-    ensures { λ r. ⌜ Whichever (now (tree .entry)) (now (path .entry))
-        (λ t p. Follows-silently (run-write caller 0 t p (now (content .entry))) (now (tree .entry)) r (now (tree .exit))) ⌝ }
+    ensures { λ r. ⌜ Follows-at (λ t p. run-write caller 0 t p (now (content .entry))) (now (tree .entry)) (now (path .entry)) r (now (tree .exit)) ⌝ }
 {
     match may_do(tree, caller.account, path, Deed::Write) {
         Walked::To { row, above: _ } => {
@@ -38,8 +37,7 @@ pub fn write(tree: &mut [u8], caller: Caller, path: &[u8], content: &[u8]) -> An
 pub fn chmod(tree: &mut [u8], caller: Caller, path: &[u8], mode: u16) -> Answer
     requires { ⌜ Whole (now tree) ⌝ }
     requires { ⌜ Path-text (now path) ⌝ }
-    ensures { λ r. ⌜ Whichever (now (tree .entry)) (now (path .entry))
-        (λ t p. Follows-silently (run-chmod caller 0 t p mode) (now (tree .entry)) r (now (tree .exit))) ⌝ }
+    ensures { λ r. ⌜ Follows-at (λ t p. run-chmod caller 0 t p mode) (now (tree .entry)) (now (path .entry)) r (now (tree .exit)) ⌝ }
 {
     match may_do(tree, caller.account, path, Deed::Chmod(mode)) {
         Walked::To { row, above: _ } => {
@@ -54,8 +52,7 @@ pub fn chmod(tree: &mut [u8], caller: Caller, path: &[u8], mode: u16) -> Answer
 pub fn chgrp(tree: &mut [u8], caller: Caller, path: &[u8], group: Gid) -> Answer
     requires { ⌜ Whole (now tree) ⌝ }
     requires { ⌜ Path-text (now path) ⌝ }
-    ensures { λ r. ⌜ Whichever (now (tree .entry)) (now (path .entry))
-        (λ t p. Follows-silently (run-chgrp caller 0 t p group) (now (tree .entry)) r (now (tree .exit))) ⌝ }
+    ensures { λ r. ⌜ Follows-at (λ t p. run-chgrp caller 0 t p group) (now (tree .entry)) (now (path .entry)) r (now (tree .exit)) ⌝ }
 {
     match may_do(tree, caller.account, path, Deed::Chgrp(group)) {
         Walked::To { row, above: _ } => {
@@ -70,8 +67,7 @@ pub fn chgrp(tree: &mut [u8], caller: Caller, path: &[u8], group: Gid) -> Answer
 pub fn chown(tree: &mut [u8], caller: Caller, path: &[u8], owner: Uid) -> Answer
     requires { ⌜ Whole (now tree) ⌝ }
     requires { ⌜ Path-text (now path) ⌝ }
-    ensures { λ r. ⌜ Whichever (now (tree .entry)) (now (path .entry))
-        (λ t p. Follows-silently (run-chown caller 0 t p owner) (now (tree .entry)) r (now (tree .exit))) ⌝ }
+    ensures { λ r. ⌜ Follows-at (λ t p. run-chown caller 0 t p owner) (now (tree .entry)) (now (path .entry)) r (now (tree .exit)) ⌝ }
 {
     match may_do(tree, caller.account, path, Deed::Chown) {
         Walked::To { row, above: _ } => {

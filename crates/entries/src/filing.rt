@@ -7,7 +7,7 @@ ghost use Rattle.tree.specs.Encoding.{encode-tree};
 ghost use Rattle.tree.specs.RowAt.{row-at, tag-number-at};
 ghost use Rattle.tree.specs.WellFormed.{last-revision};
 ghost use Rattle.tree.specs.TreeBytes.{Has-row, Whole, Path-text, Whichever};
-ghost use Rattle.shell.specs.CommandBytes.{Follows-silently};
+ghost use Rattle.shell.specs.CommandBytes.{Follows-at};
 ghost use Rattle.entries.specs.EntrySteps.{commit-tests, commit-link, after-commit, after-up, commit-steps, up-steps, three-rows, link-rows-from, passing, links-told, Link, Linked, Some-link};
 use crate::Links;
 use crate::tagged::linked_rows;
@@ -93,8 +93,7 @@ fn bring_up(tree: &mut [u8], working: usize, entry: usize)
 pub fn commit(tree: &mut [u8], caller: Caller, account: Account, working: &[u8]) -> Answer
     requires { ⌜ Whole (now tree) ⌝ }
     requires { ⌜ Path-text (now working) ⌝ }
-    ensures { λ r. ⌜ Whichever (now (tree .entry)) (now (working .entry)) (λ t w. Follows-silently (commit-steps (caller .account) account t w)
-        (now (tree .entry)) r (now (tree .exit))) ⌝ }
+    ensures { λ r. ⌜ Follows-at (commit-steps (caller .account) account) (now (tree .entry)) (now (working .entry)) r (now (tree .exit)) ⌝ }
 {
     let person = caller.account;
     match commit_rows(tree, person, account, working) {
@@ -114,8 +113,7 @@ pub fn commit(tree: &mut [u8], caller: Caller, account: Account, working: &[u8])
 pub fn up(tree: &mut [u8], caller: Caller, account: Account, working: &[u8]) -> Answer
     requires { ⌜ Whole (now tree) ⌝ }
     requires { ⌜ Path-text (now working) ⌝ }
-    ensures { λ r. ⌜ Whichever (now (tree .entry)) (now (working .entry)) (λ t w. Follows-silently (up-steps (caller .account) account t w)
-        (now (tree .entry)) r (now (tree .exit))) ⌝ }
+    ensures { λ r. ⌜ Follows-at (up-steps (caller .account) account) (now (tree .entry)) (now (working .entry)) r (now (tree .exit)) ⌝ }
 {
     let person = caller.account;
     match linked_rows(tree, person, Right::W, account, working) {

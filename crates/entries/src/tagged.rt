@@ -1,10 +1,7 @@
 // Where a working file and its entry stand: the checks that `commit` and `up` share.
 ghost use mathlib.Core.Path.{_≡_};
-ghost use Rattle.syntax.specs.Path.{Path};
-ghost use Rattle.tree.specs.Forest.{Place};
-ghost use Rattle.tree.specs.Node.{Node};
 ghost use Rattle.tree.specs.RowAt.{row-at};
-ghost use Rattle.tree.specs.TreeBytes.{Has-row, Whole, Path-text, Whichever, At, Some-place};
+ghost use Rattle.tree.specs.TreeBytes.{Has-row, Whole, Path-text, Whichever, Some-place, Whichever-place};
 ghost use Rattle.walks.specs.RowWalk.{spot, outcome};
 ghost use Rattle.walks.specs.WalkBytes.{spot-from};
 ghost use Rattle.entries.specs.EntrySteps.{file-tests, file-walk, link-on, link, link-rows-from, passing, links-told};
@@ -50,7 +47,7 @@ fn walk_file(tree: &[u8], account: Account, right: Right, path: &[u8]) -> Walked
 // From a working file to the entry that its tag leads to.
 fn entry_rows(tree: &[u8], account: Account, working: usize) -> Links
     requires { ⌜ Some-place (now tree) working ⌝ }
-    ensures { λ r. ⌜ ((t : Place Node) (p : Path) (d : Place Node) → At (now (tree .entry)) t p working d → links-told r ≡ link-rows-from t (link-on account t p d)) ⌝ }
+    ensures { λ r. ⌜ Whichever-place (now (tree .entry)) working (λ t p d. links-told r ≡ link-rows-from t (link-on account t p d)) ⌝ }
 {
     let path = tag_path_at(tree, working);
     if path.len() == 0 {

@@ -2,11 +2,8 @@
 ghost use mathlib.Core.Path.{_≡_};
 ghost use Prim.Native.Nat.{_<_};
 ghost use lib.ListN.{length};
-ghost use Rattle.syntax.specs.Path.{Path};
-ghost use Rattle.tree.specs.Forest.{Place};
-ghost use Rattle.tree.specs.Node.{Node};
 ghost use Rattle.tree.specs.Walk.{by-modes, room};
-ghost use Rattle.tree.specs.TreeBytes.{Whole, Path-text, Whichever, At, Some-place};
+ghost use Rattle.tree.specs.TreeBytes.{Whole, Path-text, Whichever, Some-place, Whichever-place};
 ghost use Rattle.gaps.specs.Gaps.{behind-slash, gap-from, gap-below, gap-told};
 use crate::Room;
 use accounts::Account;
@@ -31,7 +28,7 @@ pub fn last_name(path: &[u8]) -> &[u8]
 // In the directory of a row: none where the name is used, and none without w.
 fn room_below(tree: &[u8], account: Account, row: usize, name: &[u8]) -> Room
     requires { ⌜ Some-place (now tree) row ⌝ }
-    ensures { λ r. ⌜ ((t : Place Node) (q : Path) (d : Place Node) → At (now (tree .entry)) t q row d → gap-told r ≡ gap-below account t q (now (name .entry)) d) ⌝ }
+    ensures { λ r. ⌜ Whichever-place (now (tree .entry)) row (λ t q d. gap-told r ≡ gap-below account t q (now (name .entry)) d) ⌝ }
 {
     match find_child(tree, row, name) {
         Child::Found(_) => Room::Refused(Cause::Exists),

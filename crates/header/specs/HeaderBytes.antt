@@ -18,7 +18,7 @@ use Rattle.setup.specs.Setup.{Grant, Setup, is-setup}
 use Rattle.tree.specs.declared.Cause.the-variants.{UnknownCaller}
 use Rattle.tree.specs.Result.{Result, refused, done, _>>=_, Outcome}
 use Rattle.shell.specs.declared.Answer.{Answer}
-use Rattle.shell.specs.Replies.{reply, answer-of, written}
+use Rattle.shell.specs.CommandBytes.{Carries-silently}
 use Rattle.store.specs.HeaderLayout.{password-offset, password-width, spare-offset, spare-width, grant-start}
 use Rattle.store.specs.State.{Sessions}
 use Rattle.store.specs.StoreBytes.{header-bytes}
@@ -83,16 +83,9 @@ Grant-told b uid role password r = Whose b (λ u z. (s : Bounded-role) → s .ro
 abbrev pub silently : {S : Type 0} → Result S → Result (Outcome S)
 silently steps = steps >>= λ s. done (record { text = none; state = s })
 
--- the header's bytes after what the steps come to: a refusal leaves them
-unfoldable pub header-after : Setup → List ℕ → Result Sessions → List ℕ
-header-after u b (refused why) = b
-header-after u b (done z) = header-bytes u z
-
--- the answer r and the header's bytes b′ are those of the steps, from b; an answer buffer stays as it is, whatever it holds
-pub record Header-follows (u : Setup) (steps : Result Sessions) (b : List ℕ) (r : Answer) (b′ : List ℕ) : Type 0 where
-  pub tells : r ≡ answer-of (reply (silently steps))
-  pub header : b′ ≡ header-after u b steps
-  pub text : (a : List ℕ) → a ≡ written (reply (silently steps)) a
+-- the answer r and the bytes b′ of the sessions, with the setup's, are those of the steps, from b
+abbrev pub Header-follows : Setup → Result Sessions → List ℕ → Answer → List ℕ → Type 0
+Header-follows u steps b r b′ = Carries-silently (header-bytes u) (silently steps) b r b′
 
 -- `login` and `logout`, for whatever setup and sessions the bytes are of: the answer and the bytes afterwards
 abbrev pub Logs-in : List ℕ → Uid → Role → Text → Answer → List ℕ → Type 0

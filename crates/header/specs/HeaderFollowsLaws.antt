@@ -9,17 +9,16 @@ use Rattle.buffers.specs.Text.{Text}
 use Rattle.accounts.specs.declared.Uid.{Uid}
 use Rattle.accounts.specs.Dominance.{Bounded-role}
 use Rattle.setup.specs.Setup.{Setup}
-use Rattle.tree.specs.declared.Cause.{Cause}
 use Rattle.tree.specs.declared.Cause.the-variants.{NoGrant}
 use Rattle.tree.specs.Result.{Result, refused, done}
 use Rattle.tree.specs.ResultLaws.{refused-bind, done-bind, require-true, require-false, refused-then, done-then}
 use Rattle.shell.specs.declared.Answer.the-variants.{Done, Refused}
-use Rattle.shell.specs.Replies.{reply, answer-of, written}
+use Rattle.shell.specs.CommandBytesLaws.{refusal-follows, silence-follows}
 use Rattle.store.specs.State.{Sessions}
 use Rattle.store.specs.StoreBytes.{header-bytes}
 use Rattle.store.specs.Callers.{granted}
 use Rattle.store.specs.Logins.{logged-in, logged-out}
-use Rattle.header.specs.HeaderBytes.{silently, header-after, Header-follows}
+use Rattle.header.specs.HeaderBytes.{silently, Header-follows}
 
 -- ---- what the steps come to
 
@@ -34,32 +33,18 @@ module _ (u : Setup) (z : Sessions) (uid : Uid) (s : Bounded-role) (password : T
 
 -- ---- what follows them
 
-module _ {steps : Result Sessions} (u : Setup) (b : List ℕ) where
-  -- a refusal leaves the header
-  refused-follows : (why : Cause) → steps ≡ refused why → Header-follows u steps b (Refused why) b
-  unfolding reply answer-of written header-after
-  refused-follows why e =
-      let q = ap silently e ∙ refused-bind why (λ z. done (record { text = none; state = z })) in
-      record { tells = rw q; header = rw e; text = λ a. rw q }
-
-  -- what is done leaves the header of the sessions after it
-  done-follows : (z : Sessions) (b′ : List ℕ) → steps ≡ done z → b′ ≡ header-bytes u z → Header-follows u steps b Done b′
-  unfolding reply answer-of written header-after
-  done-follows z b′ e f =
-      let q = ap silently e ∙ done-bind z (λ y. done (record { text = none; state = y })) in
-      record { tells = rw q; header = rw e f; text = λ a. rw q }
-
 module _ (u : Setup) (z : Sessions) (b : List ℕ) (uid : Uid) where
   -- `login` without a grant
   pub login-refused : (s : Bounded-role) (password : Text) → granted (u .grants) uid s password ≡ false
       → Header-follows u (logged-in u z uid s password) b (Refused NoGrant) b
-  login-refused s password g = refused-follows u b NoGrant (no-grant-refused u z uid s password g)
+  login-refused s password g = refusal-follows b (ap silently (no-grant-refused u z uid s password g) ∙ refused-bind NoGrant _)
 
   -- `login` with one
   pub login-done : (s : Bounded-role) (password : Text) (b′ : List ℕ) → granted (u .grants) uid s password ≡ true
       → b′ ≡ header-bytes u (set z (uid .0) (some s)) → Header-follows u (logged-in u z uid s password) b Done b′
-  login-done s password b′ g e = done-follows u b (set z (uid .0) (some s)) b′ (grant-done u z uid s password g) e
+  login-done s password b′ g e = silence-follows b b′ (ap silently (grant-done u z uid s password g) ∙ done-bind (set z (uid .0) (some s)) _) e
 
   -- `logout`
   pub logout-done : (b′ : List ℕ) → b′ ≡ header-bytes u (set z (uid .0) none) → Header-follows u (logged-out z uid) b Done b′
-  logout-done b′ e = done-follows u b (set z (uid .0) none) b′ (unfold logged-out in refl) e
+  unfolding logged-out
+  logout-done b′ e = silence-follows b b′ (done-bind (set z (uid .0) none) _) e

@@ -25,6 +25,7 @@ use Rattle.shell.specs.declared.Answer.{Answer}
 use Rattle.shell.specs.declared.Answer.the-variants.{Done, Refused, WrongLine}
 use Rattle.shell.specs.declared.Answer.the-variants
 use Rattle.shell.specs.Replies.{reply, after, answer-of, written}
+use Rattle.shell.specs.CommandBytes.{bytes-after, Carries}
 use Rattle.store.specs.State.{Store, State, state-of}
 use Rattle.store.specs.Initial.{initial-store}
 use Rattle.store.specs.StoreBytes.{header-width, store-width, encode, decode}
@@ -33,7 +34,7 @@ use Rattle.store.specs.DecodeLaws.{tree-read}
 use Rattle.machine.specs.RunsLaws.{least-room-is}
 use Rattle.listing.specs.Listing.{listing}
 use Rattle.calls.specs.Calls.{set-up, setup-call, Called, called, encoded, on-state, listing-on, listing-result, listing-call}
-use Rattle.runner.specs.Runner.{store-after, Carries}
+use Rattle.runner.specs.Runner.{bytes-with}
 use Rattle.library.specs.CallBytes.{set-up-as, called-as}
 
 -- ---- setup
@@ -82,11 +83,11 @@ module _ (b a : List ℕ) where
 -- ---- carried out
 
 -- a command that was carried out on the store
-pub carried-call : (u : Setup) (b a : List ℕ) (steps : Result (Outcome Store)) {r : Answer} {b′ a′ : List ℕ} → Carries u steps b a r b′ a′
+pub carried-call : (u : Setup) (b a : List ℕ) (steps : Result (Outcome Store)) {r : Answer} {b′ a′ : List ℕ} → Carries (bytes-with u) steps b a r b′ a′
     → called-as r b′ a′ ≡ called b a (steps >>= λ o. done (encoded u o))
-unfolding called reply after answer-of written store-after encoded _>>=_
-carried-call u b a (refused k) f = λ i. called-as (f .tells i) (f .store i) (f .text i)
-carried-call u b a (done o) f = λ i. called-as (f .tells i) (f .store i) (f .text i)
+unfolding called reply after answer-of written bytes-after encoded _>>=_
+carried-call u b a (refused k) f = λ i. called-as (f .tells i) (f .bytes i) (f .text i)
+carried-call u b a (done o) f = λ i. called-as (f .tells i) (f .bytes i) (f .text i)
 
 module _ (b a : List ℕ) (n : ℕ) (s : State) where
   -- a line of the listing in front of the answer buffer

@@ -8,14 +8,15 @@ use Rattle.commands.specs.declared.Command.{Command as Parts}
 use Rattle.commands.specs.Command.{Command}
 use Rattle.tree.specs.Result.{Result, _>>=_, Outcome}
 use Rattle.shell.specs.declared.Answer.{Answer}
+use Rattle.shell.specs.CommandBytes.{Carries}
 use Rattle.store.specs.State.{Store, State}
 use Rattle.store.specs.Callers.{caller}
 use Rattle.header.specs.declared.Known.{Known}
 use Rattle.header.specs.HeaderBytes.{known}
 use Rattle.machine.specs.Machine.{run}
 use Rattle.machine.specs.StoreMachine.{store}
-use Rattle.shell_runner.specs.Meaning.{Meant}
-use Rattle.runner.specs.Runner.{Stored, Carries}
+use Rattle.meanings.specs.Meaning.{Meant}
+use Rattle.runner.specs.Runner.{Stored, bytes-with}
 
 -- the answer is whom the setup knows, whichever store's bytes these are
 abbrev pub Caller-told : List ℕ → Uid → Known → Type 0
@@ -28,4 +29,4 @@ calls-and-runs s uid k = caller (s .setup) uid >>= λ c. run store (s .setup) (s
 -- whichever store's bytes these are, and whatever command the parts mean
 abbrev pub Called-by : Uid → Text → Parts → List ℕ → List ℕ → Answer → List ℕ → List ℕ → Type 0
 Called-by uid line command b a r b′ a′ = (s : State) (k : Command) → Stored b s → Meant line command k
-    → Carries (s .setup) (calls-and-runs s uid k) b a r b′ a′
+    → Carries (bytes-with (s .setup)) (calls-and-runs s uid k) b a r b′ a′

@@ -17,7 +17,8 @@ use Rattle.tree.specs.Result.{refused, done, _>>=_}
 use Rattle.tree.specs.ResultLaws.{present-of, present-none, done-bind, refused-bind}
 use Rattle.shell.specs.declared.Answer.{Answer}
 use Rattle.shell.specs.declared.Answer.the-variants.{Refused}
-use Rattle.shell.specs.Replies.{reply, answer-of, written}
+use Rattle.shell.specs.CommandBytes.{Carries}
+use Rattle.shell.specs.CommandBytesLaws.{refusal-follows}
 use Rattle.store.specs.State.{State}
 use Rattle.store.specs.StoreBytes.{decode}
 use Rattle.store.specs.Callers.{caller}
@@ -26,7 +27,7 @@ use Rattle.machine.specs.StoreMachine.{store}
 use Rattle.machine.specs.Runs.{perform}
 use Rattle.machine.specs.CallerLaws.{caller-in-range}
 use Rattle.calls.specs.Calls.{called, encoded, line-on, run-result, run-call}
-use Rattle.runner.specs.Runner.{Stored, store-after, Carries}
+use Rattle.runner.specs.Runner.{Stored, bytes-with}
 use Rattle.library.specs.CallBytes.{called-as}
 use Rattle.library.specs.CallBytesLaws.{refused-call, short-call, unsound-call, sound-call, carried-call}
 use Rattle.library.specs.CallerBytes.{calls-and-runs}
@@ -36,13 +37,12 @@ use Rattle.library.specs.CallerBytes.{calls-and-runs}
 module _ {b : List ℕ} {s : State} (h : Stored b s) (uid : Uid) where
   -- a number that the setup knows nobody by
   pub unknown-carries : (k : Command) (a : List ℕ) → refused UnknownCaller ≡ caller (s .setup) uid
-      → Carries (s .setup) (calls-and-runs s uid k) b a (Refused UnknownCaller) b a
-  unfolding reply answer-of written store-after
-  unknown-carries k a e = rw (← e, refused-bind UnknownCaller (λ c. run store (s .setup) (s .store) c k)) (record { tells = refl; store = refl; text = refl })
+      → Carries (bytes-with (s .setup)) (calls-and-runs s uid k) b a (Refused UnknownCaller) b a
+  unknown-carries k a e = refusal-follows b (rw (← e) (refused-bind UnknownCaller (λ c. run store (s .setup) (s .store) c k))) a
 
   -- a number that it knows somebody by, who is below 16
   pub known-carries : (c : Caller) (k : Command) {a : List ℕ} {r : Answer} {b′ a′ : List ℕ} → done c ≡ caller (s .setup) uid
-      → Carries (s .setup) (run store (s .setup) (s .store) c k) b a r b′ a′ → Carries (s .setup) (calls-and-runs s uid k) b a r b′ a′
+      → Carries (bytes-with (s .setup)) (run store (s .setup) (s .store) c k) b a r b′ a′ → Carries (bytes-with (s .setup)) (calls-and-runs s uid k) b a r b′ a′
   known-carries c k e f = rw (← e, done-bind c (λ x. run store (s .setup) (s .store) x k)) f
 
   pub caller-low : (c : Caller) → done c ≡ caller (s .setup) uid → c .account .uid .0 < 16
@@ -79,7 +79,7 @@ module _ (b a : List ℕ) (t : Text) where
     run-unformed n = refused-call b a (sound-call b a (line-on t) s l e ∙ unformed-line s t n)
 
     pub run-carried : (uid : Uid) (k : Command) {r : Answer} {b′ a′ : List ℕ} → line t ≡ some (record { caller = uid; command = k })
-        → Carries (s .setup) (calls-and-runs s uid k) b a r b′ a′ → called-as r b′ a′ ≡ run-call b t a
+        → Carries (bytes-with (s .setup)) (calls-and-runs s uid k) b a r b′ a′ → called-as r b′ a′ ≡ run-call b t a
     unfolding run-call run-result
     run-carried uid k n f =
         carried-call (s .setup) b a (calls-and-runs s uid k) f

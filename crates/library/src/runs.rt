@@ -3,7 +3,7 @@ ghost use mathlib.Core.Path.{_≡_};
 ghost use Prim.Native.Nat.{_≤_};
 ghost use lib.ListN.{length};
 ghost use Rattle.calls.specs.Calls.{run-call};
-ghost use Rattle.shell_runner.specs.Meaning.{Meaningful};
+ghost use Rattle.meanings.specs.Meaning.{Meaningful};
 ghost use Rattle.runner.specs.Runner.{Some-store};
 ghost use Rattle.library.specs.CallBytes.{called-as};
 ghost use Rattle.library.specs.CallerBytes.{Caller-told, Called-by};

@@ -11,7 +11,7 @@ use Rattle.accounts.specs.declared.Right.the-variants.{W}
 use Rattle.syntax.specs.Path.{Path, path, parent, last, depth, within, reserved, most-names}
 use Rattle.tree.specs.declared.Kind.{Kind}
 use Rattle.tree.specs.declared.Cause.the-variants.{Access, WrongKind, NotEmpty, Reserved, Full, IntoItself, TooDeep}
-use Rattle.tree.specs.Result.{Result, done, _>>=_, _>>_, require}
+use Rattle.tree.specs.Result.{Result, done, _>>=_, _>>_, require, Outcome}
 use Rattle.tree.specs.Forest.{Place, is-empty, height}
 use Rattle.tree.specs.Node.{same-kind, Node, allows}
 use Rattle.tree.specs.Walk.{by-modes, unused, walk, parent-walk, room}
@@ -20,10 +20,16 @@ use Rattle.tree.specs.TreeBytes.{Encodes, At}
 use Rattle.walks.specs.declared.Walked.{Walked}
 use Rattle.walks.specs.RowWalk.{Spot, spot, outcome}
 use Rattle.walks.specs.WalkBytes.{spot-of}
+use Rattle.shell.specs.declared.Answer.{Answer}
+use Rattle.shell.specs.CommandBytes.{Follows-silently}
 
 -- for whatever tree the bytes are, and whatever paths the texts read as
 abbrev pub Whichever-two : List ℕ → Text → Text → (Place Node → Path → Path → Type 0) → Type 0
 Whichever-two b s u P = (t : Place Node) (p q : Path) → Encodes b t → path s ≡ some p → path u ≡ some q → P t p q
+
+-- what was answered and left follows the steps of such
+abbrev pub Follows-at-two : (Place Node → Path → Path → Result (Outcome (Place Node))) → List ℕ → Text → Text → Answer → List ℕ → Type 0
+Follows-at-two steps b s u r b′ = Whichever-two b s u (λ t p q. Follows-silently (steps t p q) b r b′)
 
 -- the rows that were told, after checks that came to a place
 abbrev pub spot-after : ℕ → ℕ → Result (Place Node) → Result Spot

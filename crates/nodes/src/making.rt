@@ -3,7 +3,7 @@ ghost use mathlib.Core.Path.{_≡_};
 ghost use Rattle.tree.specs.TreeBytes.{Whole, Path-text, Whichever};
 ghost use Rattle.gaps.specs.Gaps.{gap-from, gap-told};
 ghost use Rattle.shell.specs.Steps.{run-create};
-ghost use Rattle.shell.specs.CommandBytes.{Follows-silently};
+ghost use Rattle.shell.specs.CommandBytes.{Follows-at};
 ghost use Rattle.nodes.specs.NodeChecks.{may-create};
 use accounts::Account;
 use accounts::Caller;
@@ -40,7 +40,7 @@ fn may_create(tree: &[u8], account: Account, path: &[u8]) -> Room
 pub fn create(tree: &mut [u8], caller: Caller, kind: Kind, path: &[u8], mode: u16) -> Answer
     requires { ⌜ Whole (now tree) ⌝ }
     requires { ⌜ Path-text (now path) ⌝ }
-    ensures { λ r. ⌜ Whichever (now (tree .entry)) (now (path .entry)) (λ t p. Follows-silently (run-create caller 0 t kind p mode) (now (tree .entry)) r (now (tree .exit))) ⌝ }
+    ensures { λ r. ⌜ Follows-at (λ t p. run-create caller 0 t kind p mode) (now (tree .entry)) (now (path .entry)) r (now (tree .exit)) ⌝ }
 {
     let account = caller.account;
     match may_create(tree, account, path) {

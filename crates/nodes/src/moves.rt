@@ -3,9 +3,8 @@ ghost use mathlib.Core.Path.{_≡_};
 ghost use Rattle.tree.specs.TreeBytes.{Has-row, Used, Whole, Path-text};
 ghost use Rattle.walks.specs.RowWalk.{outcome};
 ghost use Rattle.shell.specs.Steps.{run-mv};
-ghost use Rattle.shell.specs.CommandBytes.{Follows-silently};
 ghost use Rattle.walks.specs.WalkBytes.{spot-from};
-ghost use Rattle.nodes.specs.NodeChecks.{Whichever-two, may-move, Judged-move};
+ghost use Rattle.nodes.specs.NodeChecks.{Whichever-two, Follows-at-two, may-move, Judged-move};
 use crate::paths::is_reserved;
 use crate::paths::is_within;
 use accounts::Account;
@@ -84,7 +83,7 @@ pub fn mv(tree: &mut [u8], caller: Caller, from: &[u8], to: &[u8]) -> Answer
     requires { ⌜ Whole (now tree) ⌝ }
     requires { ⌜ Path-text (now from) ⌝ }
     requires { ⌜ Path-text (now to) ⌝ }
-    ensures { λ r. ⌜ Whichever-two (now (tree .entry)) (now (from .entry)) (now (to .entry)) (λ t p q. Follows-silently (run-mv caller 0 t p q) (now (tree .entry)) r (now (tree .exit))) ⌝ }
+    ensures { λ r. ⌜ Follows-at-two (run-mv caller 0) (now (tree .entry)) (now (from .entry)) (now (to .entry)) r (now (tree .exit)) ⌝ }
 {
     let account = caller.account;
     match may_move(tree, account, from, to) {

@@ -5,7 +5,7 @@ ghost use Rattle.tree.specs.RowAt.{row-at};
 ghost use Rattle.tree.specs.TreeBytes.{Has-row, Used, Whole, Path-text, Whichever};
 ghost use Rattle.walks.specs.RowWalk.{outcome};
 ghost use Rattle.shell.specs.Steps.{run-rm};
-ghost use Rattle.shell.specs.CommandBytes.{Follows-silently};
+ghost use Rattle.shell.specs.CommandBytes.{Follows-at};
 ghost use Rattle.walks.specs.WalkBytes.{spot-from};
 ghost use Rattle.nodes.specs.NodeChecks.{may-remove, Judged-removal};
 use crate::paths::is_reserved;
@@ -76,7 +76,7 @@ fn may_remove(tree: &[u8], account: Account, kind: Kind, path: &[u8]) -> Walked
 pub fn rm(tree: &mut [u8], caller: Caller, kind: Kind, path: &[u8]) -> Answer
     requires { ⌜ Whole (now tree) ⌝ }
     requires { ⌜ Path-text (now path) ⌝ }
-    ensures { λ r. ⌜ Whichever (now (tree .entry)) (now (path .entry)) (λ t p. Follows-silently (run-rm caller 0 t kind p) (now (tree .entry)) r (now (tree .exit))) ⌝ }
+    ensures { λ r. ⌜ Follows-at (λ t p. run-rm caller 0 t kind p) (now (tree .entry)) (now (path .entry)) r (now (tree .exit)) ⌝ }
 {
     let account = caller.account;
     match may_remove(tree, account, kind, path) {

@@ -17,14 +17,13 @@ use Rattle.accounts.specs.Dominance.{Bounded-role}
 use Rattle.commands.specs.declared.Command.{Command as Parts}
 use Rattle.commands.specs.Command.{Shell-command, Repository-command, login, logout, Command, shell, repository}
 use Rattle.setup.specs.Setup.{Setup}
-use Rattle.tree.specs.Result.{Result, refused, done, Outcome}
+use Rattle.tree.specs.Result.{Result}
 use Rattle.tree.specs.TreeBytes.{Encodes}
 use Rattle.shell.specs.declared.Answer.{Answer}
-use Rattle.shell.specs.Replies.{reply, answer-of, written}
-use Rattle.shell.specs.CommandBytes.{Follows-silently}
+use Rattle.shell.specs.CommandBytes.{Carries, Carries-silently, Follows-silently}
 use Rattle.store.specs.State.{Store, State, state-of}
 use Rattle.store.specs.StoreBytes.{header-width, store-width, encode}
-use Rattle.shell_runner.specs.Meaning.{Meant, needs-session}
+use Rattle.meanings.specs.Meaning.{Meant, needs-session}
 use Rattle.header.specs.HeaderBytes.{Heads, session-held}
 use Rattle.machine.specs.Machine.{run-login, run-logout, run-repository, run}
 use Rattle.machine.specs.StoreMachine.{store}
@@ -44,20 +43,9 @@ Some-store b = (s : State) × Stored b s
 
 -- ---- what is promised
 
--- a store's bytes after what the steps come to: a refusal leaves them
-unfoldable pub store-after : Setup → List ℕ → Result (Outcome Store) → List ℕ
-store-after u b (refused why) = b
-store-after u b (done o) = encode (state-of u (o .state))
-
--- the answer r, the store's bytes b′ and the answer buffer's a′ are those of the steps, from b and a
-pub record Carries (u : Setup) (steps : Result (Outcome Store)) (b a : List ℕ) (r : Answer) (b′ a′ : List ℕ) : Type 0 where
-  pub tells : r ≡ answer-of (reply steps)
-  pub store : b′ ≡ store-after u b steps
-  pub text : a′ ≡ written (reply steps) a
-
--- and so of a command without a text, whatever the answer buffer holds
-abbrev pub Carries-silently : Setup → Result (Outcome Store) → List ℕ → Answer → List ℕ → Type 0
-Carries-silently u steps b r b′ = (a : List ℕ) → Carries u steps b a r b′ a
+-- a store's bytes with its setup
+abbrev pub bytes-with : Setup → Store → List ℕ
+bytes-with u s = encode (state-of u s)
 
 -- the session of an account, and the rows of the setup's pairs, whichever store's bytes these are
 abbrev pub Session-of : List ℕ → Uid → Session → Type 0
@@ -70,37 +58,30 @@ module _ (c : Caller) where
   -- `login` and `logout`
   abbrev pub Login-done : Role → Text → List ℕ → Answer → List ℕ → Type 0
   Login-done role password b r b′ = (s : State) (z : Bounded-role) → Stored b s → z .role ≡ role
-      → Carries-silently (s .setup) (run-login store (s .setup) (s .store) c z password) b r b′
+      → Carries-silently (bytes-with (s .setup)) (run-login store (s .setup) (s .store) c z password) b r b′
 
   abbrev pub Logout-done : List ℕ → Answer → List ℕ → Type 0
-  Logout-done b r b′ = (s : State) → Stored b s → Carries-silently (s .setup) (run-logout store (s .setup) (s .store) c) b r b′
+  Logout-done b r b′ = (s : State) → Stored b s → Carries-silently (bytes-with (s .setup)) (run-logout store (s .setup) (s .store) c) b r b′
 
   -- a command that the parts of a line mean
   module _ (line : Text) (command : Parts) where
     -- the shell's
     abbrev pub Store-shell-done : List ℕ → List ℕ → Answer → List ℕ → List ℕ → Type 0
     Store-shell-done b a r b′ a′ = (s : State) (k : Shell-command) → Stored b s → Meant line command (shell k)
-        → Carries (s .setup) (run store (s .setup) (s .store) c (shell k)) b a r b′ a′
+        → Carries (bytes-with (s .setup)) (run store (s .setup) (s .store) c (shell k)) b a r b′ a′
 
-    -- one that needs a session, on a tree's bytes: in whatever session of that account, with the rows of the setup's pairs
-    abbrev pub Entry-done : Account → Session → Dominance → List ℕ → Answer → List ℕ → Type 0
-    Entry-done account session dominance b r b′ =
-        (j : Acting b c account) (k : Repository-command) → session ≡ session-held (some (j .role)) → dominance .rows ≡ rows-of (j .setup .pairs)
-        → needs-session k ≡ true → Meant line command (repository k)
-        → Follows-silently (on-tree-steps (run-repository store (j .setup) (j .state) c k)) b r b′
-
-    -- on a store's, in the session of a role
+    -- one that needs a session, in the session of a role
     abbrev pub Role-done : Role → List ℕ → Answer → List ℕ → Type 0
     Role-done role b r b′ = (s : State) (z : Bounded-role) (k : Repository-command) → Stored b s → z .role ≡ role
         → getD (s .store .sessions) (c .account .uid .0) none ≡ some z → needs-session k ≡ true → Meant line command (repository k)
-        → Carries-silently (s .setup) (run-repository store (s .setup) (s .store) c k) b r b′
+        → Carries-silently (bytes-with (s .setup)) (run-repository store (s .setup) (s .store) c k) b r b′
 
     -- and with or without a session
     abbrev pub Session-done : List ℕ → Answer → List ℕ → Type 0
     Session-done b r b′ = (s : State) (k : Repository-command) → Stored b s → needs-session k ≡ true → Meant line command (repository k)
-        → Carries-silently (s .setup) (run-repository store (s .setup) (s .store) c k) b r b′
+        → Carries-silently (bytes-with (s .setup)) (run-repository store (s .setup) (s .store) c k) b r b′
 
     -- any command
     abbrev pub Command-done : List ℕ → List ℕ → Answer → List ℕ → List ℕ → Type 0
     Command-done b a r b′ a′ = (s : State) (k : Command) → Stored b s → Meant line command k
-        → Carries (s .setup) (run store (s .setup) (s .store) c k) b a r b′ a′
+        → Carries (bytes-with (s .setup)) (run store (s .setup) (s .store) c k) b a r b′ a′

@@ -23,7 +23,7 @@ use Rattle.tree.specs.TreeBytes.{Encodes, Whole}
 use Rattle.shell.specs.declared.Answer.{Answer}
 use Rattle.shell.specs.Steps.{run-shell}
 use Rattle.shell.specs.Replies.{reply, answer-of, written}
-use Rattle.shell.specs.CommandBytes.{tree-after, Follows, Follows-silently}
+use Rattle.shell.specs.CommandBytes.{bytes-after, Carries, Carries-silently, Follows, Follows-silently}
 use Rattle.store.specs.State.{Sessions, Store, State}
 use Rattle.store.specs.StateLaws.{parts}
 use Rattle.store.specs.StoreBytes.{header-width, store-width, header-bytes, encode, decode}
@@ -31,12 +31,12 @@ use Rattle.store.specs.HeaderLaws.{length-header}
 use Rattle.store.specs.StoreBytesLaws.{encode-decode, decode-length}
 use Rattle.store.specs.DecodeLaws.{tree-read}
 use Rattle.store.specs.Logins.{logged-in, logged-out}
-use Rattle.header.specs.HeaderBytes.{Headed, header-after, Header-follows}
+use Rattle.header.specs.HeaderBytes.{Headed, Header-follows}
 use Rattle.machine.specs.Machine.{run-login, run-logout, run-repository, run}
 use Rattle.machine.specs.StoreMachine.{store}
 use Rattle.machine.specs.LoginLaws.{run-login-is, run-logout-is}
 use Rattle.machine.specs.Acting.{on-tree-steps}
-use Rattle.runner.specs.Runner.{Stored, Some-store, store-after, Carries, Carries-silently}
+use Rattle.runner.specs.Runner.{Stored, Some-store, bytes-with}
 
 -- bytes that are read as a state are that store's
 pub read-stored : (b : List ℕ) (s : State) → decode b ≡ some s → Stored b s
@@ -102,46 +102,46 @@ module _ {b : List ℕ} {s : State} (h : Stored b s) where
   -- steps on the tree that leave the sessions
   tree-carries : (steps : Result (Outcome Store)) → ((o : Outcome Store) → steps ≡ done o → o .state .sessions ≡ s .store .sessions)
       → (a a′ : List ℕ) (r : Answer) (T b′ : List ℕ) → Follows (on-tree-steps steps) (drop header-width b) a r T a′ → b′ ≡ take header-width b ++ T
-      → Carries (s .setup) steps b a r b′ a′
-  unfolding reply answer-of written on-tree-steps tree-after store-after encode _>>=_
+      → Carries (bytes-with (s .setup)) steps b a r b′ a′
+  unfolding reply answer-of written on-tree-steps bytes-after encode _>>=_
   tree-carries (refused k) keeps a a′ r T b′ f e = record {
     tells = f .tells;
-    store = e ∙ ap with-tree (f .tree) ∙ take-append-drop header-width b;
+    bytes = e ∙ ap with-tree (f .bytes) ∙ take-append-drop header-width b;
     text = f .text;
   }
   tree-carries (done o) keeps a a′ r T b′ f e = record {
     tells = f .tells;
-    store = e ∙ ap₂ _++_ (h .header .bytes ∙ ap (header-bytes (s .setup)) (sym (keeps o refl))) (f .tree);
+    bytes = e ∙ ap₂ _++_ (h .header .bytes ∙ ap (header-bytes (s .setup)) (sym (keeps o refl))) (f .bytes);
     text = f .text;
   }
 
   -- steps on the header
   header-carries : (steps : Result Sessions) (r : Answer) (H : List ℕ) → Header-follows (s .setup) steps (take header-width b) r H
-      → Carries-silently (s .setup) (steps >>= λ z. done (record { text = none; state = record { tree = s .store .tree; sessions = z } })) b r
+      → Carries-silently (bytes-with (s .setup)) (steps >>= λ z. done (record { text = none; state = record { tree = s .store .tree; sessions = z } })) b r
       (H ++ drop header-width b)
-  unfolding reply answer-of written header-after store-after encode _>>=_
+  unfolding reply answer-of written bytes-after encode _>>=_
   header-carries (refused k) r H f a = record {
-    tells = f .tells;
-    store = ap (λ (l : List ℕ). l ++ drop header-width b) (f .header) ∙ take-append-drop header-width b;
-    text = f .text a;
+    tells = f a .tells;
+    bytes = ap (λ (l : List ℕ). l ++ drop header-width b) (f a .bytes) ∙ take-append-drop header-width b;
+    text = f a .text;
   }
   header-carries (done z) r H f a = record {
-    tells = f .tells;
-    store = ap₂ _++_ (f .header) (h .tree .bytes);
-    text = f .text a;
+    tells = f a .tells;
+    bytes = ap₂ _++_ (f a .bytes) (h .tree .bytes);
+    text = f a .text;
   }
 
   -- `login` and `logout`
   pub login-carries : (c : Caller) (z : Bounded-role) (password : Text) (r : Answer) (H : List ℕ)
       → Header-follows (s .setup) (logged-in (s .setup) (s .store .sessions) (c .account .uid) z password) (take header-width b) r H
-      → Carries-silently (s .setup) (run-login store (s .setup) (s .store) c z password) b r (H ++ drop header-width b)
+      → Carries-silently (bytes-with (s .setup)) (run-login store (s .setup) (s .store) c z password) b r (H ++ drop header-width b)
   login-carries c z password r H f a =
       rw (run-login-is store (s .setup) (s .store) c z password)
       (header-carries (logged-in (s .setup) (s .store .sessions) (c .account .uid) z password) r H f a)
 
   pub logout-carries : (c : Caller) (r : Answer) (H : List ℕ)
       → Header-follows (s .setup) (logged-out (s .store .sessions) (c .account .uid)) (take header-width b) r H
-      → Carries-silently (s .setup) (run-logout store (s .setup) (s .store) c) b r (H ++ drop header-width b)
+      → Carries-silently (bytes-with (s .setup)) (run-logout store (s .setup) (s .store) c) b r (H ++ drop header-width b)
   logout-carries c r H f a =
       rw (run-logout-is store (s .setup) (s .store) c)
       (header-carries (logged-out (s .store .sessions) (c .account .uid)) r H f a)
@@ -173,7 +173,7 @@ module _ {b : List ℕ} {s : State} (h : Stored b s) where
   -- steps that follow on the tree as it is lent
   pub lent-carries : (steps : Result (Outcome Store)) → ((o : Outcome Store) → steps ≡ done o → o .state .sessions ≡ s .store .sessions)
       → (a a′ : List ℕ) (r : Answer) (T : List ℕ) → (Encodes (lent-tree b) (s .store .tree) → Follows (on-tree-steps steps) (lent-tree b) a r T a′)
-      → Carries (s .setup) steps b a r (tree-back b T) a′
+      → Carries (bytes-with (s .setup)) steps b a r (tree-back b T) a′
   lent-carries steps keeps a a′ r T f =
       let g : Encodes (drop header-width b) (s .store .tree) → Follows (on-tree-steps steps) (drop header-width b) a r T a′ = rw (lent-is (s, h)) at f in
       tree-carries h steps keeps a a′ r T (tree-back b T) (g (h .tree)) (back-is (s, h) T)
@@ -181,20 +181,7 @@ module _ {b : List ℕ} {s : State} (h : Stored b s) where
   -- a shell command
   pub shell-carries : (c : Caller) (k : Shell-command) (a a′ : List ℕ) (r : Answer) (T : List ℕ)
       → (Encodes (lent-tree b) (s .store .tree) → Follows (run-shell c 0 (s .store .tree) k) (lent-tree b) a r T a′)
-      → Carries (s .setup) (run store (s .setup) (s .store) c (shell k)) b a r (tree-back b T) a′
+      → Carries (bytes-with (s .setup)) (run store (s .setup) (s .store) c (shell k)) b a r (tree-back b T) a′
   shell-carries c k a a′ r T f =
       lent-carries (run store (s .setup) (s .store) c (shell k)) (shell-keeps-sessions (s .setup) (s .store) c k) a a′ r T
       (λ e. rw (shell-on-tree (s .setup) (s .store) c k) (f e))
-
--- ---- in a session
-
--- what follows one command follows the same one
-pub same-repository : (c : Caller) (u : Setup) (s : Store) {k l : Repository-command} {b b′ : List ℕ} {r : Answer} → repository k ≡ repository l
-    → Follows-silently (on-tree-steps (run-repository store u s c l)) b r b′ → Follows-silently (on-tree-steps (run-repository store u s c k)) b r b′
-same-repository c u s {k} {l} {b} {b′} {r} e f =
-    let q : k ≡ l = cc in
-    subst (λ (x : Repository-command). Follows-silently (on-tree-steps (run-repository store u s c x)) b r b′) (sym q) f
-
--- a role that is bounded is below 8
-pub role-low : {r : Role} (z : Bounded-role) → z .role ≡ r → r .0 < 8
-role-low z e = rw (← e) (ltb-true (z .role .0) 8 (z .bound))

@@ -21,19 +21,19 @@ use Rattle.tree.specs.Result.{refused, done, Outcome}
 use Rattle.tree.specs.ResultLaws.{present-of, present-none, refused-bind}
 use Rattle.shell.specs.declared.Answer.{Answer}
 use Rattle.shell.specs.declared.Answer.the-variants.{Refused}
-use Rattle.shell.specs.Replies.{reply, answer-of, written}
 use Rattle.store.specs.State.{Store, State}
 use Rattle.tree.specs.TreeBytes.{Encodes}
 use Rattle.header.specs.HeaderBytes.{session-held}
 use Rattle.header.specs.PairRowsLaws.{rows-tell-session}
 use Rattle.machine.specs.Machine.{session, run-add, run-co, run-commit, run-up, run-del, run-repository}
 use Rattle.machine.specs.StoreMachine.{store}
-use Rattle.shell.specs.CommandBytes.{Follows-silently}
+use Rattle.shell.specs.CommandBytes.{Carries-silently, Follows-silently}
+use Rattle.shell.specs.CommandBytesLaws.{refusal-follows}
 use Rattle.machine.specs.Acting.{Acting, on-tree-steps}
 use Rattle.machine.specs.ActingLaws.{add-keeps-sessions, commit-keeps-sessions, up-keeps-sessions, del-keeps-sessions}
 use Rattle.checkout.specs.CheckoutRunLaws.{co-keeps-sessions}
-use Rattle.shell_runner.specs.Meaning.{needs-session}
-use Rattle.runner.specs.Runner.{Stored, store-after, Carries-silently}
+use Rattle.meanings.specs.Meaning.{needs-session}
+use Rattle.runner.specs.Runner.{Stored, bytes-with}
 use Rattle.runner.specs.RunnerLaws.{lent-tree, tree-back, lent-carries}
 
 -- no session is held where none is, and a role's where it is
@@ -46,11 +46,6 @@ pub held-some : (r : Role) (o : Option Bounded-role) → As r ≡ session-held o
 unfolding session-held
 held-some r none e = contra {b = true} refl (cc)
 held-some r (some z) e = (z, refl, cc)
-
--- the rows of the setup's pairs tell what the session's role dominates
-pub session-tells : (ps : List Pair) (rows : List ℕ) → rows ≡ rows-of ps → {session : Session} {role : Role} (z r : Bounded-role)
-    → session ≡ session-held (some z) → r .role ≡ role → session-dominates session rows role ≡ dominates ps (z .role) role
-session-tells ps rows e z r held q = rw (held, ← q) (rows-tell-session ps rows e z r)
 
 module _ {b : List ℕ} {s : State} (h : Stored b s) (c : Caller) where
   -- the caller's session
@@ -77,9 +72,8 @@ module _ {b : List ℕ} {s : State} (h : Stored b s) (c : Caller) where
   refused-without e (del p) n = rw (no-session e) (refused-bind NoSession _)
 
   pub nobody-carries : (k : Repository-command) → needs-session k ≡ true → Nobody ≡ session-held held
-      → Carries-silently (s .setup) (run-repository store (s .setup) (s .store) c k) b (Refused NoSession) b
-  unfolding reply answer-of written store-after
-  nobody-carries k n e a = rw (refused-without (held-none held e) k n) (record { tells = refl; store = refl; text = refl })
+      → Carries-silently (bytes-with (s .setup)) (run-repository store (s .setup) (s .store) c k) b (Refused NoSession) b
+  nobody-carries k n e = refusal-follows b (refused-without (held-none held e) k n)
 
   -- in one it acts for the account of its role, on the tree as it is lent
   abbrev pub acting : {z : Bounded-role} {account : Account} → held ≡ some z → account ≡ service (s .setup .pairs) z → Encodes (lent-tree b) (s .store .tree)
@@ -108,5 +102,5 @@ module _ {b : List ℕ} {s : State} (h : Stored b s) (c : Caller) where
   -- so what follows its steps on the tree is carried out on the store
   pub role-carries : (k : Repository-command) → needs-session k ≡ true → (r : Answer) (T : List ℕ)
       → (Encodes (lent-tree b) (s .store .tree) → Follows-silently (on-tree-steps (run-repository store (s .setup) (s .store) c k)) (lent-tree b) r T)
-      → Carries-silently (s .setup) (run-repository store (s .setup) (s .store) c k) b r (tree-back b T)
+      → Carries-silently (bytes-with (s .setup)) (run-repository store (s .setup) (s .store) c k) b r (tree-back b T)
   role-carries k n r T f a = lent-carries h (run-repository store (s .setup) (s .store) c k) (command-keeps-sessions k n) a a r T (λ e. f e a)

@@ -1,5 +1,4 @@
 // A parsed command carried out on a store's bytes.
-mod entry_part;
 mod sessions_part;
 mod store_part;
 

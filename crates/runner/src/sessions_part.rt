@@ -1,14 +1,14 @@
 // The commands that act in a session, on a store's bytes.
 ghost use Prim.Native.Nat.{_<_};
-ghost use Rattle.shell_runner.specs.Meaning.{Meaningful};
+ghost use Rattle.meanings.specs.Meaning.{Session-meaning};
 ghost use Rattle.runner.specs.Runner.{Some-store, Session-of, Rows-of, Role-done, Session-done};
-use crate::entry_part::entry_command;
 use accounts::Caller;
 use accounts::Dominance;
 use accounts::Role;
 use accounts::Session;
 use accounts::Uid;
 use commands::Command;
+use entry_runner::entry_command;
 use header::dominance_of;
 use header::session_of;
 use shell::Answer;
@@ -35,7 +35,7 @@ fn dominance_in(store: &[u8]) -> Dominance
 // A command in the session of a role.
 fn as_role(store: &mut [u8], caller: Caller, role: Role, line: &[u8], command: Command) -> Answer
     requires { ⌜ Some-store (now store) ⌝ }
-    requires { ⌜ Meaningful (now line) command ⌝ }
+    requires { ⌜ Session-meaning (now line) command ⌝ }
     requires { ⌜ role .0 < 8 ⌝ }
     ensures { λ r. ⌜ Role-done caller (now (line .entry)) command role (now (store .entry)) r (now (store .exit)) ⌝ }
 {
@@ -56,7 +56,7 @@ fn as_role(store: &mut [u8], caller: Caller, role: Role, line: &[u8], command: C
 // A command in the caller's session, refused without one.
 pub fn in_session(store: &mut [u8], caller: Caller, line: &[u8], command: Command) -> Answer
     requires { ⌜ Some-store (now store) ⌝ }
-    requires { ⌜ Meaningful (now line) command ⌝ }
+    requires { ⌜ Session-meaning (now line) command ⌝ }
     requires { ⌜ caller .account .uid .0 < 16 ⌝ }
     ensures { λ r. ⌜ Session-done caller (now (line .entry)) command (now (store .entry)) r (now (store .exit)) ⌝ }
 {

@@ -2,7 +2,7 @@
 ghost use Prim.Native.Nat.{_≤_, _<_};
 ghost use lib.ListN.{length};
 ghost use Rattle.syntax.specs.Parts.{Inside, span-text};
-ghost use Rattle.shell_runner.specs.Meaning.{Meaningful, Shell-meaning};
+ghost use Rattle.meanings.specs.Meaning.{Meaningful, Shell-meaning};
 ghost use Rattle.runner.specs.Runner.{Some-store, Login-done, Logout-done, Store-shell-done, Command-done};
 use crate::sessions_part::in_session;
 use accounts::Caller;
@@ -10,8 +10,8 @@ use accounts::Role;
 use commands::Command;
 use header::login;
 use header::logout;
+use meanings::part;
 use shell::Answer;
-use shell_runner::part;
 use shell_runner::shell_command;
 use store::HEADER;
 use syntax::Span;

@@ -3,16 +3,15 @@ ghost use mathlib.Core.Path.{_≡_};
 ghost use mathlib.Core.Bool.{true};
 ghost use mathlib.Core.List.{map};
 ghost use Prim.Native.Nat.{_≤_};
-ghost use lib.ListN.{length, take};
+ghost use lib.ListN.{length};
 ghost use lib.Seq.{paste};
 ghost use Rattle.buffers.specs.Text.{every};
-ghost use Rattle.buffers.specs.Fields.{all-bytes, table-bytes};
-ghost use Rattle.accounts.specs.PairBytes.{pair-bytes};
-ghost use Rattle.setup.specs.Setup.{is-slot, most-pairs, most-grants};
-ghost use Rattle.setup.specs.Reader.{slot-value, grant-value};
-ghost use Rattle.store.specs.HeaderLayout.{pairs-offset, pair-width, grants-offset, grant-width};
-ghost use Rattle.store.specs.StoreBytes.{slot-bytes, grant-bytes};
-ghost use Rattle.setups.specs.Writable.{Grants-fit};
+ghost use Rattle.buffers.specs.Fields.{all-bytes};
+ghost use Rattle.setup.specs.Setup.{is-slot};
+ghost use Rattle.setup.specs.Reader.{slot-value};
+ghost use Rattle.store.specs.HeaderLayout.{pairs-offset, grants-offset};
+ghost use Rattle.store.specs.StoreBytes.{slot-bytes};
+ghost use Rattle.setups.specs.Writable.{Grants-fit, pairs-part, grants-part};
 use crate::header_values::write_grant;
 use crate::header_values::write_pair;
 use crate::header_values::write_slot;
@@ -47,7 +46,7 @@ pub fn write_pairs(header: &mut [u8], pairs: [Pair; 28], n: usize)
     requires { ⌜ 121 ≤ length (now header) ⌝ }
     requires { ⌜ length pairs ≡ 28 ⌝ }
     requires { ⌜ n ≤ 28 ⌝ }
-    ensures { λ _. ⌜ now (header .exit) ≡ paste (now (header .entry)) pairs-offset (table-bytes pair-width most-pairs pair-bytes (take n pairs)) 57 ⌝ }
+    ensures { λ _. ⌜ now (header .exit) ≡ paste (now (header .entry)) pairs-offset (pairs-part pairs n) 57 ⌝ }
 {
     header[PAIRS] = n as u8;
     let mut k: usize = 0;
@@ -66,7 +65,7 @@ pub fn write_grants(header: &mut [u8], text: &[u8], grants: [Grant; 32], n: usiz
     requires { ⌜ length grants ≡ 32 ⌝ }
     requires { ⌜ n ≤ 32 ⌝ }
     requires { ⌜ Grants-fit (now text) grants n ⌝ }
-    ensures { λ _. ⌜ now (header .exit) ≡ paste (now (header .entry)) grants-offset (table-bytes grant-width most-grants grant-bytes (map (grant-value (now (text .entry))) (take n grants))) 321 ⌝ }
+    ensures { λ _. ⌜ now (header .exit) ≡ paste (now (header .entry)) grants-offset (grants-part (now (text .entry)) grants n) 321 ⌝ }
 {
     header[GRANTS] = n as u8;
     let mut k: usize = 0;

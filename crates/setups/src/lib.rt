@@ -2,10 +2,9 @@
 ghost use mathlib.Core.Path.{_≡_};
 ghost use lib.ListN.{length};
 ghost use Rattle.setup.specs.Reader.{setup-value};
-ghost use Rattle.store.specs.State.{state-of};
-ghost use Rattle.store.specs.Initial.{no-sessions, initial-store};
-ghost use Rattle.store.specs.StoreBytes.{header-width, store-width, header-bytes, encode};
-ghost use Rattle.setups.specs.Writable.{Writable};
+ghost use Rattle.store.specs.Initial.{no-sessions};
+ghost use Rattle.store.specs.StoreBytes.{header-width, store-width, header-bytes};
+ghost use Rattle.setups.specs.Writable.{Writable, first-store};
 
 mod header_parts;
 mod header_values;
@@ -42,7 +41,7 @@ pub fn write_header(header: &mut [u8], text: &[u8], setup: Setup)
 pub fn write_store(store: &mut [u8], text: &[u8], setup: Setup)
     requires { ⌜ length (now store) ≡ store-width ⌝ }
     requires { ⌜ Writable (now text) setup ⌝ }
-    ensures { λ _. ⌜ now (store .exit) ≡ encode (state-of (setup-value (now (text .entry)) setup) (initial-store (setup-value (now (text .entry)) setup))) ⌝ }
+    ensures { λ _. ⌜ now (store .exit) ≡ first-store (setup-value (now (text .entry)) setup) ⌝ }
 {
     let persons = setup.persons;
     write_header(&mut store[..HEADER], text, setup);

@@ -7,27 +7,24 @@ use lib.ListN.{length, drop}
 use Rattle.buffers.specs.Text.{Text}
 use Rattle.tree.specs.declared.Cause.{Cause}
 use Rattle.tree.specs.Result.{Result, refused, done, Outcome}
-use Rattle.tree.specs.Forest.{Place}
-use Rattle.tree.specs.Node.{Node}
-use Rattle.tree.specs.Encoding.{encode-tree}
 use Rattle.shell.specs.declared.Answer.the-variants.{Done, Refused}
 use Rattle.shell.specs.declared.Answer.the-variants
 use Rattle.shell.specs.Replies.{reply, answer-of, written}
-use Rattle.shell.specs.CommandBytes.{tree-after, Follows, Follows-silently}
+use Rattle.shell.specs.CommandBytes.{bytes-after, Carries, Carries-silently}
 
-module _ {steps : Result (Outcome (Place Node))} where
+module _ {S : Type 0} {bytes-of : S → List ℕ} {steps : Result (Outcome S)} where
   -- a refusal leaves both buffers
-  pub refusal-follows : {k : Cause} (b : List ℕ) → steps ≡ refused k → Follows-silently steps b (Refused k) b
-  unfolding reply answer-of written tree-after
-  refusal-follows b e a = rw e (record { tells = refl; tree = refl; text = refl })
+  pub refusal-follows : {k : Cause} (b : List ℕ) → steps ≡ refused k → Carries-silently bytes-of steps b (Refused k) b
+  unfolding reply answer-of written bytes-after
+  refusal-follows b e a = rw e (record { tells = refl; bytes = refl; text = refl })
 
-  -- the bytes of the tree after a command without a text
-  pub silence-follows : {t : Place Node} (b b′ : List ℕ) → steps ≡ done (record { text = none; state = t }) → b′ ≡ encode-tree t → Follows-silently steps b Done b′
-  unfolding reply answer-of written tree-after
-  silence-follows b b′ e q a = rw e (record { tells = refl; tree = q; text = refl })
+  -- the bytes of the state after a command without a text
+  pub silence-follows : {s : S} (b b′ : List ℕ) → steps ≡ done (record { text = none; state = s }) → b′ ≡ bytes-of s → Carries-silently bytes-of steps b Done b′
+  unfolding reply answer-of written bytes-after
+  silence-follows b b′ e q a = rw e (record { tells = refl; bytes = q; text = refl })
 
-  -- a text in front of the answer buffer, over a tree that stays
-  pub text-follows : {t : Place Node} (b a a′ : List ℕ) (x : Text) (n : ℕ) → steps ≡ done (record { text = some x; state = t }) → b ≡ encode-tree t
-      → n ≡ length x → a′ ≡ x ++ drop (length x) a → Follows steps b a (the-variants.Text n) b a′
-  unfolding reply answer-of written tree-after
-  text-follows b a a′ x n e q l h = rw e (record { tells = ap the-variants.Text l; tree = q; text = h })
+  -- a text in front of the answer buffer, over a state that stays
+  pub text-follows : {s : S} (b a a′ : List ℕ) (x : Text) (n : ℕ) → steps ≡ done (record { text = some x; state = s }) → b ≡ bytes-of s
+      → n ≡ length x → a′ ≡ x ++ drop (length x) a → Carries bytes-of steps b a (the-variants.Text n) b a′
+  unfolding reply answer-of written bytes-after
+  text-follows b a a′ x n e q l h = rw e (record { tells = ap the-variants.Text l; bytes = q; text = h })

@@ -1,3 +1,2 @@
-pub mod Meaning
-pub mod MeaningLaws
-pub mod CasesLaws
+pub mod ShellDone
+pub mod ShellDoneLaws

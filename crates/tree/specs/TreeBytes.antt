@@ -79,6 +79,10 @@ pub record At (b : List ℕ) (t : Place Node) (p : Path) (i : ℕ) (d : Place No
 abbrev pub Some-place : List ℕ → ℕ → Type 0
 Some-place b i = (t : Place Node) × (q : Path) × (d : Place Node) × At b t q i d
 
+-- for whatever place the row is
+abbrev pub Whichever-place : List ℕ → ℕ → (Place Node → Path → Place Node → Type 0) → Type 0
+Whichever-place b i P = (t : Place Node) (p : Path) (d : Place Node) → At b t p i d → P t p d
+
 -- a text that reads as an entry path
 abbrev pub Entry-path-text : Text → Type 0
 Entry-path-text s = (e : Entry-path) × (entry-path s ≡ some e)

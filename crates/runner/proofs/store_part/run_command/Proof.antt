@@ -2,9 +2,9 @@
 use denote.Ref.{now}
 use Rattle.commands.specs.Parsed.{Means}
 use Rattle.machine.specs.Machine.{run-repository, run}
-use Rattle.shell_runner.specs.MeaningLaws.{meant-as}
-use Rattle.runner.specs.RunnerLaws.{role-low}
-use Rattle.shell_runner.specs.CasesLaws.{shell-case, entry-case}
+use Rattle.meanings.specs.MeaningLaws.{meant-as}
+use Rattle.accounts.specs.Dominance.{role-low}
+use Rattle.meanings.specs.CasesLaws.{shell-case, entry-case}
 use Rattle.runner.proofs.store_part.run_command.Statement.{statement}
 use Rattle.runner.proofs.store_part.run_command.Tie as tie
 
@@ -25,7 +25,11 @@ log-out-requires : tie.Need-log-out-requires
 log-out-requires c κs = let s = c .before .before .before .before .before .before in (s .pre .0, s .pre .1 .1 .1)
 
 in-session-requires : tie.Need-in-session-requires
-in-session-requires c κs = let s = c .before .before .before .before .before in (s .pre .0, (s .pre .1 .0, s .pre .1 .1 .1))
+in-session-requires c κs =
+    let s = c .before .before .before .before .before in
+    let m = s .pre .1 .0 .1 in
+    let i = entry-case (now (s .args .line)) (s .args .command) (c .before .match .keys3) (m .means) in
+    (s .pre .0, ((i .0, i .1, rw (i .2) at m), s .pre .1 .1 .1))
 
 in-shell-requires : tie.Need-in-shell-requires
 in-shell-requires c κs =

@@ -1,36 +1,22 @@
--- What the parts of a command read as.
-use mathlib.Core.Path.{_≡_, sym, subst, _∙_, ap}
+-- One command's steps by another name, and the room for a content.
+use mathlib.Core.Path.{_≡_, sym, subst, ap}
 use mathlib.Core.List.{List}
-use mathlib.Core.Option.{Option, some}
 use mathlib.Core.Bool.{true, _&&_}
-use Prim.Native.Nat.{ℕ, _-_, _≤_}
+use Prim.Native.Nat.{ℕ, _≤_}
 use lib.ListN.{length}
 use Rattle.buffers.specs.Cases.{and-both}
 use Rattle.buffers.specs.Text.{Text}
 use Rattle.accounts.specs.declared.Caller.{Caller}
-use Rattle.syntax.specs.declared.Span.{Span}
-use Rattle.syntax.specs.Parts.{span-text}
 use Rattle.syntax.specs.Path.{Path, is-path}
 use Rattle.syntax.specs.Field.{is-content}
 use Rattle.syntax.specs.FieldLaws.{content-fits}
-use Rattle.commands.specs.declared.Command.{Command as Parts}
 use Rattle.commands.specs.Command.{Shell-command, write, Command, shell, is-shell-command, is-command}
-use Rattle.commands.specs.Parsed.{Part-reads, Means}
 use Rattle.tree.specs.Forest.{Place}
 use Rattle.tree.specs.Node.{Node}
 use Rattle.tree.specs.Layout.{content-width}
 use Rattle.shell.specs.declared.Answer.{Answer}
 use Rattle.shell.specs.Steps.{run-shell}
 use Rattle.shell.specs.CommandBytes.{Follows}
-use Rattle.shell_runner.specs.Meaning.{Meant}
-
--- the command of parts that are known
-pub meant-as : {t : Text} {c d : Parts} {k : Command} → c ≡ d → Meant t c k → Means t d k
-meant-as {t} {c} {d} {k} e m = subst (λ (x : Parts). Means t x k) e (m .means)
-
--- a part as it was cut out of the line
-pub part-read : {A : Type 0} {read : Text → Option A} {t : Text} {s : Span} {q : A} (x : Text) → x ≡ span-text t s → Part-reads read t s q → read x ≡ some q
-part-read {read = read} x e h = ap read e ∙ h .reads
 
 -- what follows one command follows the same one
 pub same-shell : (c : Caller) (t : Place Node) {k l : Shell-command} {b a b′ a′ : List ℕ} {r : Answer} → shell k ≡ shell l

@@ -19,7 +19,7 @@ use Rattle.commands.specs.Command.{Shell-command, create, mkdir, read, write, r
 use Rattle.commands.specs.Command.{Repository-command, login, logout, add, co, commit, up, del, Command, shell, repository}
 use Rattle.commands.specs.Parsed.{Means}
 use Rattle.commands.proofs.Command.{the-type}
-use Rattle.shell_runner.specs.Meaning.{needs-session}
+use Rattle.meanings.specs.Meaning.{needs-session}
 
 -- the number of a case
 abbrev case-of : Parts → ℕ

@@ -1,13 +1,14 @@
--- `shell_runner::command::shell_command` meets its contract: each case is the command that its parts mean.
+-- `shell_runner::shell_command` meets its contract: each case is the command that its parts mean.
 use mathlib.Core.Path.{refl}
 use native.Mathlib.Omega.{arith}
 use denote.Ref.{now}
 use Rattle.commands.specs.Parsed.{Means}
 use Rattle.shell.specs.Steps.{run-shell}
-use Rattle.shell_runner.specs.MeaningLaws.{meant-as, part-read, same-shell, content-room}
-use Rattle.shell_runner.specs.CasesLaws.{no-shell-case}
-use Rattle.shell_runner.proofs.command.shell_command.Statement.{statement}
-use Rattle.shell_runner.proofs.command.shell_command.Tie as tie
+use Rattle.meanings.specs.MeaningLaws.{meant-as, part-read}
+use Rattle.meanings.specs.CasesLaws.{no-shell-case}
+use Rattle.shell_runner.specs.ShellDoneLaws.{same-shell, content-room}
+use Rattle.shell_runner.proofs.shell_command.Statement.{statement}
+use Rattle.shell_runner.proofs.shell_command.Tie as tie
 
 enum-known-command : tie.Need-enum-known-command
 enum-known-command c = c .match .keys1

@@ -1,7 +1,7 @@
-// The commands on entries in a session, on a tree's bytes.
+// A parsed command on entries, in a session, carried out on a tree's bytes.
 ghost use Rattle.tree.specs.TreeBytes.{Whole};
-ghost use Rattle.shell_runner.specs.Meaning.{Meaningful};
-ghost use Rattle.runner.specs.Runner.{Entry-done};
+ghost use Rattle.meanings.specs.Meaning.{Session-meaning};
+ghost use Rattle.entry_runner.specs.EntryDone.{Entry-done};
 use accounts::Account;
 use accounts::Caller;
 use accounts::Dominance;
@@ -12,11 +12,11 @@ use commands::Command;
 use entries::commit;
 use entries::del;
 use entries::up;
+use meanings::part;
 use shell::Answer;
-use shell_runner::part;
 use tree::Cause;
 
-// One of the commands that act in a session, for the session's account; another is not meant to come here.
+// One of the commands that act in a session, for the session's account.
 pub fn entry_command(
     tree: &mut [u8],
     caller: Caller,
@@ -27,7 +27,7 @@ pub fn entry_command(
     command: Command,
 ) -> Answer
     requires { ⌜ Whole (now tree) ⌝ }
-    requires { ⌜ Meaningful (now line) command ⌝ }
+    requires { ⌜ Session-meaning (now line) command ⌝ }
     ensures { λ r. ⌜ Entry-done caller (now (line .entry)) command account session dominance (now (tree .entry)) r (now (tree .exit)) ⌝ }
 {
     match command {

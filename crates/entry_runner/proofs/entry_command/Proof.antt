@@ -1,17 +1,17 @@
--- `runner::entry_part::entry_command` meets its contract: each case is the command that its parts mean.
+-- `entry_runner::entry_command` meets its contract: each case is the command that its parts mean.
 use mathlib.Core.Path.{_∙_}
 use denote.Ref.{now}
+use Rattle.accounts.specs.Dominance.{role-low}
 use Rattle.commands.specs.Parsed.{Means}
 use Rattle.machine.specs.Machine.{run-repository}
 use Rattle.entries.specs.EntryStepsLaws.{commit-acts, up-acts, del-acts}
 use Rattle.adding.specs.AddLaws.{add-acts}
 use Rattle.checkout.specs.CheckoutRunLaws.{co-acts}
-use Rattle.shell_runner.specs.MeaningLaws.{meant-as, part-read}
-use Rattle.runner.specs.RunnerLaws.{same-repository, role-low}
-use Rattle.runner.specs.SessionStepLaws.{session-tells}
-use Rattle.shell_runner.specs.CasesLaws.{no-entry-case}
-use Rattle.runner.proofs.entry_part.entry_command.Statement.{statement}
-use Rattle.runner.proofs.entry_part.entry_command.Tie as tie
+use Rattle.meanings.specs.MeaningLaws.{meant-as, part-read}
+use Rattle.entry_runner.specs.EntryDoneLaws.{same-repository, session-tells}
+use Rattle.meanings.specs.CasesLaws.{no-entry-case}
+use Rattle.entry_runner.proofs.entry_command.Statement.{statement}
+use Rattle.entry_runner.proofs.entry_command.Tie as tie
 
 enum-known-command : tie.Need-enum-known-command
 enum-known-command c = c .match .keys1
@@ -23,19 +23,19 @@ part-requires : tie.Need-part-requires
 unfolding Means
 part-requires c κs =
     let s = c .before .before .before .before .before .before .before in
-    meant-as (c .before .before .before .command .given .1) (s .pre .1 .1) .3 .inside
+    meant-as (c .before .before .before .command .given .1) (s .pre .1 .2) .3 .inside
 
 part-requires-2 : tie.Need-part-requires-2
 unfolding Means
 part-requires-2 c κs =
     let s = c .before .before .before .before .before .before .before .before in
-    meant-as (c .before .before .before .before .command .given .1) (s .pre .1 .1) .4 .inside
+    meant-as (c .before .before .before .before .command .given .1) (s .pre .1 .2) .4 .inside
 
 add-requires : tie.Need-add-requires
 unfolding Means
 add-requires c κs =
     let s = c .before .before .before .before .before .before .before .before .before in
-    let i = meant-as (c .before .before .before .before .before .command .given .1) (s .pre .1 .1) in
+    let i = meant-as (c .before .before .before .before .before .command .given .1) (s .pre .1 .2) in
     let e = part-read _ (c .part2 .ensures) (i .4) in
     (s .pre .0, ((i .0, part-read _ (c .before .part .ensures) (i .3)), ((i .1, e), role-low (i .2) (i .5))))
 
@@ -46,19 +46,19 @@ part-requires-3 : tie.Need-part-requires-3
 unfolding Means
 part-requires-3 c κs =
     let s = c .before .before .before .before .before .before in
-    meant-as (c .before .before .command2 .given .1) (s .pre .1 .1) .2 .inside
+    meant-as (c .before .before .command2 .given .1) (s .pre .1 .2) .2 .inside
 
 part-requires-4 : tie.Need-part-requires-4
 unfolding Means
 part-requires-4 c κs =
     let s = c .before .before .before .before .before .before .before in
-    meant-as (c .before .before .before .command2 .given .1) (s .pre .1 .1) .3 .inside
+    meant-as (c .before .before .before .command2 .given .1) (s .pre .1 .2) .3 .inside
 
 co-requires : tie.Need-co-requires
 unfolding Means
 co-requires c κs =
     let s = c .before .before .before .before .before .before .before .before in
-    let i = meant-as (c .before .before .before .before .command2 .given .1) (s .pre .1 .1) in
+    let i = meant-as (c .before .before .before .before .command2 .given .1) (s .pre .1 .2) in
     (s .pre .0, ((i .0, part-read _ (c .before .part3 .ensures) (i .2)), (i .1, part-read _ (c .part4 .ensures) (i .3))))
 
 enum-known-command-3 : tie.Need-enum-known-command-3
@@ -68,13 +68,13 @@ part-requires-5 : tie.Need-part-requires-5
 unfolding Means
 part-requires-5 c κs =
     let s = c .before .before .before .before .before .before in
-    meant-as (c .before .before .command3 .given .1) (s .pre .1 .1) .1 .inside
+    meant-as (c .before .before .command3 .given .1) (s .pre .1 .2) .1 .inside
 
 commit-requires : tie.Need-commit-requires
 unfolding Means
 commit-requires c κs =
     let s = c .before .before .before .before .before .before .before in
-    let i = meant-as (c .before .before .before .command3 .given .1) (s .pre .1 .1) in
+    let i = meant-as (c .before .before .before .command3 .given .1) (s .pre .1 .2) in
     (s .pre .0, (i .0, part-read _ (c .part5 .ensures) (i .1)))
 
 enum-known-command-4 : tie.Need-enum-known-command-4
@@ -84,13 +84,13 @@ part-requires-6 : tie.Need-part-requires-6
 unfolding Means
 part-requires-6 c κs =
     let s = c .before .before .before .before .before .before in
-    meant-as (c .before .before .command4 .given .1) (s .pre .1 .1) .1 .inside
+    meant-as (c .before .before .command4 .given .1) (s .pre .1 .2) .1 .inside
 
 up-requires : tie.Need-up-requires
 unfolding Means
 up-requires c κs =
     let s = c .before .before .before .before .before .before .before in
-    let i = meant-as (c .before .before .before .command4 .given .1) (s .pre .1 .1) in
+    let i = meant-as (c .before .before .before .command4 .given .1) (s .pre .1 .2) in
     (s .pre .0, (i .0, part-read _ (c .part6 .ensures) (i .1)))
 
 enum-known-command-5 : tie.Need-enum-known-command-5
@@ -100,13 +100,13 @@ part-requires-7 : tie.Need-part-requires-7
 unfolding Means
 part-requires-7 c κs =
     let s = c .before .before .before .before .before .before in
-    meant-as (c .before .before .command5 .given .1) (s .pre .1 .1) .1 .inside
+    meant-as (c .before .before .command5 .given .1) (s .pre .1 .2) .1 .inside
 
 del-requires : tie.Need-del-requires
 unfolding Means
 del-requires c κs =
     let s = c .before .before .before .before .before .before .before in
-    let i = meant-as (c .before .before .before .command5 .given .1) (s .pre .1 .1) in
+    let i = meant-as (c .before .before .before .command5 .given .1) (s .pre .1 .2) in
     (s .pre .0, (i .0, part-read _ (c .part7 .ensures) (i .1)))
 
 same-length : tie.Need-same-length

@@ -1,4 +1,4 @@
-// The parts of a line.
+// The parts of a parsed command: each is where its text stands in the line.
 ghost use mathlib.Core.Path.{_≡_};
 ghost use Rattle.syntax.specs.Parts.{Inside, span-text};
 use syntax::Span;

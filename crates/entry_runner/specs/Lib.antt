@@ -1,0 +1,2 @@
+pub mod EntryDone
+pub mod EntryDoneLaws
