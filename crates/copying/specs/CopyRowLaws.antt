@@ -16,7 +16,7 @@ use Rattle.syntax.specs.Path.{Name, Path, _▹_, Entry-path, depth}
 use Rattle.tree.specs.Forest.{Forest, nil, node, Place, size}
 use Rattle.tree.specs.Node.{Node, set-tag, set-content, new-group, new-node}
 use Rattle.tree.specs.Walk.{by-modes}
-use Rattle.tree.specs.Rows.{Row, flatten, rows}
+use Rattle.tree.specs.Rows.{Row, flatten}
 use Rattle.tree.specs.RowLaws.{length-flatten}
 use Rattle.tree.specs.RowScan.{first-depth, depth-of, end-of-subtree}
 use Rattle.tree.specs.RowPlaces.{place-rows, ends}

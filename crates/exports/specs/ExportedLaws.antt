@@ -1,6 +1,6 @@
 -- What each answer hands over, and that a call whose answer is told hands over what it tells.
 use mathlib.Core.Path.{_≡_, refl, _∙_, ap}
-use mathlib.Core.List.{[], _∷_}
+use mathlib.Core.List.{[]}
 use Prim.Native.Nat.{ℕ}
 use Rattle.tree.specs.declared.Cause.{Cause}
 use Rattle.tree.specs.Causes.{number}

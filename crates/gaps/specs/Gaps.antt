@@ -1,5 +1,4 @@
 -- Where a new child stands: the row of its directory, the index at which its own row comes in, and how deep it lies; or why none may.
-use mathlib.Core.List.{List}
 use Prim.Native.Nat.{ℕ, suc, _+_}
 use lib.ListN.{drop}
 use Rattle.buffers.specs.Text.{Text}

@@ -1,5 +1,5 @@
 -- When what `login` and `logout` answered and left follows the steps.
-use mathlib.Core.Path.{_≡_, refl, ap, _∙_}
+use mathlib.Core.Path.{_≡_, ap, _∙_}
 use mathlib.Core.List.{List}
 use mathlib.Core.Option.{none, some}
 use mathlib.Core.Bool.{true, false}
@@ -10,7 +10,7 @@ use Rattle.accounts.specs.declared.Uid.{Uid}
 use Rattle.accounts.specs.Dominance.{Bounded-role}
 use Rattle.setup.specs.Setup.{Setup}
 use Rattle.tree.specs.declared.Cause.the-variants.{NoGrant}
-use Rattle.tree.specs.Result.{Result, refused, done}
+use Rattle.tree.specs.Result.{refused, done}
 use Rattle.tree.specs.ResultLaws.{refused-bind, done-bind, require-true, require-false, refused-then, done-then}
 use Rattle.shell.specs.declared.Answer.the-variants.{Done, Refused}
 use Rattle.shell.specs.CommandBytesLaws.{refusal-follows, silence-follows}

@@ -2,7 +2,7 @@
 -- not a person's to change.
 use mathlib.Core.Path.{_≡_, refl, _∙_}
 use mathlib.Core.Option.{some}
-use mathlib.Core.Bool.{true, false, not}
+use mathlib.Core.Bool.{true, false}
 use Prim.Native.Nat.{_^_}
 use native.Mathlib.Omega.{arith}
 use native.Mathlib.Nat.{div-eq-of-lt}
@@ -18,7 +18,7 @@ use Rattle.accounts.specs.Access.{is-root, same-uid, grants, may-other, grants-
 use Rattle.accounts.specs.Caller.{root-caller}
 use Rattle.accounts.specs.Service.{all-services}
 use Rattle.syntax.specs.Number.{octal}
-use Rattle.setup.specs.Setup.{Person, Setup, accounts, person, is-setup}
+use Rattle.setup.specs.Setup.{Person, Setup, person, is-setup}
 use Rattle.tree.specs.declared.Cause.the-variants.{UnknownCaller}
 use Rattle.tree.specs.Node.{allows, owns}
 use Rattle.tree.specs.Result.{done, present}

@@ -13,7 +13,7 @@ use Rattle.accounts.specs.declared.Right.the-variants.{R, W}
 use Rattle.accounts.specs.Access.{is-root}
 use Rattle.accounts.specs.Dominance.{Bounded-role}
 use Rattle.accounts.specs.Service.{service}
-use Rattle.syntax.specs.Path.{Path, _▹_, Entry-path, parent, rep, in-rep, entry-location}
+use Rattle.syntax.specs.Path.{Path, _▹_, Entry-path, parent, in-rep, entry-location}
 use Rattle.commands.specs.Command.{Shell-command, Repository-command, login, logout, add, co, commit, up, del, Command, shell, repository}
 use Rattle.setup.specs.Setup.{Setup, is-setup}
 use Rattle.tree.specs.declared.Kind.{Kind}

@@ -9,7 +9,6 @@ use Rattle.buffers.specs.Fields.{two-bytes, padded}
 use Rattle.buffers.specs.FieldsLaws.{length-padded, length-two-bytes, text-part}
 use Rattle.buffers.specs.PasteLaws.{paste-join, paste-piece, set-paste, set-behind}
 use Rattle.tree.specs.Layout.{row-width, row-start, tag-offset, tag-width, tag-revision-offset, content-offset, content-width}
-use Rattle.tree.specs.Rows.{rows}
 use Rattle.tree.specs.RowAt.{tag-text-at}
 use Rattle.tree.specs.RowAtLaws.{text-in-row}
 use Rattle.edits.specs.Changes.{field-bytes, field-put}

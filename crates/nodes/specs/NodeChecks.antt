@@ -19,7 +19,6 @@ use Rattle.tree.specs.WellFormed.{most-nodes, nodes}
 use Rattle.tree.specs.TreeBytes.{Encodes, At}
 use Rattle.walks.specs.declared.Walked.{Walked}
 use Rattle.walks.specs.RowWalk.{Spot, spot, outcome}
-use Rattle.walks.specs.WalkBytes.{spot-of}
 use Rattle.shell.specs.declared.Answer.{Answer}
 use Rattle.shell.specs.CommandBytes.{Follows-silently}
 

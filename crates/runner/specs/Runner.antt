@@ -6,7 +6,6 @@ use mathlib.Core.Bool.{true}
 use Prim.Native.Nat.{ℕ}
 use lib.ListN.{length, take, drop, getD}
 use Rattle.buffers.specs.Text.{Text}
-use Rattle.accounts.specs.declared.Account.{Account}
 use Rattle.accounts.specs.declared.Caller.{Caller}
 use Rattle.accounts.specs.declared.Dominance.{Dominance}
 use Rattle.accounts.specs.declared.Role.{Role}
@@ -15,19 +14,17 @@ use Rattle.accounts.specs.declared.Uid.{Uid}
 use Rattle.accounts.specs.Closure.{rows-of}
 use Rattle.accounts.specs.Dominance.{Bounded-role}
 use Rattle.commands.specs.declared.Command.{Command as Parts}
-use Rattle.commands.specs.Command.{Shell-command, Repository-command, login, logout, Command, shell, repository}
+use Rattle.commands.specs.Command.{Shell-command, Repository-command, Command, shell, repository}
 use Rattle.setup.specs.Setup.{Setup}
-use Rattle.tree.specs.Result.{Result}
 use Rattle.tree.specs.TreeBytes.{Encodes}
 use Rattle.shell.specs.declared.Answer.{Answer}
-use Rattle.shell.specs.CommandBytes.{Carries, Carries-silently, Follows-silently}
+use Rattle.shell.specs.CommandBytes.{Carries, Carries-silently}
 use Rattle.store.specs.State.{Store, State, state-of}
 use Rattle.store.specs.StoreBytes.{header-width, store-width, encode}
 use Rattle.meanings.specs.Meaning.{Meant, needs-session}
 use Rattle.header.specs.HeaderBytes.{Heads, session-held}
 use Rattle.machine.specs.Machine.{run-login, run-logout, run-repository, run}
 use Rattle.machine.specs.StoreMachine.{store}
-use Rattle.machine.specs.Acting.{Acting, on-tree-steps}
 
 -- ---- what is asked
 

@@ -1,18 +1,16 @@
 -- Laws of commands on a store's bytes: the parts of a store that was read, and what follows for the store where a command follows its steps on the
 -- tree or on the header.
-use mathlib.Core.Path.{_≡_, refl, sym, subst, _∙_, ap, ap₂}
+use mathlib.Core.Path.{_≡_, refl, sym, _∙_, ap, ap₂}
 use mathlib.Core.List.{List, [], _++_, append-nil}
 use mathlib.Core.Option.{none, some}
-use Prim.Native.Nat.{ℕ, _-_, _≤_, _<_}
+use Prim.Native.Nat.{ℕ, _-_, _≤_}
 use native.Mathlib.Omega.{arith}
 use lib.ListN.{length, take, drop, take-append-drop, length-drop, drop-of-length-le}
 use lib.Seq.{take-at, take-all, length-take-le}
-use borrow.Author.Tests.{ltb-true}
 use Rattle.buffers.specs.Text.{Text}
 use Rattle.accounts.specs.declared.Caller.{Caller}
-use Rattle.accounts.specs.declared.Role.{Role}
 use Rattle.accounts.specs.Dominance.{Bounded-role}
-use Rattle.commands.specs.Command.{Shell-command, Repository-command, shell, repository}
+use Rattle.commands.specs.Command.{Shell-command, shell}
 use Rattle.setup.specs.Setup.{Setup}
 use Rattle.tree.specs.Result.{Result, refused, done, _>>=_, Outcome}
 use Rattle.tree.specs.ResultLaws.{bind-done}
@@ -23,7 +21,7 @@ use Rattle.tree.specs.TreeBytes.{Encodes, Whole}
 use Rattle.shell.specs.declared.Answer.{Answer}
 use Rattle.shell.specs.Steps.{run-shell}
 use Rattle.shell.specs.Replies.{reply, answer-of, written}
-use Rattle.shell.specs.CommandBytes.{bytes-after, Carries, Carries-silently, Follows, Follows-silently}
+use Rattle.shell.specs.CommandBytes.{bytes-after, Carries, Carries-silently, Follows}
 use Rattle.store.specs.State.{Sessions, Store, State}
 use Rattle.store.specs.StateLaws.{parts}
 use Rattle.store.specs.StoreBytes.{header-width, store-width, header-bytes, encode, decode}
@@ -32,7 +30,7 @@ use Rattle.store.specs.StoreBytesLaws.{encode-decode, decode-length}
 use Rattle.store.specs.DecodeLaws.{tree-read}
 use Rattle.store.specs.Logins.{logged-in, logged-out}
 use Rattle.header.specs.HeaderBytes.{Headed, Header-follows}
-use Rattle.machine.specs.Machine.{run-login, run-logout, run-repository, run}
+use Rattle.machine.specs.Machine.{run-login, run-logout, run}
 use Rattle.machine.specs.StoreMachine.{store}
 use Rattle.machine.specs.LoginLaws.{run-login-is, run-logout-is}
 use Rattle.machine.specs.Acting.{on-tree-steps}

@@ -8,12 +8,9 @@ use lib.ListN.{getD}
 use Rattle.buffers.specs.Cases.{contra}
 use Rattle.accounts.specs.declared.Account.{Account}
 use Rattle.accounts.specs.declared.Caller.{Caller}
-use Rattle.accounts.specs.declared.Pair.{Pair}
 use Rattle.accounts.specs.declared.Role.{Role}
-use Rattle.accounts.specs.declared.Session.{Session}
 use Rattle.accounts.specs.declared.Session.the-variants.{Nobody, As}
-use Rattle.accounts.specs.Closure.{rows-of, session-dominates}
-use Rattle.accounts.specs.Dominance.{Bounded-role, dominates}
+use Rattle.accounts.specs.Dominance.{Bounded-role}
 use Rattle.accounts.specs.Service.{service}
 use Rattle.commands.specs.Command.{Repository-command, login, logout, add, co, commit, up, del}
 use Rattle.tree.specs.declared.Cause.the-variants.{NoSession}
@@ -24,7 +21,6 @@ use Rattle.shell.specs.declared.Answer.the-variants.{Refused}
 use Rattle.store.specs.State.{Store, State}
 use Rattle.tree.specs.TreeBytes.{Encodes}
 use Rattle.header.specs.HeaderBytes.{session-held}
-use Rattle.header.specs.PairRowsLaws.{rows-tell-session}
 use Rattle.machine.specs.Machine.{session, run-add, run-co, run-commit, run-up, run-del, run-repository}
 use Rattle.machine.specs.StoreMachine.{store}
 use Rattle.shell.specs.CommandBytes.{Carries-silently, Follows-silently}

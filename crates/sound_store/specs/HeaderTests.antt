@@ -7,7 +7,7 @@ use lib.Dec.{eqb, leb, ltb}
 use lib.ListN.{length, getD}
 use Rattle.buffers.specs.Fields.{text-at, zeros-at, is-filled}
 use Rattle.syntax.specs.Path.{is-name}
-use Rattle.store.specs.HeaderLayout.{slot-width, sessions-offset, pairs-offset, pair-width, grants-offset, grant-width, password-offset, password-width, spare-offset, spare-width, pair-start, grant-start}
+use Rattle.store.specs.HeaderLayout.{slot-width, sessions-offset, pairs-offset, grants-offset, password-offset, password-width, spare-offset, spare-width, pair-start, grant-start}
 
 -- as many bytes as a header has
 abbrev pub Header-wide : List ℕ → Type 0

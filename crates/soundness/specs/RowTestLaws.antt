@@ -16,7 +16,6 @@ use Rattle.buffers.specs.Text.{Text, same-text, every}
 use Rattle.buffers.specs.TextLaws.{same-text-refl, every-append}
 use Rattle.buffers.specs.Fields.{two-bytes, number-at, padded, unpadded, text-at, all-zero, zeros-at, is-filled}
 use Rattle.buffers.specs.FieldsLaws.{length-padded, length-two-bytes, field-text-fits}
-use Rattle.syntax.specs.Pieces.{bytes}
 use Rattle.syntax.specs.Form.{_>>=_}
 use Rattle.syntax.specs.Number.{is-mode}
 use Rattle.syntax.specs.Field.{is-content}

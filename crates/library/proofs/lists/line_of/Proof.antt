@@ -1,5 +1,4 @@
 -- `library::lists::line_of` meets its contract: line n is row n, and past the last row there is none.
-use mathlib.Core.Path.{_≡_}
 use native.Mathlib.Omega.{arith}
 use denote.Ref.{now}
 use Rattle.tree.specs.TreeBytesLaws.{encoded-count}

@@ -1,5 +1,4 @@
 -- `library::lists::listing` meets its contract: the answer buffer's length, then the store, then the line decide.
-use mathlib.Core.Path.{_≡_}
 use native.Mathlib.Omega.{arith}
 use denote.Ref.{now}
 use Rattle.buffers.specs.Cases.{answers-false, answers-true}

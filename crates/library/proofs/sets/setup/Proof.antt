@@ -1,10 +1,8 @@
 -- `library::sets::setup` meets its contract: the buffer's length decides first, then the text's first wrong line; only then is anything written.
-use mathlib.Core.Path.{_≡_}
 use native.Mathlib.Omega.{arith}
 use denote.Ref.{now}
 use Rattle.store.specs.StoreBytes.{store-width}
 use Rattle.setup.specs.Reader.{setup-value}
-use Rattle.setups.specs.Writable.{Writable}
 use Rattle.setups.specs.WritableLaws.{read-writable, read-wrong}
 use Rattle.library.specs.CallBytesLaws.{unset-elsewhere, unset-wrong, set-done}
 use Rattle.library.proofs.sets.setup.Statement.{statement}
