@@ -1,54 +1,44 @@
 -- The steps of `co` as the code's answers tell them, one after the other.
 --
--- In order: the account's walk (walk-refused-entry to entry-not); the parts of the command (co-no-room to co-goes-on); the copies judged
--- (put-too-deep to put-done); the site told (site-told to site-follows); copies that are ready (prepared-ready to ready-follows).
+-- In order: the account's walk (walk-refused-entry to entry-not); the parts of the command (co-no-room to co-goes-on); the site found and
+-- told (site-found to site-follows).
 use mathlib.Core.Path.{_≡_, sym, _∙_, ap}
 use mathlib.Core.List.{List}
-use mathlib.Core.Option.{none, some}
+use mathlib.Core.Option.{some}
 use mathlib.Core.Bool.{Bool, true, false}
-use Prim.Native.Nat.{ℕ, suc, _+_, _≤_, _<_}
-use native.Mathlib.Omega.{arith}
-use lib.ListN as L
-use borrow.Author.Tests.{le-leb, lt-leb}
+use Prim.Native.Nat.{ℕ}
 use Rattle.buffers.specs.Text.{Text}
 use Rattle.accounts.specs.declared.Account.{Account}
-use Rattle.accounts.specs.declared.Caller.{Caller}
-use Rattle.syntax.specs.Path.{Path, Entry-path, parent, last, depth, entry-path, entry-location, most-names}
+use Rattle.syntax.specs.Path.{Path, Entry-path, path, entry-path, entry-location}
 use Rattle.syntax.specs.PathLaws.{entry-reads}
 use Rattle.tree.specs.declared.Cause.{Cause}
-use Rattle.tree.specs.declared.Cause.the-variants.{Access, Full, TooDeep}
-use Rattle.tree.specs.Result.{Result, refused, done, _>>_, require, Outcome}
+use Rattle.tree.specs.declared.Cause.the-variants.{Access}
+use Rattle.tree.specs.Result.{refused, done, _>>_, require}
 use Rattle.tree.specs.ResultLaws.{bind-done, then-done, done-then, refused-then, done-bind, refused-bind, require-true, require-false}
-use Rattle.tree.specs.Forest.{Place, update, put, place-at, size, height}
+use Rattle.tree.specs.Forest.{Place, place-at}
 use Rattle.tree.specs.Node.{Node}
 use Rattle.tree.specs.Walk.{by-modes, walk, room}
 use Rattle.tree.specs.UpdateLaws.{walked-at}
-use Rattle.tree.specs.WellFormed.{nodes}
-use Rattle.tree.specs.WellFormedLaws.{most-nodes-is}
 use Rattle.tree.specs.RowAt.{row-at, all-rows}
 use Rattle.tree.specs.TreeBytes.{Has-row, Encodes}
 use Rattle.tree.specs.TreeBytesLaws.{used-row, at-used, at-here}
-use Rattle.edits.specs.Changes.{rows-put}
 use Rattle.walks.specs.declared.Walked.{Walked}
 use Rattle.walks.specs.declared.Walked.the-variants as Walks
 use Rattle.walks.specs.RowWalk.{walk-in, outcome}
 use Rattle.walks.specs.RowWalkLaws.{outcome-refused, outcome-at}
 use Rattle.walks.specs.WalkBytes.{spot-of, Came}
 use Rattle.walks.specs.WalkBytesLaws.{came-to, came-not, walk-to, walk-not}
+use Rattle.gaps.specs.GapsLaws.{Standing}
 use Rattle.copying.specs.declared.Copier.{Copier}
 use Rattle.copying.specs.Copying.{copy}
 use Rattle.copying.specs.CopyRows.{read-by}
 use Rattle.shell.specs.declared.Answer.{Answer}
-use Rattle.shell.specs.declared.Answer.the-variants.{Done}
-use Rattle.shell.specs.Steps.{fit}
 use Rattle.shell.specs.CommandBytes.{Follows-silently}
-use Rattle.shell.specs.CommandBytesLaws.{silence-follows}
-use Rattle.checkout.specs.declared.Site.{Site}
+use Rattle.placing.specs.declared.Site.{Site}
+use Rattle.placing.specs.Placing.{place-copies, Checkout, checkout-copies, Checked-out}
 use Rattle.checkout.specs.declared.Sited.{Sited}
 use Rattle.checkout.specs.declared.Sited.the-variants.{Found, Missed}
-use Rattle.checkout.specs.declared.Copies.{Copies}
-use Rattle.checkout.specs.declared.Copies.the-variants as answers
-use Rattle.checkout.specs.Checkout.{readable-walk, entry-spot, put-copies, co-steps, Site-for, Site-told, Checked-out, Ready-for, Prepared}
+use Rattle.checkout.specs.Checkout.{readable-walk, entry-spot, co-steps, Site-for, Site-told}
 
 -- ---- one answer after the other
 
@@ -133,32 +123,23 @@ module _ (w : Copier) (t : Place Node) (e : Entry-path) (d : Path) where
 
     -- it does
     pub co-goes-on : {x : Place Node} → readable-walk (w .reader) t e ≡ done x
-        → co-steps w t e d ≡ put-copies (w .caller) t d (copy (w .caller) (read-by w) (f .here) e x)
+        → co-steps w t e d ≡ place-copies (w .caller) t d (copy (w .caller) (read-by w) (f .here) e x)
     unfolding co-steps
     co-goes-on g = rw (h, done-bind, g, done-bind)
 
-module _ (c : Caller) (t : Place Node) (d : Path) (x : Place Node) where
-  -- some copy lies too deep
-  pub put-too-deep : 6 < depth d + height (x .below) → put-copies c t d x ≡ refused TooDeep
-  unfolding put-copies most-names
-  put-too-deep h = rw (lt-leb (depth d + height (x .below)) 6 h, require-false, refused-then)
-
-  module _ (low : depth d + height (x .below) ≤ 6) where
-    -- there are too many
-    pub put-too-many : 256 < nodes t + suc (size (x .below)) → put-copies c t d x ≡ refused Full
-    unfolding put-copies most-names fit
-    put-too-many h =
-        rw (le-leb (depth d + height (x .below)) 6 low, require-true, done-then)
-        (rw (most-nodes-is, lt-leb (nodes t + 0 + suc (size (x .below))) 256 (omega (arith, h)), require-false, refused-then))
-
-    -- they are put in
-    pub put-done : nodes t + suc (size (x .below)) ≤ 256 → put-copies c t d x ≡ done (record { text = none; state = update (parent d) (put (last d) x) t })
-    unfolding put-copies most-names fit
-    put-done h =
-        rw (le-leb (depth d + height (x .below)) 6 low, require-true, done-then)
-        (rw (most-nodes-is, le-leb (nodes t + 0 + suc (size (x .below))) 256 (omega (arith, h)), require-true, done-then))
-
 -- ---- the site
+
+-- the first checks have passed
+module _ (w : Copier) (entry to : Text) {b : List ℕ} {t : Place Node} {e : Entry-path} {d : Path} (site : Site) {above : ℕ} (reads-entry : entry-path entry ≡ some e)
+    (reads : path to ≡ some d) (stands : Standing b t d (w .caller .account) (site .row) (site .at) (site .depth))
+    (came : Came b t (entry-location e) (readable-walk (w .reader) t e) (site .filed) above) where
+  abbrev checkout-of : Checkout w b entry to site
+  checkout-of = record { top = t; source = e; target = d; place = came .place; reads-entry = reads-entry; reads = reads; stands = stands; found = came .at }
+
+  -- and what follows them are the steps that are left
+  pub site-found : Site-for w t e d b entry to site
+  unfolding checkout-copies
+  site-found = record { job = checkout-of; left = co-goes-on w t e d (stands .found) (came .walked) }
 
 module _ (w : Copier) (t : Place Node) (e : Entry-path) (d : Path) (b : List ℕ) (entry to : Text) where
   -- a site is told
@@ -184,31 +165,3 @@ module _ (w : Copier) (t : Place Node) (e : Entry-path) (d : Path) (b : List ℕ
   -- what follows the steps that are left at a site follows those of `co`
   pub site-follows : {s : Site} {r : Answer} {b′ : List ℕ} → Site-for w t e d b entry to s → Checked-out w b entry to s r b′ → Follows-silently (co-steps w t e d) b r b′
   site-follows h f = rw (h .left) (f (h .job))
-
--- ---- copies that are ready
-
-module _ {steps : Result (Outcome (Place Node))} (b z : List ℕ) (at : ℕ) where
-  -- copies are answered
-  pub prepared-ready : {n : ℕ} → Ready-for steps b z at n → Prepared steps b z at (answers.Ready n)
-  unfolding Prepared
-  prepared-ready h = h
-
-  -- or a refusal
-  pub prepared-not : {k : Cause} → steps ≡ refused k → Prepared steps b z at (answers.Refused k)
-  unfolding Prepared
-  prepared-not h = h
-
-  module _ {r : Copies} (p : Prepared steps b z at r) where
-    -- what was answered, then
-    pub ready-of : {n : ℕ} → r ≡ answers.Ready n → Ready-for steps b z at n
-    unfolding Prepared
-    ready-of e = rw e at p
-
-    pub refused-of : {k : Cause} → r ≡ answers.Refused k → steps ≡ refused k
-    unfolding Prepared
-    refused-of e = rw e at p
-
--- copies that are ready, put in, follow the steps
-pub ready-follows : {steps : Result (Outcome (Place Node))} {b z : List ℕ} {at n : ℕ} (b′ : List ℕ) → Ready-for steps b z at n → b′ ≡ rows-put b at n (L.drop 2 z)
-    → Follows-silently steps b Done b′
-ready-follows {b = b} b′ h e = silence-follows b b′ (h .come) (e ∙ h .make)

@@ -22,7 +22,8 @@ use Rattle.store.specs.State.{Store}
 use Rattle.machine.specs.Machine.{session, run-co}
 use Rattle.machine.specs.StoreMachine.{store}
 use Rattle.machine.specs.Acting.{Acting, on-tree-steps}
-use Rattle.checkout.specs.Checkout.{copier, readable-walk, put-copies, co-steps}
+use Rattle.placing.specs.Placing.{place-copies}
+use Rattle.checkout.specs.Checkout.{copier, readable-walk, co-steps}
 
 -- steps are on the tree what each of them is there
 module _ {A : Type 0} (a : Result A) (f : A → Result (Outcome Store)) (h : A → Result (Outcome (Place Node))) (each : (x : A) → on-tree-steps (f x) ≡ h x) where
@@ -50,7 +51,7 @@ module _ (u : Setup) (s : Store) (c : Caller) (e : Entry-path) (d : Path) where
   -- behind the session, the steps of the store's machine are those by the session's account
   co-in-session : {z : Bounded-role} {a : Account} → session store u s c ≡ done z → a ≡ service (u .pairs) z
       → on-tree-steps (run-co store u s c e d) ≡ co-steps (copier a c) (s .tree) e d
-  unfolding run-co co-steps readable-walk put-copies below-rep in-rep entry-location
+  unfolding run-co co-steps readable-walk place-copies below-rep in-rep entry-location
   co-in-session {z} {a} in-session is-account =
       rw (in-session, done-bind, is-account)
       (on-tree-bind _ _ _ λ directory.

@@ -1,4 +1,3 @@
 pub mod Checkout
 pub mod CheckoutLaws
-pub mod CheckoutJobLaws
 pub mod CheckoutRunLaws

@@ -6,14 +6,15 @@ ghost use Rattle.tree.specs.Layout.{few-rows, some-rows, many-rows, half-rows, 
 ghost use Rattle.tree.specs.TreeBytes.{Whole, Path-text, Entry-path-text};
 ghost use Rattle.copying.specs.CopyRows.{subtree-rows};
 ghost use Rattle.shell.specs.CommandBytes.{Follows-silently};
-ghost use Rattle.checkout.specs.Checkout.{copier, co-steps, Whichever-copy, Checkout, Checked-out};
-use crate::Site;
+ghost use Rattle.placing.specs.Placing.{Checkout, Checked-out};
+ghost use Rattle.checkout.specs.Checkout.{copier, co-steps, Whichever-copy};
 use crate::Sited;
 use crate::decision::find_site;
-use crate::making::co_by;
 use accounts::Account;
 use accounts::Caller;
 use copying::Copier;
+use placing::Site;
+use placing::place_copies;
 use shell::Answer;
 use tree::FEW_ROWS;
 use tree::HALF_ROWS;
@@ -38,7 +39,7 @@ fn co_few(tree: &mut [u8], who: Copier, site: Site, entry: &[u8], to: &[u8]) -> 
     ensures { λ r. ⌜ Checked-out who (now (tree .entry)) (now (entry .entry)) (now (to .entry)) site r (now (tree .exit)) ⌝ }
 {
     let mut out = [0u8; FEW_WIDTH];
-    co_by(tree, who, site, entry, to, &mut out)
+    place_copies(tree, who, site, entry, to, &mut out)
 }
 
 // By one for more rows.
@@ -48,7 +49,7 @@ fn co_some(tree: &mut [u8], who: Copier, site: Site, entry: &[u8], to: &[u8]) ->
     ensures { λ r. ⌜ Checked-out who (now (tree .entry)) (now (entry .entry)) (now (to .entry)) site r (now (tree .exit)) ⌝ }
 {
     let mut out = [0u8; SOME_WIDTH];
-    co_by(tree, who, site, entry, to, &mut out)
+    place_copies(tree, who, site, entry, to, &mut out)
 }
 
 // By one for many rows.
@@ -58,7 +59,7 @@ fn co_many(tree: &mut [u8], who: Copier, site: Site, entry: &[u8], to: &[u8]) ->
     ensures { λ r. ⌜ Checked-out who (now (tree .entry)) (now (entry .entry)) (now (to .entry)) site r (now (tree .exit)) ⌝ }
 {
     let mut out = [0u8; MANY_WIDTH];
-    co_by(tree, who, site, entry, to, &mut out)
+    place_copies(tree, who, site, entry, to, &mut out)
 }
 
 // By one for half the rows of a tree.
@@ -68,7 +69,7 @@ fn co_half(tree: &mut [u8], who: Copier, site: Site, entry: &[u8], to: &[u8]) ->
     ensures { λ r. ⌜ Checked-out who (now (tree .entry)) (now (entry .entry)) (now (to .entry)) site r (now (tree .exit)) ⌝ }
 {
     let mut out = [0u8; HALF_WIDTH];
-    co_by(tree, who, site, entry, to, &mut out)
+    place_copies(tree, who, site, entry, to, &mut out)
 }
 
 // By one for as many rows as there is room for in a tree.
@@ -78,7 +79,7 @@ fn co_all(tree: &mut [u8], who: Copier, site: Site, entry: &[u8], to: &[u8]) -> 
     ensures { λ r. ⌜ Checked-out who (now (tree .entry)) (now (entry .entry)) (now (to .entry)) site r (now (tree .exit)) ⌝ }
 {
     let mut out = [0u8; TREE];
-    co_by(tree, who, site, entry, to, &mut out)
+    place_copies(tree, who, site, entry, to, &mut out)
 }
 
 // By the smallest that has room for the copies of all rows of the entry.

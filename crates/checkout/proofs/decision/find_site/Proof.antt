@@ -1,8 +1,7 @@
 -- `checkout::decision::find_site` meets its contract: a refusal is that of the first part that refuses, else the site is the checkout's.
 use denote.Ref.{now}
 use Rattle.gaps.specs.GapsLaws.{room-to, room-not}
-use Rattle.checkout.specs.CheckoutLaws.{entry-came, entry-not, co-no-room, co-no-entry, site-told, site-not}
-use Rattle.checkout.specs.CheckoutJobLaws.{site-found}
+use Rattle.checkout.specs.CheckoutLaws.{entry-came, entry-not, co-no-room, co-no-entry, site-found, site-told, site-not}
 use Rattle.checkout.proofs.decision.find_site.Statement.{statement}
 use Rattle.checkout.proofs.decision.find_site.Tie as tie
 

@@ -1,10 +1,10 @@
--- `checkout::making::co_by` meets its contract: copies that are ready make the tree of the steps, and a refusal is theirs.
+-- `placing::placement::place_copies` meets its contract: copies that are ready make the tree of the steps, and a refusal is theirs.
 use mathlib.Core.Path.{_∙_, refl}
 use denote.Ref.{now}
 use Rattle.shell.specs.CommandBytesLaws.{refusal-follows}
-use Rattle.checkout.specs.CheckoutLaws.{ready-of, refused-of, ready-follows}
-use Rattle.checkout.proofs.making.co_by.Statement.{statement}
-use Rattle.checkout.proofs.making.co_by.Tie as tie
+use Rattle.placing.specs.PlacingLaws.{ready-of, refused-of, ready-follows}
+use Rattle.placing.proofs.placement.place_copies.Statement.{statement}
+use Rattle.placing.proofs.placement.place_copies.Tie as tie
 
 copies-for-requires : tie.Need-copies-for-requires
 copies-for-requires c κs = c .before .before .before .before .before .before .pre
@@ -49,8 +49,8 @@ returns-2 c j =
     let b = now (s .args .tree) in
     refusal-follows b (refused-of b (f .last .1 .1 .1 .1 .1 .0) (s .args .site .at) (f .ensures j) (c .before .cause .given .1))
 
-pub co-by-spec : {M : Type 1} → statement M
-co-by-spec =
+pub place-copies-spec : {M : Type 1} → statement M
+place-copies-spec =
     tie.close
     (tie.spec
     copies-for-requires

@@ -1,4 +1,4 @@
--- `checkout::making::put_copies` meets its contract: what is lent from the buffer's third byte on is all behind the first two.
+-- `placing::placement::put_copies` meets its contract: what is lent from the buffer's third byte on is all behind the first two.
 use mathlib.Core.Path.{_∙_, ap}
 use mathlib.Core.List.{List}
 use Prim.Native.Nat.{ℕ, _-_}
@@ -8,8 +8,8 @@ use lib.Seq.{take-all}
 use denote.Ref.{now}
 use Rattle.edits.specs.Changes.{rows-put}
 use borrow.Author.Needs.{needs}
-use Rattle.checkout.proofs.making.put_copies.Statement.{statement}
-use Rattle.checkout.proofs.making.put_copies.Tie as tie
+use Rattle.placing.proofs.placement.put_copies.Statement.{statement}
+use Rattle.placing.proofs.placement.put_copies.Tie as tie
 
 sub-put-rows : tie.Need-sub-put-rows
 sub-put-rows c = omega (arith, c .before .before .before .pre .1)

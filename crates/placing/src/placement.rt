@@ -1,4 +1,4 @@
-// The second part of `co`: the copies are made in a buffer and judged there, and then put in.
+// What is left of `co` behind its first checks: the copies are made in a buffer and judged there, and then put in.
 ghost use mathlib.Core.Path.{_≡_};
 ghost use Prim.Native.Nat.{_≤_};
 ghost use lib.ListN.{length, drop};
@@ -6,7 +6,7 @@ ghost use Rattle.tree.specs.Layout.{row-start};
 ghost use Rattle.tree.specs.TreeBytes.{Insertable};
 ghost use Rattle.edits.specs.Changes.{rows-put};
 ghost use Rattle.copying.specs.CopyRows.{subtree-rows};
-ghost use Rattle.checkout.specs.Checkout.{Checkout, steps-left, Prepared, Checked-out};
+ghost use Rattle.placing.specs.Placing.{Checkout, steps-left, Prepared, Checked-out};
 use crate::Copies;
 use crate::Site;
 use copying::Copier;
@@ -65,7 +65,7 @@ fn put_copies(tree: &mut [u8], at: usize, n: usize, out: &[u8])
 }
 
 // What is left of the command behind its first checks, by a buffer for the copies.
-pub fn co_by(
+pub fn place_copies(
     tree: &mut [u8],
     who: Copier,
     site: Site,

@@ -1,7 +1,6 @@
 -- A checkout whose first checks have passed: what its copies ask for, and what is made of them once they are written.
 use mathlib.Core.Path.{_≡_, sym, _∙_, ap}
 use mathlib.Core.List.{List, _++_}
-use mathlib.Core.Option.{some}
 use Prim.Native.Nat.{ℕ, suc, _+_, _*_, _≤_, _<_}
 use native.Mathlib.Omega.{arith}
 use lib.ListN.{length, take, drop, length-drop}
@@ -9,7 +8,7 @@ use lib.Seq.{drop-at, length-take-le}
 use Rattle.buffers.specs.Text.{Text}
 use Rattle.buffers.specs.Fields.{all-bytes}
 use Rattle.accounts.specs.declared.Gid.{Gid}
-use Rattle.syntax.specs.Path.{Path, Entry-path, parent, last, depth, path, entry-path, entry-location}
+use Rattle.syntax.specs.Path.{parent, last, depth}
 use Rattle.syntax.specs.PathLaws.{name-length, parent-depth}
 use Rattle.syntax.specs.Parts.{last-slash}
 use Rattle.tree.specs.declared.Cause.the-variants.{Full, TooDeep}
@@ -24,34 +23,21 @@ use Rattle.tree.specs.Encoding.{row-bytes, encode-tree}
 use Rattle.tree.specs.RowAt.{row-count, row-at}
 use Rattle.tree.specs.TreeBytes.{Has-row}
 use Rattle.tree.specs.TreeBytesLaws.{encoded-count, at-here}
-use Rattle.walks.specs.WalkBytes.{Came}
 use Rattle.edits.specs.Changes.{rows-put}
 use Rattle.edits.specs.EncodedRowsLaws.{Rows-wide}
 use Rattle.edits.specs.EditLaws.{rows-law}
 use Rattle.gaps.specs.Gaps.{behind-slash}
-use Rattle.gaps.specs.GapsLaws.{Standing, last-in-text, last-named, last-fits, place-row, stands-insertable, stands-low}
+use Rattle.gaps.specs.GapsLaws.{last-in-text, last-named, last-fits, place-row, stands-insertable, stands-low}
 use Rattle.copying.specs.declared.Copier.{Copier}
 use Rattle.copying.specs.Copying.{copy-mode}
 use Rattle.copying.specs.CopyRows.{deepest, most-levels, Written, deepest-from, Entry-job, subtree-rows, entry-rows}
 use Rattle.copying.specs.CopyEntryLaws.{entry-job, entry-job-rows, entry-within, entry-few}
 use Rattle.copying.specs.RowsWrittenLaws.{written-as, written-width, written-pieces}
 use Rattle.copying.specs.DepthLaws.{deepest-of-place}
-use Rattle.checkout.specs.declared.Site.{Site}
-use Rattle.checkout.specs.declared.Copies.the-variants as answers
-use Rattle.checkout.specs.Checkout.{readable-walk, Checkout, checkout-copies, steps-left, Site-for, Prepared}
-use Rattle.checkout.specs.CheckoutLaws.{co-goes-on, put-too-deep, put-too-many, put-done, prepared-ready, prepared-not}
-
--- the first checks have passed
-module _ (w : Copier) (entry to : Text) {b : List ℕ} {t : Place Node} {e : Entry-path} {d : Path} (site : Site) {above : ℕ} (reads-entry : entry-path entry ≡ some e)
-    (reads : path to ≡ some d) (stands : Standing b t d (w .caller .account) (site .row) (site .at) (site .depth))
-    (came : Came b t (entry-location e) (readable-walk (w .reader) t e) (site .filed) above) where
-  abbrev checkout-of : Checkout w b entry to site
-  checkout-of = record { top = t; source = e; target = d; place = came .place; reads-entry = reads-entry; reads = reads; stands = stands; found = came .at }
-
-  -- and what follows them are the steps that are left
-  pub site-found : Site-for w t e d b entry to site
-  unfolding checkout-copies
-  site-found = record { job = checkout-of; left = co-goes-on w t e d (stands .found) (came .walked) }
+use Rattle.placing.specs.declared.Site.{Site}
+use Rattle.placing.specs.declared.Copies.the-variants as answers
+use Rattle.placing.specs.Placing.{Checkout, checkout-copies, steps-left, Prepared}
+use Rattle.placing.specs.PlacingLaws.{place-too-deep, place-too-many, place-done, prepared-ready, prepared-not}
 
 module _ {w : Copier} {b : List ℕ} {entry to : Text} {site : Site} (j : Checkout w b entry to site) where
   -- ---- what the copies ask for
@@ -124,7 +110,7 @@ module _ {w : Copier} {b : List ℕ} {entry to : Text} {site : Site} (j : Checko
 
         -- the deepest lies too deep
         pub copies-too-deep : 6 < m → Prepared (steps-left j) b z (site .at) (answers.Refused TooDeep)
-        copies-too-deep h = prepared-not b z (site .at) (put-too-deep (w .caller) (j .top) (j .target) copies (omega (arith, h, depth-is)))
+        copies-too-deep h = prepared-not b z (site .at) (place-too-deep (w .caller) (j .top) (j .target) copies (omega (arith, h, depth-is)))
 
         module _ (low : m ≤ 6) (c : ℕ) (counts : c ≡ row-count b) where
           low-enough : depth (j .target) + height (copies .below) ≤ 6
@@ -135,7 +121,7 @@ module _ {w : Copier} {b : List ℕ} {entry to : Text} {site : Site} (j : Checko
 
           -- there are too many
           pub copies-too-many : 256 < c + n → Prepared (steps-left j) b z (site .at) (answers.Refused Full)
-          copies-too-many h = prepared-not b z (site .at) (put-too-many (w .caller) (j .top) (j .target) copies low-enough (omega (arith, h, count-is)))
+          copies-too-many h = prepared-not b z (site .at) (place-too-many (w .caller) (j .top) (j .target) copies low-enough (omega (arith, h, count-is)))
 
           -- behind the first two bytes stand their rows, and put in they make the tree with them
           made : c + n ≤ 256 → rows-put b (site .at) n (drop 2 z) ≡ encode-tree (update (parent (j .target)) (put (last (j .target)) copies) (j .top))
@@ -158,6 +144,6 @@ module _ {w : Copier} {b : List ℕ} {entry to : Text} {site : Site} (j : Checko
             insertable = stands-insertable (j .stands) n (omega (arith, counts, encoded-count (j .found .tree), h));
             room = copies-fit v;
             tree = update (parent (j .target)) (put (last (j .target)) copies) (j .top);
-            come = put-done (w .caller) (j .top) (j .target) copies low-enough (omega (arith, h, count-is));
+            come = place-done (w .caller) (j .top) (j .target) copies low-enough (omega (arith, h, count-is));
             make = made h;
           })

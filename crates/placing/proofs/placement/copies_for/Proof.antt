@@ -1,10 +1,10 @@
--- `checkout::making::copies_for` meets its contract: the copies are those of the checkout, and each answer is what the steps make of them.
+-- `placing::placement::copies_for` meets its contract: the copies are those of the checkout, and each answer is what the steps make of them.
 use mathlib.Core.Path.{_∙_}
 use native.Mathlib.Omega.{arith}
 use denote.Ref.{now}
-use Rattle.checkout.specs.CheckoutJobLaws.{job-row, job-text, job-name, job-low, checkout-job, copies-few, copies-fit, copies-too-deep, copies-too-many, copies-ready}
-use Rattle.checkout.proofs.making.copies_for.Statement.{statement}
-use Rattle.checkout.proofs.making.copies_for.Tie as tie
+use Rattle.placing.specs.PlacingJobLaws.{job-row, job-text, job-name, job-low, checkout-job, copies-few, copies-fit, copies-too-deep, copies-too-many, copies-ready}
+use Rattle.placing.proofs.placement.copies_for.Statement.{statement}
+use Rattle.placing.proofs.placement.copies_for.Tie as tie
 
 new-group-requires : tie.Need-new-group-requires
 new-group-requires c κs = job-row (c .before .before .before .before .before .pre .0)
