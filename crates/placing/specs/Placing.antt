@@ -6,6 +6,8 @@ use Prim.Native.Nat.{ℕ, suc, _+_, _≤_}
 use lib.Dec.{leb}
 use lib.ListN as L
 use Rattle.buffers.specs.Text.{Text}
+use Rattle.buffers.specs.Fields.{all-bytes}
+use Rattle.buffers.specs.Over.{over}
 use Rattle.accounts.specs.declared.Caller.{Caller}
 use Rattle.syntax.specs.Path.{Path, Entry-path, parent, last, depth, path, entry-path, entry-location, most-names}
 use Rattle.tree.specs.declared.Cause.the-variants.{Full, TooDeep}
@@ -13,7 +15,8 @@ use Rattle.tree.specs.Result.{Result, refused, done, _>>_, require, Outcome}
 use Rattle.tree.specs.Layout.{row-start}
 use Rattle.tree.specs.Forest.{Place, update, put, size, height}
 use Rattle.tree.specs.Node.{Node}
-use Rattle.tree.specs.Encoding.{encode-tree}
+use Rattle.tree.specs.RowPlaces.{place-rows}
+use Rattle.tree.specs.Encoding.{row-bytes, encode-tree}
 use Rattle.tree.specs.TreeBytes.{Insertable, At}
 use Rattle.edits.specs.Changes.{rows-put}
 use Rattle.gaps.specs.GapsLaws.{Standing}
@@ -53,6 +56,10 @@ pub record Checkout (w : Copier) (b : List ℕ) (entry to : Text) (s : Site) : T
 unfoldable pub checkout-copies : {w : Copier} {b : List ℕ} {entry to : Text} {s : Site} → Checkout w b entry to s → Place Node
 checkout-copies {w} j = copy (w .caller) (read-by w) (j .stands .directory .here) (j .source) (j .place)
 
+-- the buffer o with their rows written over it behind its first two bytes
+unfoldable pub copies-over : {w : Copier} {b : List ℕ} {entry to : Text} {s : Site} → Checkout w b entry to s → List ℕ → List ℕ
+copies-over {s = s} j o = over 2 (all-bytes row-bytes (place-rows (s .depth) (last (j .target)) (checkout-copies j))) o
+
 -- and the steps that are left
 abbrev pub steps-left : {w : Copier} {b : List ℕ} {entry to : Text} {s : Site} → Checkout w b entry to s → Result (Outcome (Place Node))
 steps-left {w} j = place-copies (w .caller) (j .top) (j .target) (checkout-copies j)
@@ -60,6 +67,10 @@ steps-left {w} j = place-copies (w .caller) (j .top) (j .target) (checkout-copie
 -- an answer and a tree's bytes that are those of the steps that are left of whatever checkout this is
 abbrev pub Checked-out : Copier → List ℕ → Text → Text → Site → Answer → List ℕ → Type 0
 Checked-out w b entry to s r b′ = (j : Checkout w b entry to s) → Follows-silently (steps-left j) b r b′
+
+-- a buffer's bytes before and after that are those with the copies of whatever checkout this is
+abbrev pub Copies-laid : Copier → List ℕ → Text → Text → Site → List ℕ → List ℕ → Type 0
+Copies-laid w b entry to s o z = (j : Checkout w b entry to s) → z ≡ copies-over j o
 
 -- n rows in z behind its first two bytes that, put in at the index, make of the bytes b the tree that the steps come to
 pub record Ready-for (steps : Result (Outcome (Place Node))) (b z : List ℕ) (at n : ℕ) : Type 0 where

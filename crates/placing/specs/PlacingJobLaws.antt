@@ -7,6 +7,7 @@ use lib.ListN.{length, take, drop, length-drop}
 use lib.Seq.{drop-at, length-take-le}
 use Rattle.buffers.specs.Text.{Text}
 use Rattle.buffers.specs.Fields.{all-bytes}
+use Rattle.buffers.specs.Over.{over}
 use Rattle.accounts.specs.declared.Gid.{Gid}
 use Rattle.syntax.specs.Path.{parent, last, depth}
 use Rattle.syntax.specs.PathLaws.{name-length, parent-depth}
@@ -36,7 +37,7 @@ use Rattle.copying.specs.RowsWrittenLaws.{written-as, written-width, written-pi
 use Rattle.copying.specs.DepthLaws.{deepest-of-place}
 use Rattle.placing.specs.declared.Site.{Site}
 use Rattle.placing.specs.declared.Copies.the-variants as answers
-use Rattle.placing.specs.Placing.{Checkout, checkout-copies, steps-left, Prepared}
+use Rattle.placing.specs.Placing.{Checkout, checkout-copies, copies-over, steps-left, Prepared}
 use Rattle.placing.specs.PlacingLaws.{place-too-deep, place-too-many, place-done, prepared-ready, prepared-not}
 
 module _ {w : Copier} {b : List ℕ} {entry to : Text} {site : Site} (j : Checkout w b entry to site) where
@@ -88,6 +89,11 @@ module _ {w : Copier} {b : List ℕ} {entry to : Text} {site : Site} (j : Checko
           written-as
           (ap (entry-rows checkout-job (site .depth)) (named ∙ last-in-text to (j .reads)) ∙ entry-job-rows w entry (j .stands .directory .here) (j .reads-entry) (j .found) checkout-group (site .depth) (last (j .target)))
           (all checkout-job)
+
+      -- and so they lie over the buffer
+      pub copies-lie : z ≡ copies-over j o
+      unfolding copies-over over
+      copies-lie = written-pieces copies-written ∙ ap (λ (n : ℕ). take 2 o ++ (copy-rows-at ++ drop (2 + n) o)) (sym (written-width copies-written))
 
       copies-count : n ≡ suc (size (copies .below))
       copies-count = omega (arith, copies-written .next, length-place-rows (site .depth) (last (j .target)) copies)

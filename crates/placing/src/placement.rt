@@ -6,7 +6,7 @@ ghost use Rattle.tree.specs.Layout.{row-start};
 ghost use Rattle.tree.specs.TreeBytes.{Insertable};
 ghost use Rattle.edits.specs.Changes.{rows-put};
 ghost use Rattle.copying.specs.CopyRows.{subtree-rows};
-ghost use Rattle.placing.specs.Placing.{Checkout, steps-left, Prepared, Checked-out};
+ghost use Rattle.placing.specs.Placing.{Checkout, steps-left, Prepared, Checked-out, Copies-laid};
 use crate::Copies;
 use crate::Site;
 use copying::Copier;
@@ -39,6 +39,7 @@ fn copies_for(
     requires { ⌜ row-start (subtree-rows (now tree) (site .filed)) ≤ length (now out) ⌝ }
     ensures { λ r. ⌜ ((j : Checkout who (now (tree .entry)) (now (entry .entry)) (now (to .entry)) site)
         → Prepared (steps-left j) (now (tree .entry)) (now (out .exit)) (site .at) r) ⌝ }
+    ensures { λ _. ⌜ Copies-laid who (now (tree .entry)) (now (entry .entry)) (now (to .entry)) site (now (out .entry)) (now (out .exit)) ⌝ }
 {
     let filed = site.filed;
     let row = site.row;
@@ -76,6 +77,7 @@ pub fn place_copies(
     requires { ⌜ Checkout who (now tree) (now entry) (now to) site ⌝ }
     requires { ⌜ row-start (subtree-rows (now tree) (site .filed)) ≤ length (now out) ⌝ }
     ensures { λ r. ⌜ Checked-out who (now (tree .entry)) (now (entry .entry)) (now (to .entry)) site r (now (tree .exit)) ⌝ }
+    ensures { λ _. ⌜ Copies-laid who (now (tree .entry)) (now (entry .entry)) (now (to .entry)) site (now (out .entry)) (now (out .exit)) ⌝ }
 {
     match copies_for(tree, who, site, entry, to, out) {
         Copies::Ready(n) => {

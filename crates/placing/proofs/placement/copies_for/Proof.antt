@@ -2,7 +2,7 @@
 use mathlib.Core.Path.{_∙_}
 use native.Mathlib.Omega.{arith}
 use denote.Ref.{now}
-use Rattle.placing.specs.PlacingJobLaws.{job-row, job-text, job-name, job-low, checkout-job, copies-few, copies-fit, copies-too-deep, copies-too-many, copies-ready}
+use Rattle.placing.specs.PlacingJobLaws.{job-row, job-text, job-name, job-low, checkout-job, copies-lie, copies-few, copies-fit, copies-too-deep, copies-too-many, copies-ready}
 use Rattle.placing.proofs.placement.copies_for.Statement.{statement}
 use Rattle.placing.proofs.placement.copies_for.Tie as tie
 
@@ -34,13 +34,15 @@ same-length : tie.Need-same-length
 same-length c = c .before .before .before .before .before .copy-entry .kept .1 .1 .1 .1 .1 .1 .1 .0
 
 returns : tie.Need-returns
-returns c j =
+returns c =
     let s = c .before .before .before .before .before .before .before .before .before .before .before .before .before .before in
     let a = s .args in
     let m = c .before .before .before .before .before .copy-entry in
     let name = c .before .before .before .before .before .before .before .last-name in
-    let g = c .before .before .before .before .before .before .before .before .new-group in
-    copies-too-deep j (g .result) (g .ensures) (now (a .out)) (m .last .1 .1 .1 .1 .1 .1 .1 .0) (m .result) (now (name .result)) (name .ensures) (s .pre .1) (m .ensures) (c .before .deepest-copy .result) (c .before .deepest-copy .ensures) (omega arith)
+    let g = c .before .before .before .before .before .before .before .before .new-group in (
+      (λ j. copies-too-deep j (g .result) (g .ensures) (now (a .out)) (m .last .1 .1 .1 .1 .1 .1 .1 .0) (m .result) (now (name .result)) (name .ensures) (s .pre .1) (m .ensures) (c .before .deepest-copy .result) (c .before .deepest-copy .ensures) (omega arith)),
+      (λ j. copies-lie j (g .result) (g .ensures) (now (a .out)) (m .last .1 .1 .1 .1 .1 .1 .1 .0) (m .result) (now (name .result)) (name .ensures) (s .pre .1) (m .ensures)),
+    )
 
 count-requires : tie.Need-count-requires
 count-requires c κs = c .before .before .before .before .before .before .before .before .before .before .before .before .before .before .pre .0 .found .tree .sized .wide
@@ -59,27 +61,31 @@ same-length-2 : tie.Need-same-length-2
 same-length-2 c = c .before .before .before .before .before .before .before .copy-entry .kept .1 .1 .1 .1 .1 .1 .1 .0
 
 returns-2 : tie.Need-returns-2
-returns-2 c j =
+returns-2 c =
     let s = c .before .before .before .before .before .before .before .before .before .before .before .before .before .before .before .before in
     let a = s .args in
     let m = c .before .before .before .before .before .before .before .copy-entry in
     let name = c .before .before .before .before .before .before .before .before .before .last-name in
     let g = c .before .before .before .before .before .before .before .before .before .before .new-group in
-    let d = c .before .before .before .deepest-copy in
-    copies-too-many j (g .result) (g .ensures) (now (a .out)) (m .last .1 .1 .1 .1 .1 .1 .1 .0) (m .result) (now (name .result)) (name .ensures) (s .pre .1) (m .ensures) (d .result) (d .ensures) (omega arith) (c .before .count .result) (c .before .count .ensures) (omega arith)
+    let d = c .before .before .before .deepest-copy in (
+      (λ j. copies-too-many j (g .result) (g .ensures) (now (a .out)) (m .last .1 .1 .1 .1 .1 .1 .1 .0) (m .result) (now (name .result)) (name .ensures) (s .pre .1) (m .ensures) (d .result) (d .ensures) (omega arith) (c .before .count .result) (c .before .count .ensures) (omega arith)),
+      (λ j. copies-lie j (g .result) (g .ensures) (now (a .out)) (m .last .1 .1 .1 .1 .1 .1 .1 .0) (m .result) (now (name .result)) (name .ensures) (s .pre .1) (m .ensures)),
+    )
 
 same-length-3 : tie.Need-same-length-3
 same-length-3 c = c .before .before .before .before .before .before .before .copy-entry .kept .1 .1 .1 .1 .1 .1 .1 .0
 
 returns-3 : tie.Need-returns-3
-returns-3 c j =
+returns-3 c =
     let s = c .before .before .before .before .before .before .before .before .before .before .before .before .before .before .before .before in
     let a = s .args in
     let m = c .before .before .before .before .before .before .before .copy-entry in
     let name = c .before .before .before .before .before .before .before .before .before .last-name in
     let g = c .before .before .before .before .before .before .before .before .before .before .new-group in
-    let d = c .before .before .before .deepest-copy in
-    copies-ready j (g .result) (g .ensures) (now (a .out)) (m .last .1 .1 .1 .1 .1 .1 .1 .0) (m .result) (now (name .result)) (name .ensures) (s .pre .1) (m .ensures) (d .result) (d .ensures) (omega arith) (c .before .count .result) (c .before .count .ensures) (omega arith) (m .kept .1 .1 .1 .1 .1 .1 .1 .0)
+    let d = c .before .before .before .deepest-copy in (
+      (λ j. copies-ready j (g .result) (g .ensures) (now (a .out)) (m .last .1 .1 .1 .1 .1 .1 .1 .0) (m .result) (now (name .result)) (name .ensures) (s .pre .1) (m .ensures) (d .result) (d .ensures) (omega arith) (c .before .count .result) (c .before .count .ensures) (omega arith) (m .kept .1 .1 .1 .1 .1 .1 .1 .0)),
+      (λ j. copies-lie j (g .result) (g .ensures) (now (a .out)) (m .last .1 .1 .1 .1 .1 .1 .1 .0) (m .result) (now (name .result)) (name .ensures) (s .pre .1) (m .ensures)),
+    )
 
 pub copies-for-spec : {M : Type 1} → statement M
 copies-for-spec =

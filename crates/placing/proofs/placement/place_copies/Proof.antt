@@ -16,7 +16,7 @@ put-copies-requires : tie.Need-put-copies-requires
 put-copies-requires c κs =
     let s = c .before .before .before .before .before .before .before .before .before .before .before .before .before .before in
     let f = c .before .before .before .before .before .before .before .copies-for in
-    let r = ready-of (now (s .args .tree)) (f .last .1 .1 .1 .1 .1 .0) (s .args .site .at) (f .ensures (s .pre .0)) (c .before .before .before .n .given .1) in
+    let r = ready-of (now (s .args .tree)) (f .last .1 .1 .1 .1 .1 .0) (s .args .site .at) (f .ensures .0 (s .pre .0)) (c .before .before .before .n .given .1) in
     (r .insertable, r .room)
 
 enum-known-cause : tie.Need-enum-known-cause
@@ -29,12 +29,13 @@ same-length-2 : tie.Need-same-length-2
 same-length-2 c = c .before .before .before .before .before .before .before .before .before .before .copies-for .kept .1 .1 .1 .1 .1 .0
 
 returns : tie.Need-returns
-returns c j =
+returns c =
     let s = c .before .before .before .before .before .before .before .before .before .before .before .before .before .before .before .before .before in
     let f = c .before .before .before .before .before .before .before .before .before .before .copies-for in
-    let p = c .before .before .put-copies in
-    let r = ready-of (now (s .args .tree)) (f .last .1 .1 .1 .1 .1 .0) (s .args .site .at) (f .ensures j) (c .before .before .before .before .before .before .n .given .1) in
-    ready-follows (p .last .0) r (p .ensures)
+    let p = c .before .before .put-copies in (
+      (λ j. ready-follows (p .last .0) (ready-of (now (s .args .tree)) (f .last .1 .1 .1 .1 .1 .0) (s .args .site .at) (f .ensures .0 j) (c .before .before .before .before .before .before .n .given .1)) (p .ensures)),
+      f .ensures .1,
+    )
 
 same-length-3 : tie.Need-same-length-3
 same-length-3 c = refl
@@ -43,11 +44,13 @@ same-length-4 : tie.Need-same-length-4
 same-length-4 c = c .before .before .before .before .before .copies-for .kept .1 .1 .1 .1 .1 .0
 
 returns-2 : tie.Need-returns-2
-returns-2 c j =
+returns-2 c =
     let s = c .before .before .before .before .before .before .before .before .before .before .before .before in
     let f = c .before .before .before .before .before .copies-for in
-    let b = now (s .args .tree) in
-    refusal-follows b (refused-of b (f .last .1 .1 .1 .1 .1 .0) (s .args .site .at) (f .ensures j) (c .before .cause .given .1))
+    let b = now (s .args .tree) in (
+      (λ j. refusal-follows b (refused-of b (f .last .1 .1 .1 .1 .1 .0) (s .args .site .at) (f .ensures .0 j) (c .before .cause .given .1))),
+      f .ensures .1,
+    )
 
 pub place-copies-spec : {M : Type 1} → statement M
 place-copies-spec =
