@@ -1,66 +1,131 @@
-// Reads setup and commands from standard input and prints the answers and then the listing.
-mod command_phase;
-mod listing_phase;
-mod setup_phase;
-mod streams;
-
+// The program: reads its input into a window, makes the library's calls, and prints what is printed for them. What it does next, and
+// what is printed, `agenda` decides.
+ghost use Prim.Native.Nat.{_≤_};
 ghost use lib.ListN.{length};
-ghost use Rattle.patterns.specs.Held.{Window-held, Answering, Wide-window};
-use command_phase::run_lines;
-use listing_phase::print_listing;
-use setup_phase::read_setup;
-use setup_phase::set_up;
+ghost use Rattle.agenda.specs.Agenda.{Held, Call-held};
+ghost use Rattle.patterns.specs.Held.{Stays, Wide-window, Answering};
+use agenda::Call;
+use agenda::Next;
+use agenda::Phase;
+use agenda::Place;
+use agenda::after_read;
+use agenda::goes_on;
+use agenda::report;
+use agenda::steps::next;
+use buffers::move_bytes;
+use libc::STDERR_FILENO;
+use libc::STDIN_FILENO;
+use libc::STDOUT_FILENO;
+use shell::Answer;
 
-// Which of a buffer's bytes are still to be handled.
-pub struct Window {
-    pub from: usize,
-    pub to: usize,
-    // Whether the input has ended.
-    pub ended: bool,
-    // Whether these bytes go on with a line that has been answered already, because it filled the window.
-    pub passing: bool,
-}
-
-// What a step comes to.
+// What a turn comes to.
 pub enum Step {
-    // There is more to do, from this window on.
-    On(Window),
-    // All is done, up to this window.
-    Over(Window),
-    // Reading or writing has failed, and that has been said.
-    Failed,
+    // There is more to do, from this place on.
+    On(Place),
+    // All is done, or the program cannot go on, and that has been said.
+    Ended,
 }
 
-// What is to be done next with the command lines.
-pub enum Turn {
-    // The line up to this place is to be run, unless it has been answered, and then what is left.
-    Line { end: usize, rest: Window },
-    // More of the line is to be read.
-    Read,
-    // There are no more.
-    Over,
+// Says on standard error why the program ends.
+fn say(text: &[u8]) {
+    io::write_all(STDERR_FILENO, text);
 }
 
-// The command lines from a window on, and then the listing.
-fn run_all(store: &mut [u8], window: &mut [u8], w: Window, answer: &mut [u8])
-    requires { ⌜ Window-held w (length (now window)) ⌝ }
-    requires { ⌜ Answering (now answer) ⌝ }
+// Prints the first n bytes of a buffer, or says that this failed.
+fn print(out: &[u8], n: usize) -> bool
+    requires { ⌜ n ≤ length (now out) ⌝ }
 {
-    if run_lines(store, window, w, answer) {
-        print_listing(store, answer);
+    if io::write_all(STDOUT_FILENO, &out[..n]) {
+        return true;
+    }
+    say(b"patterns: cannot write to standard output\n");
+    false
+}
+
+// Moves what is left to the front of the window and reads once behind it.
+fn read_on(window: &mut [u8], at: Place) -> Step
+    requires { ⌜ Held at (length (now window)) ⌝ }
+    ensures { λ r. ⌜ Stays r (length (now (window .exit))) ⌝ }
+{
+    let from = at.from;
+    let kept = at.to - from;
+    move_bytes(window, from, 0, kept);
+    let got = libc::read(STDIN_FILENO, &mut window[kept..]);
+    if got < 0 {
+        say(b"patterns: cannot read standard input\n");
+        return Step::Ended;
+    }
+    let n = io::count(got, &window[kept..]);
+    Step::On(after_read(at, n))
+}
+
+// Makes a call of the library.
+fn answer_to(store: &mut [u8], window: &[u8], call: Call, answer: &mut [u8]) -> Answer
+    requires { ⌜ Call-held call (length (now window)) ⌝ }
+{
+    match call {
+        Call::Setup { end } => library::setup(store, &window[..end]),
+        Call::Run { from, end } => library::run(store, &window[from..end], answer),
+        Call::List { n } => library::listing(store, n, answer),
     }
 }
 
-// The whole program over its buffers.
+// Makes a call and prints what is printed for it.
+fn make_call(store: &mut [u8], window: &[u8], call: Call, then: Place, answer: &mut [u8]) -> Step
+    requires { ⌜ Call-held call (length (now window)) ⌝ }
+    requires { ⌜ Held then (length (now window)) ⌝ }
+    requires { ⌜ Answering (now answer) ⌝ }
+    ensures { λ r. ⌜ Stays r (length (now (window .entry))) ⌝ }
+{
+    let r = answer_to(store, window, call, answer);
+    let mut out = [0u8; 4128];
+    let n = report(call, r, answer, &mut out);
+    if !print(&out, n) {
+        return Step::Ended;
+    }
+    if goes_on(call, r) {
+        return Step::On(then);
+    }
+    Step::Ended
+}
+
+// Does what is to be done next.
+fn turn(store: &mut [u8], window: &mut [u8], at: Place, answer: &mut [u8]) -> Step
+    requires { ⌜ Held at (length (now window)) ⌝ }
+    requires { ⌜ Answering (now answer) ⌝ }
+    ensures { λ r. ⌜ Stays r (length (now (window .exit))) ⌝ }
+{
+    match next(window, at) {
+        Next::Call { call, then } => make_call(store, window, call, then, answer),
+        Next::On(then) => Step::On(then),
+        Next::Read => read_on(window, at),
+        Next::Over => Step::Ended,
+        Next::TooLong => {
+            say(b"patterns: the setup is longer than 65,536 bytes\n");
+            Step::Ended
+        }
+    }
+}
+
+// The whole program over its buffers. The turns are more than any run uses.
 fn serve(store: &mut [u8], window: &mut [u8], answer: &mut [u8])
     requires { ⌜ Wide-window (now window) ⌝ }
     requires { ⌜ Answering (now answer) ⌝ }
 {
-    let Step::Over(w) = read_setup(window) else {
-        return;
+    let mut at = Place {
+        from: 0,
+        to: 0,
+        ended: false,
+        passing: false,
+        phase: Phase::Setup,
     };
-    if set_up(store, window, w, answer) {
-        run_all(store, window, w, answer);
+    let mut turns = u64::MAX;
+    while turns > 0 {
+        turns -= 1;
+        match turn(store, window, at, answer) {
+            Step::On(then) => at = then,
+            Step::Ended => return,
+        }
     }
 }
 

@@ -1,0 +1,138 @@
+-- What the program does next: by the phase it is in, the bytes of its window, and its place in them. What is printed for each call,
+-- and whether the program goes on behind it.
+use mathlib.Core.Path.{_≡_}
+use mathlib.Core.List.{List, [], _∷_, _++_}
+use mathlib.Core.Option.{Option, none, some}
+use mathlib.Core.Bool.{Bool, true, false, cond, not}
+use Prim.Native.Nat.{ℕ, suc, _+_, _-_, _≤_}
+use lib.Dec.{eqb, ltb}
+use lib.ListN.{length, take}
+use Rattle.buffers.specs.Text.{Text}
+use Rattle.syntax.specs.Pieces.{newline}
+use Rattle.tree.specs.declared.Cause.the-variants.{Missing}
+use Rattle.tree.specs.Causes.{number}
+use Rattle.shell.specs.Replies.{Told}
+use Rattle.calls.specs.Program.{text-told, call-line}
+use Rattle.agenda.specs.declared.NextLine.{NextLine}
+use Rattle.agenda.specs.declared.NextLine.the-variants as found
+use Rattle.agenda.specs.declared.Phase.{Phase}
+use Rattle.agenda.specs.declared.Phase.the-variants as phase
+use Rattle.agenda.specs.declared.Place.{Place}
+use Rattle.agenda.specs.declared.Call.{Call}
+use Rattle.agenda.specs.declared.Call.the-variants as call
+use Rattle.agenda.specs.declared.Next.{Next}
+use Rattle.agenda.specs.declared.Next.the-variants as next
+use Rattle.agenda.specs.InputLines.{setup-length, next-line}
+
+-- a place lies in a window of so many bytes
+pub record Held (at : Place) (n : ℕ) : Type 0 where
+  pub wide : n ≡ 65536
+  pub ordered : at .from ≤ at .to
+  pub within : at .to ≤ n
+
+-- the bytes that a call is made with lie in it
+abbrev pub Call-held : Call → ℕ → Type 0
+Call-held (call.Setup e) n = e ≤ n
+Call-held (call.Run a e) n = (a ≤ e) × (e ≤ n)
+Call-held (call.List k) n = Unit {0}
+
+-- what is to be done stays in it
+abbrev pub Next-held : Next → ℕ → Type 0
+Next-held (next.Call c then) n = Call-held c n × Held then n
+Next-held (next.On at) n = Held at n
+Next-held next.Read n = Unit {0}
+Next-held next.Over n = Unit {0}
+Next-held next.TooLong n = Unit {0}
+
+-- ---- places
+
+-- where a command line begins
+abbrev pub lines-from : Place → ℕ → Place
+lines-from at p = record { from = p; to = at .to; ended = at .ended; passing = false; phase = phase.Lines }
+
+-- at a line of the listing
+abbrev pub listed-from : Place → ℕ → Place
+listed-from at n = record { from = at .from; to = at .to; ended = at .ended; passing = false; phase = phase.Listing n }
+
+-- where all that has been read belongs to a line that has been answered
+abbrev pub passing-from : ℕ → Place
+passing-from p = record { from = p; to = p; ended = false; passing = true; phase = phase.Lines }
+
+-- when so many bytes have been read behind those that are left, which stand at the window's front
+abbrev pub read-place : Place → ℕ → Place
+read-place at got = record { from = 0; to = (at .to - at .from) + got; ended = eqb got 0; passing = at .passing; phase = at .phase }
+
+-- ---- the setup
+
+-- the setup is the window's first bytes, and the command lines follow it
+abbrev pub call-setup : Place → ℕ → Next
+call-setup at end = next.Call (call.Setup end) (lines-from at end)
+
+-- where its end has not been read, in a window of so many bytes; where the input has ended, all of it is the setup
+unfoldable pub open-setup : ℕ → Place → Next
+open-setup n at = cond (at .ended) (call-setup at (at .to)) (cond (eqb (at .to) n) next.TooLong next.Read)
+
+-- by where its first line `end` is over
+unfoldable pub ended-setup : ℕ → Place → Option ℕ → Next
+ended-setup n at (some e) = call-setup at e
+ended-setup n at none = open-setup n at
+
+unfoldable pub setup-next : Text → Place → Next
+setup-next t at = ended-setup (length t) at (setup-length (take (at .to) t))
+
+-- ---- the command lines
+
+-- a line is run, unless it has been answered
+unfoldable pub taken : Place → ℕ → Place → Next
+taken at end rest = cond (at .passing) (next.On rest) (next.Call (call.Run (at .from) end) rest)
+
+-- a line whose end has not been read: of one that fills the window the first bytes stand for the whole
+unfoldable pub unended : ℕ → Place → Next
+unended n at = cond (ltb (at .to - at .from) n) next.Read (taken at (at .to) (passing-from (at .to)))
+
+-- by what the next line is
+unfoldable pub found-line : ℕ → Place → NextLine → Next
+found-line n at (found.Line end) = taken at end (lines-from at (suc end))
+found-line n at found.Last = taken at (at .to) (lines-from at (at .to))
+found-line n at found.More = unended n at
+found-line n at found.Nothing = next.On (listed-from at 0)
+
+unfoldable pub line-next : Text → Place → Next
+line-next t at = found-line (length t) at (next-line (take (at .to) t) (at .from) (at .ended))
+
+-- ---- the listing
+
+-- 256 nodes have a line each, and one call more says that there is none
+unfoldable pub list-next : Place → ℕ → Next
+list-next at n = cond (ltb n 257) (next.Call (call.List n) (listed-from at (suc n))) next.Over
+
+-- ---- all phases
+
+unfoldable pub by-phase : Text → Place → Phase → Next
+by-phase t at phase.Setup = setup-next t at
+by-phase t at phase.Lines = line-next t at
+by-phase t at (phase.Listing n) = list-next at n
+
+unfoldable pub next-of : Text → Place → Next
+next-of t at = by-phase t at (at .phase)
+
+-- ---- what is printed, and whether the program goes on
+
+-- of a setup the refusal
+unfoldable pub setup-report : Told → List ℕ → Text
+setup-report t answer = cond (eqb (t .number) 0) [] (call-line t answer ++ (newline ∷ []))
+
+-- of the listing a line that is there
+unfoldable pub list-report : Told → List ℕ → Text
+list-report t answer = cond (eqb (number Missing) (t .number)) [] (text-told (t .values) answer ++ (newline ∷ []))
+
+unfoldable pub report-text : Call → Told → List ℕ → Text
+report-text (call.Setup e) t answer = setup-report t answer
+report-text (call.Run a e) t answer = call-line t answer ++ (newline ∷ [])
+report-text (call.List n) t answer = list-report t answer
+
+-- behind a setup that is done, every command line, and a line of the listing that is there
+unfoldable pub goes-on : Call → Told → Bool
+goes-on (call.Setup e) t = eqb (t .number) 0
+goes-on (call.Run a e) t = true
+goes-on (call.List n) t = not (eqb (number Missing) (t .number))

@@ -1,0 +1,87 @@
+-- `patterns::answer_to` meets its contract: the bytes that a call is made with lie in the window.
+use mathlib.Core.Path.{sym}
+use lib.Seq.{length-take-le}
+use denote.Ref.{now}
+use borrow.Author.Needs.{needs}
+use Rattle.patterns.proofs.answer_to.Statement.{statement}
+use Rattle.patterns.proofs.answer_to.Tie as tie
+
+enum-known-call : tie.Need-enum-known-call
+enum-known-call c = c .match .keys1
+
+slice-aggregate-setup : tie.Need-slice-aggregate-setup
+slice-aggregate-setup c =
+    let s = c .before .before .before .before .before .before .before .before in
+    let g = c .before .before .before .call .given in
+    sym (length-take-le (g .0 .0) (now (s .args .window)) (rw (g .1) at (s .pre)))
+
+setup-requires : tie.Need-setup-requires
+setup-requires c κs = tt
+
+enum-known-call-2 : tie.Need-enum-known-call-2
+enum-known-call-2 c = c .match .keys2
+
+sub-run : tie.Need-sub-run
+sub-run c = let k = rw (c .before .before .call2 .given .1) at (c .before .before .before .before .before .before .before .pre) in k .0
+
+part-run-start : tie.Need-part-run-start
+part-run-start c = let k = rw (c .before .before .call2 .given .1) at (c .before .before .before .before .before .before .before .pre) in k .0
+
+part-run-end : tie.Need-part-run-end
+part-run-end c = let k = rw (c .before .before .call2 .given .1) at (c .before .before .before .before .before .before .before .pre) in k .1
+
+run-requires : tie.Need-run-requires
+run-requires c κs = tt
+
+enum-known-call-3 : tie.Need-enum-known-call-3
+enum-known-call-3 c = c .match .keys3
+
+listing-requires : tie.Need-listing-requires
+listing-requires c κs = tt
+
+same-length : tie.Need-same-length
+same-length c = search needs
+
+returns : tie.Need-returns
+returns c = tt
+
+same-length-2 : tie.Need-same-length-2
+same-length-2 c = search needs
+
+same-length-3 : tie.Need-same-length-3
+same-length-3 c = search needs
+
+returns-2 : tie.Need-returns-2
+returns-2 c = tt
+
+same-length-4 : tie.Need-same-length-4
+same-length-4 c = search needs
+
+same-length-5 : tie.Need-same-length-5
+same-length-5 c = search needs
+
+returns-3 : tie.Need-returns-3
+returns-3 c = tt
+
+pub answer-to-spec : {M : Type 1} → statement M
+answer-to-spec =
+    tie.close
+    (tie.spec
+    enum-known-call
+    slice-aggregate-setup
+    setup-requires
+    enum-known-call-2
+    sub-run
+    part-run-start
+    part-run-end
+    run-requires
+    enum-known-call-3
+    listing-requires
+    same-length
+    returns
+    same-length-2
+    same-length-3
+    returns-2
+    same-length-4
+    same-length-5
+    returns-3)
