@@ -1,8 +1,7 @@
 -- `patterns::answer_to` meets its contract: the bytes that a call is made with lie in the window.
-use mathlib.Core.Path.{sym}
+use mathlib.Core.Path.{refl, sym}
 use lib.Seq.{length-take-le}
 use denote.Ref.{now}
-use borrow.Author.Needs.{needs}
 use Rattle.patterns.proofs.answer_to.Statement.{statement}
 use Rattle.patterns.proofs.answer_to.Tie as tie
 
@@ -40,25 +39,25 @@ listing-requires : tie.Need-listing-requires
 listing-requires c κs = tt
 
 same-length : tie.Need-same-length
-same-length c = search needs
+same-length c = c .before .before .setup .kept .0
 
 returns : tie.Need-returns
 returns c = tt
 
 same-length-2 : tie.Need-same-length-2
-same-length-2 c = search needs
+same-length-2 c = c .before .before .before .before .run .kept .0
 
 same-length-3 : tie.Need-same-length-3
-same-length-3 c = search needs
+same-length-3 c = c .before .before .before .before .run .kept .1 .1 .0
 
 returns-2 : tie.Need-returns-2
 returns-2 c = tt
 
 same-length-4 : tie.Need-same-length-4
-same-length-4 c = search needs
+same-length-4 c = refl
 
 same-length-5 : tie.Need-same-length-5
-same-length-5 c = search needs
+same-length-5 c = c .before .before .listing .kept .1 .1 .0
 
 returns-3 : tie.Need-returns-3
 returns-3 c = tt

@@ -1,14 +1,23 @@
 -- `patterns::read_on` meets its contract: what is left fits in front of the window, and what is read behind it.
-use mathlib.Core.Path.{_∙_}
-use Prim.Native.Nat.{_+_, _-_, _≤_}
+use mathlib.Core.Path.{_≡_, refl, _∙_}
+use mathlib.Core.List.{List}
+use Prim.Native.Nat.{ℕ, _+_, _-_, _≤_}
 use native.Mathlib.Omega.{arith}
-use lib.ListN.{length}
+use lib.ListN.{take, drop, length-drop, length}
+use lib.Seq.{length-take-le}
 use denote.Ref.{now}
-use borrow.Rule.Slice.PartMut.{same-len-mid}
+use borrow.Rule.Slice.PartMut.{midOf, putMid, same-len-mid}
 use Rattle.agenda.specs.AgendaLaws.{read-held}
-use borrow.Author.Needs.{needs}
 use Rattle.patterns.proofs.read_on.Statement.{statement}
 use Rattle.patterns.proofs.read_on.Tie as tie
+
+-- what is left in front, and what is read behind it, fit in the window
+fits : (x : List ℕ) (w k n : ℕ) → length x ≡ w → k ≤ w → n ≤ length (take (length x - k) (drop k x)) → k + n ≤ w
+fits x w k n e h i = omega (arith, e, length-drop k x, length-take-le (length x - k) (drop k x) (omega (arith, length-drop k x)))
+
+-- the window keeps its length when bytes are moved in it and others read into its last part
+still : (k : ℕ) (m r b : List ℕ) → length m ≡ length b → length r ≡ length (midOf k (length m - k) m) → length (putMid k (length m - k) m r) ≡ length b
+still k m r b e h = same-len-mid k (length m - k) m r h ∙ e
 
 sub-kept : tie.Need-sub-kept
 sub-kept c = c .before .before .pre .ordered
@@ -31,7 +40,7 @@ read-requires : tie.Need-read-requires
 read-requires c κs = tt
 
 slice-aggregate-say : tie.Need-slice-aggregate-say
-slice-aggregate-say c = search needs
+slice-aggregate-say c = refl
 
 say-requires : tie.Need-say-requires
 say-requires c κs = tt
@@ -40,7 +49,9 @@ same-length : tie.Need-same-length
 same-length c =
     let s = c .before .before .before .before .before .before .before .before .before .before .before .before .before in
     let m = c .before .before .before .before .before .before .before .before .before .move-bytes in
-    same-len-mid (s .args .at .to - s .args .at .from) (length (m .last .0) - (s .args .at .to - s .args .at .from)) (m .last .0) (c .before .before .before .before .before .read .last .1 .0) (c .before .before .before .before .before .read .kept .1 .0) ∙ m .kept .0
+    let r = c .before .before .before .before .before .read in
+    let e = still (s .args .at .to - s .args .at .from) (m .last .0) (r .last .1 .0) (now (s .args .window)) (m .kept .0) (r .kept .1 .0) in
+    e
 
 returns : tie.Need-returns
 returns c = tt
@@ -49,14 +60,16 @@ sub-count : tie.Need-sub-count
 sub-count c =
     let s = c .before .before .before .before .before .before .before .before .before .before .before in
     let m = c .before .before .before .before .before .before .before .move-bytes in
-    let e = same-len-mid (s .args .at .to - s .args .at .from) (length (m .last .0) - (s .args .at .to - s .args .at .from)) (m .last .0) (c .before .before .before .read .last .1 .0) (c .before .before .before .read .kept .1 .0) ∙ m .kept .0 in
+    let r = c .before .before .before .read in
+    let e = still (s .args .at .to - s .args .at .from) (m .last .0) (r .last .1 .0) (now (s .args .window)) (m .kept .0) (r .kept .1 .0) in
     omega (arith, e, s .pre .within)
 
 part-count-start : tie.Need-part-count-start
 part-count-start c =
     let s = c .before .before .before .before .before .before .before .before .before .before .before .before in
     let m = c .before .before .before .before .before .before .before .before .move-bytes in
-    let e = same-len-mid (s .args .at .to - s .args .at .from) (length (m .last .0) - (s .args .at .to - s .args .at .from)) (m .last .0) (c .before .before .before .before .read .last .1 .0) (c .before .before .before .before .read .kept .1 .0) ∙ m .kept .0 in
+    let r = c .before .before .before .before .read in
+    let e = still (s .args .at .to - s .args .at .from) (m .last .0) (r .last .1 .0) (now (s .args .window)) (m .kept .0) (r .kept .1 .0) in
     omega (arith, e, s .pre .within)
 
 part-count-end : tie.Need-part-count-end
@@ -66,21 +79,34 @@ count-requires : tie.Need-count-requires
 count-requires c κs = tt
 
 after-read-requires : tie.Need-after-read-requires
-after-read-requires c κs = search needs
+after-read-requires c κs =
+    let s = c .before .before .before .before .before .before .before .before .before .before .before .before .before .before in
+    let m = c .before .before .before .before .before .before .before .before .before .before .move-bytes in
+    let r = c .before .before .before .before .before .before .read in
+    let e = still (s .args .at .to - s .args .at .from) (m .last .0) (r .last .1 .0) (now (s .args .window)) (m .kept .0) (r .kept .1 .0) in
+    let n = c .count in
+    let h = s .pre in
+    let w = fits (putMid (s .args .at .to - s .args .at .from) (length (m .last .0) - (s .args .at .to - s .args .at .from)) (m .last .0) (r .last .1 .0)) (length (now (s .args .window))) (s .args .at .to - s .args .at .from) (n .result) e (omega (arith, h .within)) (n .ensures .0 .0) in
+    (h .ordered, omega (arith, w, h .wide))
 
 same-length-2 : tie.Need-same-length-2
 same-length-2 c =
     let s = c .before .before .before .before .before .before .before .before .before .before .before .before .before .before .before in
     let m = c .before .before .before .before .before .before .before .before .before .before .before .move-bytes in
-    same-len-mid (s .args .at .to - s .args .at .from) (length (m .last .0) - (s .args .at .to - s .args .at .from)) (m .last .0) (c .before .before .before .before .before .before .before .read .last .1 .0) (c .before .before .before .before .before .before .before .read .kept .1 .0) ∙ m .kept .0
+    let r = c .before .before .before .before .before .before .before .read in
+    let e = still (s .args .at .to - s .args .at .from) (m .last .0) (r .last .1 .0) (now (s .args .window)) (m .kept .0) (r .kept .1 .0) in
+    e
 
 returns-2 : tie.Need-returns-2
 returns-2 c =
     let s = c .before .before .before .before .before .before .before .before .before .before .before .before .before .before .before in
     let m = c .before .before .before .before .before .before .before .before .before .before .before .move-bytes in
-    let e = same-len-mid (s .args .at .to - s .args .at .from) (length (m .last .0) - (s .args .at .to - s .args .at .from)) (m .last .0) (c .before .before .before .before .before .before .before .read .last .1 .0) (c .before .before .before .before .before .before .before .read .kept .1 .0) ∙ m .kept .0 in
-    let f : (s .args .at .to - s .args .at .from) + c .before .count .result ≤ length (now (s .args .window)) = search needs in
-    rw (c .after-read .ensures, e) (read-held (s .args .at) (length (now (s .args .window))) (c .before .count .result) (s .pre) f)
+    let r = c .before .before .before .before .before .before .before .read in
+    let e = still (s .args .at .to - s .args .at .from) (m .last .0) (r .last .1 .0) (now (s .args .window)) (m .kept .0) (r .kept .1 .0) in
+    let n = c .before .count in
+    let h = s .pre in
+    let w = fits (putMid (s .args .at .to - s .args .at .from) (length (m .last .0) - (s .args .at .to - s .args .at .from)) (m .last .0) (r .last .1 .0)) (length (now (s .args .window))) (s .args .at .to - s .args .at .from) (n .result) e (omega (arith, h .within)) (n .ensures .0 .0) in
+    rw (c .after-read .ensures, e) (read-held (s .args .at) (length (now (s .args .window))) (n .result) h w)
 
 pub read-on-spec : {M : Type 1} → statement M
 read-on-spec =

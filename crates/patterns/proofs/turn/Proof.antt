@@ -2,12 +2,11 @@
 use mathlib.Core.Path.{refl, sym, _∙_}
 use denote.Ref.{now}
 use Rattle.agenda.specs.AgendaLaws.{next-held}
-use borrow.Author.Needs.{needs}
 use Rattle.patterns.proofs.turn.Statement.{statement}
 use Rattle.patterns.proofs.turn.Tie as tie
 
 next-requires : tie.Need-next-requires
-next-requires c κs = search needs
+next-requires c κs = c .before .before .before .before .pre .0
 
 enum-known-call : tie.Need-enum-known-call
 enum-known-call c = c .match .keys1
@@ -27,7 +26,7 @@ enum-told : tie.Need-enum-told
 enum-told c = c .match .keys3
 
 read-on-requires : tie.Need-read-on-requires
-read-on-requires c κs = search needs
+read-on-requires c κs = c .before .before .before .before .before .before .before .before .pre .0
 
 enum-told-2 : tie.Need-enum-told-2
 enum-told-2 c = c .match .keys4
@@ -42,19 +41,19 @@ say-requires : tie.Need-say-requires
 say-requires c κs = tt
 
 same-length : tie.Need-same-length
-same-length c = search needs
+same-length c = c .before .before .before .before .make-call .kept .0
 
 same-length-2 : tie.Need-same-length-2
-same-length-2 c = search needs
+same-length-2 c = refl
 
 same-length-3 : tie.Need-same-length-3
-same-length-3 c = search needs
+same-length-3 c = c .before .before .before .before .make-call .kept .1 .1 .1 .1 .0
 
 returns : tie.Need-returns
-returns c = search needs
+returns c = c .before .before .before .before .make-call .ensures
 
 same-length-4 : tie.Need-same-length-4
-same-length-4 c = search needs
+same-length-4 c = refl
 
 returns-2 : tie.Need-returns-2
 returns-2 c =
@@ -63,19 +62,19 @@ returns-2 c =
     rw (sym (c .before .before .before .next .ensures) ∙ c .before .then .given .1) at h
 
 same-length-5 : tie.Need-same-length-5
-same-length-5 c = search needs
+same-length-5 c = c .before .before .read-on .kept .0
 
 returns-3 : tie.Need-returns-3
-returns-3 c = search needs
+returns-3 c = c .before .before .read-on .ensures
 
 same-length-6 : tie.Need-same-length-6
-same-length-6 c = search needs
+same-length-6 c = refl
 
 returns-4 : tie.Need-returns-4
 returns-4 c = tt
 
 same-length-7 : tie.Need-same-length-7
-same-length-7 c = search needs
+same-length-7 c = refl
 
 returns-5 : tie.Need-returns-5
 returns-5 c = tt

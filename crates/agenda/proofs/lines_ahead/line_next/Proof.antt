@@ -8,7 +8,6 @@ use Rattle.agenda.specs.declared.NextLine.the-variants.{Line, Last, More
 use Rattle.agenda.specs.declared.Next.the-variants.{On}
 use Rattle.agenda.specs.AgendaLaws.{line-within, line-found}
 use Rattle.agenda.specs.Agenda.{lines-from, taken, found-line}
-use borrow.Author.Needs.{needs}
 use Rattle.agenda.proofs.lines_ahead.line_next.Statement.{statement}
 use Rattle.agenda.proofs.lines_ahead.line_next.Tie as tie
 
@@ -16,10 +15,10 @@ slice-aggregate-next-line : tie.Need-slice-aggregate-next-line
 slice-aggregate-next-line c = let s = c .before .before in sym (length-take-le (s .args .at .to) (now (s .args .window)) (s .pre .within))
 
 next-line-requires : tie.Need-next-line-requires
-next-line-requires c κs = search needs
+next-line-requires c κs = tt
 
 enum-known-end : tie.Need-enum-known-end
-enum-known-end c = search needs
+enum-known-end c = c .match .keys1
 
 add-lines-from : tie.Need-add-lines-from
 add-lines-from c =
@@ -29,31 +28,31 @@ add-lines-from c =
     omega (arith, line-within (now (s .args .window)) (s .args .at) h (e .0 .0) (sym (c .before .before .before .next-line .ensures) ∙ e .1) .1, h .wide, h .within)
 
 lines-from-requires : tie.Need-lines-from-requires
-lines-from-requires c κs = search needs
+lines-from-requires c κs = tt
 
 taken-requires : tie.Need-taken-requires
-taken-requires c κs = search needs
+taken-requires c κs = tt
 
 enum-told : tie.Need-enum-told
-enum-told c = search needs
+enum-told c = c .match .keys2
 
 lines-from-requires-2 : tie.Need-lines-from-requires-2
-lines-from-requires-2 c κs = search needs
+lines-from-requires-2 c κs = tt
 
 taken-requires-2 : tie.Need-taken-requires-2
-taken-requires-2 c κs = search needs
+taken-requires-2 c κs = tt
 
 enum-told-2 : tie.Need-enum-told-2
-enum-told-2 c = search needs
+enum-told-2 c = c .match .keys3
 
 unended-requires : tie.Need-unended-requires
-unended-requires c κs = search needs
+unended-requires c κs = c .before .before .before .before .before .pre
 
 enum-told-3 : tie.Need-enum-told-3
-enum-told-3 c = search needs
+enum-told-3 c = c .match .keys4
 
 listed-from-requires : tie.Need-listed-from-requires
-listed-from-requires c κs = search needs
+listed-from-requires c κs = tt
 
 returns : tie.Need-returns
 unfolding found-line

@@ -14,7 +14,7 @@ unfolding unended
 returns c = rw (lt-ltb _ _ (c .if1 .taken))
 
 taken-requires : tie.Need-taken-requires
-taken-requires c κs = search needs
+taken-requires c κs = tt
 
 returns-2 : tie.Need-returns-2
 unfolding unended

@@ -1,23 +1,22 @@
 -- `agenda::reports::goes_on` meets its contract: by the call.
 use Rattle.agenda.specs.Agenda.{goes-on}
-use borrow.Author.Needs.{needs}
 use Rattle.agenda.proofs.reports.goes_on.Statement.{statement}
 use Rattle.agenda.proofs.reports.goes_on.Tie as tie
 
 enum-told : tie.Need-enum-told
-enum-told c = search needs
+enum-told c = c .match .keys1
 
 is-done-requires : tie.Need-is-done-requires
-is-done-requires c κs = search needs
+is-done-requires c κs = tt
 
 enum-told-2 : tie.Need-enum-told-2
-enum-told-2 c = search needs
+enum-told-2 c = c .match .keys2
 
 enum-told-3 : tie.Need-enum-told-3
-enum-told-3 c = search needs
+enum-told-3 c = c .match .keys3
 
 is-missing-requires : tie.Need-is-missing-requires
-is-missing-requires c κs = search needs
+is-missing-requires c κs = tt
 
 returns : tie.Need-returns
 unfolding goes-on

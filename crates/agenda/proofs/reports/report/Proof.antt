@@ -5,39 +5,39 @@ use Rattle.agenda.proofs.reports.report.Statement.{statement}
 use Rattle.agenda.proofs.reports.report.Tie as tie
 
 enum-told : tie.Need-enum-told
-enum-told c = search needs
+enum-told c = c .match .keys1
 
 report-setup-requires : tie.Need-report-setup-requires
 report-setup-requires c κs = search needs
 
 enum-told-2 : tie.Need-enum-told-2
-enum-told-2 c = search needs
+enum-told-2 c = c .match .keys2
 
 write-reply-requires : tie.Need-write-reply-requires
 write-reply-requires c κs = search needs
 
 enum-told-3 : tie.Need-enum-told-3
-enum-told-3 c = search needs
+enum-told-3 c = c .match .keys3
 
 report-listed-requires : tie.Need-report-listed-requires
 report-listed-requires c κs = search needs
 
 same-length : tie.Need-same-length
-same-length c = search needs
+same-length c = c .before .before .report-setup .kept .1 .1 .0
 
 returns : tie.Need-returns
 unfolding report-text
 returns c = rw (c .before .before .before .before .enum-told .given .1) (c .before .before .report-setup .ensures)
 
 same-length-2 : tie.Need-same-length-2
-same-length-2 c = search needs
+same-length-2 c = c .before .before .write-reply .kept .1 .1 .0
 
 returns-2 : tie.Need-returns-2
 unfolding report-text
 returns-2 c = rw (c .before .before .before .before .enum-told2 .given .1) (c .before .before .write-reply .ensures)
 
 same-length-3 : tie.Need-same-length-3
-same-length-3 c = search needs
+same-length-3 c = c .before .before .report-listed .kept .1 .1 .0
 
 returns-3 : tie.Need-returns-3
 unfolding report-text

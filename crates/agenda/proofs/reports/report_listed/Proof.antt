@@ -6,7 +6,7 @@ use Rattle.agenda.proofs.reports.report_listed.Statement.{statement}
 use Rattle.agenda.proofs.reports.report_listed.Tie as tie
 
 is-missing-requires : tie.Need-is-missing-requires
-is-missing-requires c κs = search needs
+is-missing-requires c κs = tt
 
 returns : tie.Need-returns
 unfolding list-report
@@ -16,7 +16,7 @@ write-listed-requires : tie.Need-write-listed-requires
 write-listed-requires c κs = search needs
 
 same-length : tie.Need-same-length
-same-length c = search needs
+same-length c = c .before .before .write-listed .kept .1 .1 .0
 
 returns-2 : tie.Need-returns-2
 unfolding list-report

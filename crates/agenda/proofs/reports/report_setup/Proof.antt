@@ -6,7 +6,7 @@ use Rattle.agenda.proofs.reports.report_setup.Statement.{statement}
 use Rattle.agenda.proofs.reports.report_setup.Tie as tie
 
 is-done-requires : tie.Need-is-done-requires
-is-done-requires c κs = search needs
+is-done-requires c κs = tt
 
 returns : tie.Need-returns
 unfolding setup-report
@@ -16,7 +16,7 @@ write-reply-requires : tie.Need-write-reply-requires
 write-reply-requires c κs = search needs
 
 same-length : tie.Need-same-length
-same-length c = search needs
+same-length c = c .before .before .write-reply .kept .1 .1 .0
 
 returns-2 : tie.Need-returns-2
 unfolding setup-report

@@ -1,16 +1,16 @@
 -- `agenda::steps::list_next` meets its contract: by whether a line can be there.
+use native.Mathlib.Omega.{arith}
 use native.Mathlib.Numerals.{add-one}
 use borrow.Author.Tests.{lt-ltb, le-ltb}
 use Rattle.agenda.specs.Agenda.{list-next}
-use borrow.Author.Needs.{needs}
 use Rattle.agenda.proofs.steps.list_next.Statement.{statement}
 use Rattle.agenda.proofs.steps.list_next.Tie as tie
 
 add-listed-from : tie.Need-add-listed-from
-add-listed-from c = search needs
+add-listed-from c = omega arith
 
 listed-from-requires : tie.Need-listed-from-requires
-listed-from-requires c κs = search needs
+listed-from-requires c κs = tt
 
 returns : tie.Need-returns
 unfolding list-next

@@ -4,27 +4,26 @@ use denote.Ref.{now}
 use Rattle.agenda.specs.declared.Phase.the-variants.{Setup, Lines, Listing}
 use Rattle.agenda.specs.AgendaLaws.{in-phase}
 use Rattle.agenda.specs.Agenda.{by-phase}
-use borrow.Author.Needs.{needs}
 use Rattle.agenda.proofs.steps.next.Statement.{statement}
 use Rattle.agenda.proofs.steps.next.Tie as tie
 
 enum-told : tie.Need-enum-told
-enum-told c = search needs
+enum-told c = c .match .keys1
 
 setup-next-requires : tie.Need-setup-next-requires
-setup-next-requires c κs = search needs
+setup-next-requires c κs = c .before .before .before .pre
 
 enum-told-2 : tie.Need-enum-told-2
-enum-told-2 c = search needs
+enum-told-2 c = c .match .keys2
 
 line-next-requires : tie.Need-line-next-requires
-line-next-requires c κs = search needs
+line-next-requires c κs = c .before .before .before .pre
 
 enum-known-phase : tie.Need-enum-known-phase
-enum-known-phase c = search needs
+enum-known-phase c = c .match .keys3
 
 list-next-requires : tie.Need-list-next-requires
-list-next-requires c κs = search needs
+list-next-requires c κs = tt
 
 returns : tie.Need-returns
 unfolding by-phase

@@ -2,12 +2,11 @@
 use mathlib.Core.Path.{_∙_}
 use borrow.Author.Tests.{eq-eqb, ne-eqb}
 use Rattle.agenda.specs.Agenda.{open-setup}
-use borrow.Author.Needs.{needs}
 use Rattle.agenda.proofs.steps.open_setup.Statement.{statement}
 use Rattle.agenda.proofs.steps.open_setup.Tie as tie
 
 call-setup-requires : tie.Need-call-setup-requires
-call-setup-requires c κs = search needs
+call-setup-requires c κs = tt
 
 returns : tie.Need-returns
 unfolding open-setup

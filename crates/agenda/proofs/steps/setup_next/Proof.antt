@@ -3,7 +3,6 @@ use mathlib.Core.Path.{_∙_, sym}
 use lib.Seq.{length-take-le}
 use denote.Ref.{now}
 use Rattle.agenda.specs.AgendaLaws.{setup-found, setup-not-found}
-use borrow.Author.Needs.{needs}
 use Rattle.agenda.proofs.steps.setup_next.Statement.{statement}
 use Rattle.agenda.proofs.steps.setup_next.Tie as tie
 
@@ -11,19 +10,19 @@ slice-aggregate-setup-end : tie.Need-slice-aggregate-setup-end
 slice-aggregate-setup-end c = let s = c .before .before in sym (length-take-le (s .args .at .to) (now (s .args .window)) (s .pre .within))
 
 setup-end-requires : tie.Need-setup-end-requires
-setup-end-requires c κs = search needs
+setup-end-requires c κs = tt
 
 enum-known-end : tie.Need-enum-known-end
-enum-known-end c = search needs
+enum-known-end c = c .match .keys1
 
 call-setup-requires : tie.Need-call-setup-requires
-call-setup-requires c κs = search needs
+call-setup-requires c κs = tt
 
 enum-told : tie.Need-enum-told
-enum-told c = search needs
+enum-told c = c .match .keys2
 
 open-setup-requires : tie.Need-open-setup-requires
-open-setup-requires c κs = search needs
+open-setup-requires c κs = tt
 
 returns : tie.Need-returns
 returns c =
