@@ -239,17 +239,17 @@ was-line false true true end e h = (cc, cc)
 was-line false true false end e h = (cc, cc)
 was-line false false s end e h = (cc, cc)
 
-was-last : (b d s : Bool) (end : ℕ) → cond b (Line end) (cond d (cond s Last Nothing) More) ≡ Last → (b ≡ false) × (s ≡ true)
-was-last true d s end h = (cc, cc)
-was-last false true true end h = (refl, refl)
-was-last false true false end h = (cc, cc)
-was-last false false s end h = (cc, cc)
+was-last : (b d s : Bool) (end : ℕ) → cond b (Line end) (cond d (cond s Last Nothing) More) ≡ Last → (b ≡ false) × (d ≡ true) × (s ≡ true)
+was-last true d s end h = (cc, cc, cc)
+was-last false true true end h = (refl, refl, refl)
+was-last false true false end h = (cc, cc, cc)
+was-last false false s end h = (cc, cc, cc)
 
-was-none : (b d s : Bool) (end : ℕ) → cond b (Line end) (cond d (cond s Last Nothing) More) ≡ Nothing → s ≡ false
-was-none true d s end h = cc
-was-none false true true end h = cc
-was-none false true false end h = refl
-was-none false false s end h = cc
+was-none : (b d s : Bool) (end : ℕ) → cond b (Line end) (cond d (cond s Last Nothing) More) ≡ Nothing → (d ≡ true) × (s ≡ false)
+was-none true d s end h = (cc, cc)
+was-none false true true end h = (cc, cc)
+was-none false true false end h = (refl, refl)
+was-none false false s end h = (cc, cc)
 
 was-more : (b d s : Bool) (end : ℕ) → cond b (Line end) (cond d (cond s Last Nothing) More) ≡ More → (b ≡ false) × (d ≡ false)
 was-more true d s end h = (cc, cc)
@@ -277,12 +277,11 @@ one-piece t at h l =
     pieces-only-from newline t at (length t) h e refl ∙ ap (λ (x : Text). x ∷ []) all
 
 module _ (t : Text) (at : ℕ) (ended : Bool) where
-  -- a line that ends at a byte 10 is the next command, whatever follows what has been read
-  pub next-is-line : (rest : Text) (e : ℕ) → next-line t at ended ≡ Line e →
-      (at ≤ e) × (e < length t)
-      × (command-lines (pieces newline (drop at t ++ rest)) ≡ part t at e ∷ command-lines (pieces newline (drop (suc e) t ++ rest)))
+  -- a line that ends at a byte 10 is the next piece, whatever follows what has been read
+  pub line-is-piece : (rest : Text) (e : ℕ) → next-line t at ended ≡ Line e →
+      (at ≤ e) × (e < length t) × (pieces newline (drop at t ++ rest) ≡ part t at e ∷ pieces newline (drop (suc e) t ++ rest))
   unfolding next-line part
-  next-is-line rest e h =
+  line-is-piece rest e h =
       let u = drop at t in
       let n = piece-length newline u in
       let w = was-line (ltb (at + n) (length t)) ended (ltb at (length t)) (at + n) e h in
@@ -290,38 +289,63 @@ module _ (t : Text) (at : ℕ) (ended : Bool) where
       let s : n < length u = omega (arith, length-drop at t) in
       let m : n ≡ e - at = omega (arith, w .1) in
       let k : at + suc n ≡ suc e = omega (arith, w .1) in
-      let d : drop (suc n) u ≡ drop (suc e) t = drop-drop (suc n) at t ∙ ap (λ (x : ℕ). drop x t) k in
-      let r = drop (suc e) t ++ rest in (
+      let d : drop (suc n) u ≡ drop (suc e) t = drop-drop (suc n) at t ∙ ap (λ (x : ℕ). drop x t) k in (
         omega (arith, w .1),
         omega (arith, w .1),
-        ap command-lines (pieces-with-rest newline u rest s)
-            ∙ ap₂ (λ (x : ℕ) (y : Text). command-lines (take x u ∷ pieces newline (y ++ rest))) m d
-            ∙ first-command (take (e - at) u) (pieces newline r) (pieces-some newline r),
+        pieces-with-rest newline u rest s ∙ ap₂ (λ (x : ℕ) (y : Text). take x u ∷ pieces newline (y ++ rest)) m d,
       )
 
-  -- the last line is all that is left
-  pub next-is-last : next-line t at ended ≡ Last → (at < length t) × (command-lines (pieces newline (drop at t)) ≡ drop at t ∷ [])
+  -- so it is the next command
+  pub next-is-line : (rest : Text) (e : ℕ) → next-line t at ended ≡ Line e →
+      (at ≤ e) × (e < length t)
+      × (command-lines (pieces newline (drop at t ++ rest)) ≡ part t at e ∷ command-lines (pieces newline (drop (suc e) t ++ rest)))
+  next-is-line rest e h =
+      let p = line-is-piece rest e h in
+      let r = drop (suc e) t ++ rest in
+      (p .0, p .1, ap command-lines (p .2) ∙ first-command (part t at e) (pieces newline r) (pieces-some newline r))
+
+  -- the last line is all that is left, where the input has ended
+  pub next-is-last : next-line t at ended ≡ Last →
+      (ended ≡ true) × (at < length t) × (pieces newline (drop at t) ≡ drop at t ∷ [])
+      × (command-lines (pieces newline (drop at t)) ≡ drop at t ∷ [])
   unfolding next-line
   next-is-last h =
       let n = at + piece-length newline (drop at t) in
       let w = was-last (ltb n (length t)) ended (ltb at (length t)) n h in
-      let l : at < length t = ltb-true at (length t) (w .1) in
+      let l : at < length t = ltb-true at (length t) (w .2) in
       let o = one-piece t at (omega arith) (omega (arith, ltb-false n (length t) (w .0))) in
-      (l, ap command-lines o ∙ only-command (drop at t) (omega (arith, length-drop at t)))
+      (w .1, l, o, ap command-lines o ∙ only-command (drop at t) (omega (arith, length-drop at t)))
 
-  -- nothing is no line
-  pub next-is-none : next-line t at ended ≡ Nothing → command-lines (pieces newline (drop at t)) ≡ []
+  -- nothing is no line, where the input has ended
+  pub next-is-none : next-line t at ended ≡ Nothing →
+      (ended ≡ true) × (length t ≤ at) × (command-lines (pieces newline (drop at t)) ≡ [])
   unfolding next-line command-lines pieces
   next-is-none h =
       let n = at + piece-length newline (drop at t) in
       let w = was-none (ltb n (length t)) ended (ltb at (length t)) n h in
-      let l : length t ≤ at = omega (arith, ltb-false at (length t) w) in
-      rw (drop-of-length-le t l)
+      let l : length t ≤ at = omega (arith, ltb-false at (length t) (w .1)) in
+      (w .0, l, rw (drop-of-length-le t l))
 
   -- where more must be read, the input has not ended and no byte 10 is left
-  pub next-is-more : at ≤ length t → next-line t at ended ≡ More → (ended ≡ false) × (pieces newline (drop at t) ≡ drop at t ∷ [])
+  pub next-is-more : at ≤ length t → next-line t at ended ≡ More →
+      (ended ≡ false) × (piece-length newline (drop at t) ≡ length (drop at t)) × (pieces newline (drop at t) ≡ drop at t ∷ [])
   unfolding next-line
   next-is-more le h =
       let n = at + piece-length newline (drop at t) in
       let w = was-more (ltb n (length t)) ended (ltb at (length t)) n h in
-      (w .1, one-piece t at le (omega (arith, ltb-false n (length t) (w .0))))
+      let l : length t ≤ n = omega (arith, ltb-false n (length t) (w .0)) in
+      (w .1, omega (arith, length-drop at t, piece-end-le newline t at le), one-piece t at le l)
+
+-- a text without a byte 10 begins the first piece of what follows it
+pub pieces-glue : (b : ℕ) (x rest p : Text) (ps : List Text) → piece-length b x ≡ length x → pieces b rest ≡ p ∷ ps → pieces b (x ++ rest) ≡ (x ++ p) ∷ ps
+unfolding piece-length pieces prefix-first
+pieces-glue b [] rest p ps h e = e
+pieces-glue b (c ∷ x) rest p ps h e = case (eqb c b)
+    (λ q. let k : 0 ≡ suc (length x) = rw q at h in let z : ⊥ = omega arith in absurd z)
+    (λ q. let k : suc (piece-length b x) ≡ suc (length x) = rw q at h in rw (q, pieces-glue b x rest p ps (omega arith) e))
+
+-- a piece with a byte is a command, whatever follows
+pub command-first : (p : Text) (ps : List Text) → 1 ≤ length p → command-lines (p ∷ ps) ≡ p ∷ command-lines ps
+unfolding command-lines
+command-first p [] h = only-command p h
+command-first p (q ∷ ps) h = first-command p (q ∷ ps) (omega arith)

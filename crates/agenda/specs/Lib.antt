@@ -3,3 +3,8 @@ pub mod InputLinesLaws
 pub mod LongLineLaws
 pub mod Agenda
 pub mod AgendaLaws
+pub mod Conversation
+pub mod Due
+pub mod ReadingOnLaws
+pub mod LinesDueLaws
+pub mod ConversationLaws
