@@ -3,7 +3,7 @@ use mathlib.Core.Path.{_≡_, refl, sym, _∙_, ap, ap₂, subst}
 use mathlib.Core.List.{List, [], _∷_, _++_, append-assoc, append-nil}
 use mathlib.Core.Option.{Option, none, some}
 use mathlib.Core.Bool.{Bool, true, false, cond, not}
-use mathlib.Core.Logic.{_⊎_, inl, inr, ⊎-elim}
+use mathlib.Core.Logic.{⊎-elim}
 use Prim.Native.Nat.{ℕ, zero, suc, _+_, _-_, _≤_, _<_}
 use native.Mathlib.Omega.{arith}
 use borrow.Author.Tests.{eqb-true, eqb-false, ltb-true, ltb-false}
@@ -16,37 +16,19 @@ use Rattle.syntax.specs.Pieces.{newline, pieces, joined}
 use Rattle.syntax.specs.FormLaws.{no-answer}
 use Rattle.tree.specs.declared.Cause.the-variants.{Missing}
 use Rattle.tree.specs.Causes.{number}
-use Rattle.shell.specs.Replies.{Told}
 use Rattle.calls.specs.Calls.{Set-up, setup-call, listing-call}
 use Rattle.calls.specs.CallsLaws.{listing-changes-no-store}
-use Rattle.calls.specs.Transcript.{Input, input-parts, command-lines, lines-text, transcript}
+use Rattle.calls.specs.Transcript.{input-parts, command-lines, lines-text, transcript}
 use Rattle.calls.specs.Program.{text-told, done-line, refused-line, call-line, list-lines, run-and-list, after-setup, program}
 use Rattle.calls.specs.ProgramLaws.{program-is-transcript}
 use Rattle.agenda.specs.declared.Phase.{Phase}
 use Rattle.agenda.specs.declared.Phase.the-variants.{Setup, Lines, Listing}
-use Rattle.agenda.specs.declared.Place.{Place}
 use Rattle.agenda.specs.declared.Call.the-variants as call
-use Rattle.agenda.specs.declared.Next.{Next}
-use Rattle.agenda.specs.declared.Next.the-variants.{Call, On, Read, Over, TooLong}
+use Rattle.agenda.specs.declared.Next.the-variants.{Call, Read, Over, TooLong}
 use Rattle.agenda.specs.InputLines.{setup-length}
 use Rattle.agenda.specs.InputLinesLaws.{setup-in, no-setup-end}
-use Rattle.agenda.specs.Agenda.{
-  Held,
-  lines-from,
-  listed-from,
-  call-setup,
-  open-setup,
-  ended-setup,
-  setup-next,
-  list-next,
-  by-phase,
-  next-of,
-  setup-report,
-  list-report,
-  report-text,
-  goes-on,
-}
-use Rattle.agenda.specs.Conversation.{Talk, kept, ahead, moved, made, after-call, turned, talk, first-place, Setup-fits}
+use Rattle.agenda.specs.Agenda.{lines-from, listed-from, call-setup, open-setup, ended-setup, setup-next, list-next, by-phase, next-of, setup-report, list-report, report-text, goes-on}
+use Rattle.agenda.specs.Conversation.{Talk, ahead, made, after-call, turned, talk, first-place, Setup-fits}
 use Rattle.agenda.specs.Due.{lines-due, due-in, due, busy, later, turns-due, Ready, Talking, Prints}
 use Rattle.agenda.specs.ReadingOnLaws.{read-prints}
 use Rattle.agenda.specs.LinesDueLaws.{either-turned, none-kept, lines-print}

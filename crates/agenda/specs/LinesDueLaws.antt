@@ -2,7 +2,7 @@
 use mathlib.Core.Path.{_≡_, refl, sym, _∙_, ap, ap₂, subst}
 use mathlib.Core.List.{List, [], _∷_, _++_, append-assoc, append-nil}
 use mathlib.Core.Bool.{Bool, true, false, cond}
-use Prim.Native.Nat.{ℕ, zero, suc, _+_, _-_, _≤_, _<_}
+use Prim.Native.Nat.{ℕ, suc, _+_, _-_, _≤_, _<_}
 use native.Mathlib.Omega.{arith}
 use borrow.Author.Tests.{ltb-true, ltb-false}
 use lib.Dec.{ltb}
@@ -19,7 +19,7 @@ use Rattle.calls.specs.Transcript.{command-lines, lines-text}
 use Rattle.calls.specs.Program.{call-line, run-lines, list-lines, run-and-list}
 use Rattle.agenda.specs.declared.NextLine.{NextLine}
 use Rattle.agenda.specs.declared.NextLine.the-variants as found
-use Rattle.agenda.specs.declared.Phase.the-variants.{Lines, Listing}
+use Rattle.agenda.specs.declared.Phase.the-variants.{Lines}
 use Rattle.agenda.specs.declared.Place.{Place}
 use Rattle.agenda.specs.declared.Call.the-variants.{Run}
 use Rattle.agenda.specs.declared.Next.{Next}
@@ -28,8 +28,7 @@ use Rattle.agenda.specs.InputLines.{next-line}
 use Rattle.agenda.specs.InputLinesLaws.{line-is-piece, next-is-line, next-is-last, next-is-none, next-is-more, pieces-glue, command-first}
 use Rattle.agenda.specs.LongLineLaws.{long-lines-are-alike}
 use Rattle.agenda.specs.Agenda.{Held, lines-from, listed-from, passing-from, taken, unended, found-line, line-next, report-text, goes-on}
-use Rattle.agenda.specs.AgendaLaws.{line-within}
-use Rattle.agenda.specs.Conversation.{Talk, kept, ahead, moved, made, after-call, turned, talk}
+use Rattle.agenda.specs.Conversation.{Talk, kept, ahead, moved, made, turned, talk}
 use Rattle.agenda.specs.Due.{behind, lines-due, due-in, due, busy, later, turns-due, Ready, Talking, Prints}
 use Rattle.agenda.specs.ReadingOnLaws.{read-prints}
 

@@ -1,19 +1,18 @@
 -- A read changes nothing of what a run of the program has still to print, and takes a turn off those that are due.
 use mathlib.Core.Path.{_≡_, refl, sym, _∙_, ap, subst}
-use mathlib.Core.List.{List, [], _∷_, _++_, append-assoc}
-use mathlib.Core.Bool.{Bool, true, false, cond}
+use mathlib.Core.List.{[], _∷_, _++_, append-assoc}
+use mathlib.Core.Bool.{Bool, false, cond}
 use Prim.Native.Nat.{ℕ, zero, suc, _+_, _-_, _≤_, _<_}
 use native.Mathlib.Omega.{arith}
 use borrow.Author.Tests.{eqb-true, eqb-false}
 use lib.Dec.{eqb}
 use lib.ListN.{length, take, drop, length-append, length-drop}
 use lib.Seq.{drop-nil, take-at, length-take-le}
-use Rattle.buffers.specs.Cases.{case, contra}
+use Rattle.buffers.specs.Cases.{case}
 use Rattle.buffers.specs.Text.{Text}
 use Rattle.agenda.specs.declared.Phase.{Phase}
 use Rattle.agenda.specs.declared.Phase.the-variants.{Setup, Lines, Listing}
 use Rattle.agenda.specs.declared.Next.the-variants.{Read}
-use Rattle.agenda.specs.Agenda.{Held, read-place}
 use Rattle.agenda.specs.AgendaLaws.{read-held}
 use Rattle.agenda.specs.Conversation.{Talk, kept, ahead, given, read-to, read-on, turned, talk, Setup-fits}
 use Rattle.agenda.specs.Due.{due-in, due, busy, turns-due, Ready, Talking, Prints}

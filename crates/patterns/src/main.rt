@@ -1,8 +1,11 @@
 // The program: reads its input into a window, makes the library's calls, and prints what is printed for them. What it does next, and
 // what is printed, `agenda` decides.
+ghost use mathlib.Core.Path.{_≡_};
 ghost use Prim.Native.Nat.{_≤_};
 ghost use lib.ListN.{length};
+ghost use Rattle.library.specs.CallBytes.{called-as};
 ghost use Rattle.agenda.specs.Agenda.{Held, Call-held};
+ghost use Rattle.agenda.specs.Conversation.{made};
 ghost use Rattle.patterns.specs.Held.{Stays, Wide-window, Answering};
 use agenda::Call;
 use agenda::Next;
@@ -62,6 +65,7 @@ fn read_on(window: &mut [u8], at: Place) -> Step
 // Makes a call of the library.
 fn answer_to(store: &mut [u8], window: &[u8], call: Call, answer: &mut [u8]) -> Answer
     requires { ⌜ Call-held call (length (now window)) ⌝ }
+    ensures { λ r. ⌜ called-as r (now (store .exit)) (now (answer .exit)) ≡ made (now (window .entry)) (now (store .entry)) (now (answer .entry)) call ⌝ }
 {
     match call {
         Call::Setup { end } => library::setup(store, &window[..end]),

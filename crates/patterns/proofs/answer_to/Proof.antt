@@ -1,7 +1,10 @@
--- `patterns::answer_to` meets its contract: the bytes that a call is made with lie in the window.
-use mathlib.Core.Path.{refl, sym}
+-- `patterns::answer_to` meets its contract: each call is made with the bytes that it says, and these lie in the window.
+use mathlib.Core.Path.{_∙_, ap, refl, sym}
 use lib.Seq.{length-take-le}
 use denote.Ref.{now}
+use Rattle.syntax.specs.Parts.{part}
+use Rattle.calls.specs.Calls.{Set-up}
+use Rattle.agenda.specs.Conversation.{made}
 use Rattle.patterns.proofs.answer_to.Statement.{statement}
 use Rattle.patterns.proofs.answer_to.Tie as tie
 
@@ -42,7 +45,12 @@ same-length : tie.Need-same-length
 same-length c = c .before .before .setup .kept .0
 
 returns : tie.Need-returns
-returns c = tt
+unfolding made
+returns c =
+    let a = c .before .before .before .before .before .before .before .before .before .before .before .args in
+    let g = c .before .before .before .before .before .before .call .given in
+    ap (λ (x : Set-up). record { tells = x .tells; store = x .store; answer = now (a .answer) }) (c .before .before .setup .ensures)
+    ∙ ap (made (now (a .window)) (now (a .store)) (now (a .answer))) (sym (g .1))
 
 same-length-2 : tie.Need-same-length-2
 same-length-2 c = c .before .before .before .before .run .kept .0
@@ -51,7 +59,11 @@ same-length-3 : tie.Need-same-length-3
 same-length-3 c = c .before .before .before .before .run .kept .1 .1 .0
 
 returns-2 : tie.Need-returns-2
-returns-2 c = tt
+unfolding made part
+returns-2 c =
+    let a = c .before .before .before .before .before .before .before .before .before .before .before .before .before .before .args in
+    let g = c .before .before .before .before .before .before .before .before .before .call2 .given in
+    c .before .before .before .before .run .ensures ∙ ap (made (now (a .window)) (now (a .store)) (now (a .answer))) (sym (g .1))
 
 same-length-4 : tie.Need-same-length-4
 same-length-4 c = refl
@@ -60,7 +72,11 @@ same-length-5 : tie.Need-same-length-5
 same-length-5 c = c .before .before .listing .kept .1 .1 .0
 
 returns-3 : tie.Need-returns-3
-returns-3 c = tt
+unfolding made
+returns-3 c =
+    let a = c .before .before .before .before .before .before .before .before .before .before .before .args in
+    let g = c .before .before .before .before .before .before .call3 .given in
+    c .before .before .listing .ensures ∙ ap (made (now (a .window)) (now (a .store)) (now (a .answer))) (sym (g .1))
 
 pub answer-to-spec : {M : Type 1} → statement M
 answer-to-spec =
