@@ -17,7 +17,7 @@ use Rattle.syntax.specs.FormLaws.{no-answer}
 use Rattle.tree.specs.declared.Cause.the-variants.{Missing}
 use Rattle.tree.specs.Causes.{number}
 use Rattle.calls.specs.Calls.{Set-up, setup-call, listing-call}
-use Rattle.calls.specs.CallsLaws.{listing-changes-no-store}
+use Rattle.calls.specs.CallsLaws.{listing-store-stays}
 use Rattle.calls.specs.Transcript.{input-parts, command-lines, lines-text, transcript}
 use Rattle.calls.specs.Program.{text-told, done-line, refused-line, call-line, list-lines, run-and-list, after-setup, program}
 use Rattle.calls.specs.ProgramLaws.{program-is-transcript}
@@ -55,7 +55,7 @@ module _ (m : ℕ) (others : Prints m) (s : Talk) (h : Talking s) (c : turns-due
         ready = tt;
       } in
       let rest = others then t (omega (arith, c, ap later k)) in
-      let same = ap (λ (b : List ℕ). lines-text (list-lines (257 - suc n) b (called .answer) (suc n))) (listing-changes-no-store (s .store) n (s .answer)) in
+      let same = ap (λ (b : List ℕ). lines-text (list-lines (257 - suc n) b (called .answer) (suc n))) (listing-store-stays (s .store) n (s .answer)) in
       listed-text (eqb (number Missing) (called .tells .number)) (text-told (called .tells .values) (called .answer)) (talk m then)
       (list-lines (257 - suc n) (s .store) (called .answer) (suc n)) (rest ∙ same)
       ∙ ap (λ (calls : ℕ). lines-text (list-lines calls (s .store) (s .answer) n)) (sym one-less)

@@ -86,7 +86,7 @@ module _ (t : Text) (at end : ℕ) (ended : Bool) (is : end ≡ at + piece-lengt
 -- ---- setup and commands of the input
 
 -- a text with a byte 10, whatever follows it, begins with its first line
-pub pieces-with-rest : (b : ℕ) (t rest : Text) → piece-length b t < length t →
+pieces-with-rest : (b : ℕ) (t rest : Text) → piece-length b t < length t →
     pieces b (t ++ rest) ≡ take (piece-length b t) t ∷ pieces b (drop (suc (piece-length b t)) t ++ rest)
 unfolding piece-length pieces prefix-first
 pieces-with-rest b [] rest h = let z : ⊥ = omega arith in absurd z

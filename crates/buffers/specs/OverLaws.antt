@@ -38,7 +38,7 @@ unfolding over
 over-front t a = ap (λ (n : ℕ). t ++ drop n a) (zero-add (length t))
 
 -- two texts written one behind the other are both written as one
-pub over-both : (s t b : List ℕ) (at : ℕ) → at + length s + length t ≤ length b → over (at + length s) t (over at s b) ≡ over at (s ++ t) b
+over-both : (s t b : List ℕ) (at : ℕ) → at + length s + length t ≤ length b → over (at + length s) t (over at s b) ≡ over at (s ++ t) b
 over-both s t b at h =
     sym (over-paste (over at s b) t (at + length s))
     ∙ ap (λ (c : List ℕ). paste c (at + length s) t (length t)) (sym (over-paste b s at))

@@ -111,7 +111,7 @@ line-behind m (r ∷ rs) zero z h = refl
 line-behind m (r ∷ rs) (suc n) z h = line-behind (row-seen m r) rs n z (omega arith)
 
 -- so in a tree's bytes
-pub line-of-row : {b : List ℕ} {t : Place Node} → Encodes b t → (n : ℕ) → n < row-count b → getElem? (listing t) n ≡ some (node-line (row-path b n) (row-at b n .here))
+line-of-row : {b : List ℕ} {t : Place Node} → Encodes b t → (n : ℕ) → n < row-count b → getElem? (listing t) n ≡ some (node-line (row-path b n) (row-at b n .here))
 unfolding lines-in row-path names-among
 line-of-row {b} {t} e n h =
     let z = row-at b n in

@@ -103,11 +103,11 @@ stored-held t s k x h = record {
 }
 
 -- the counts are those of the pairs and the grants
-pub pair-count : (t : Text) (s : Held-setup) → Held t s → length (setup-value t s .pairs) ≡ s .paired
+pair-count : (t : Text) (s : Held-setup) → Held t s → length (setup-value t s .pairs) ≡ s .paired
 unfolding setup-value
 pair-count t s h = length-take-le (s .paired) (s .pairs) (rw (h .room-for-pairs) (h .few-pairs))
 
-pub grant-count : (t : Text) (s : Held-setup) → Held t s → length (setup-value t s .grants) ≡ s .granted
+grant-count : (t : Text) (s : Held-setup) → Held t s → length (setup-value t s .grants) ≡ s .granted
 unfolding setup-value
 grant-count t s h = length-map (take (s .granted) (s .grants)) (grant-value t) ∙ length-take-le (s .granted) (s .grants) (rw (h .room-for-grants) (h .few-grants))
 

@@ -168,7 +168,7 @@ paste-next s x y n m e f fits =
     ap (λ (j : ℕ). paste (paste s 0 x n) j y m) q ∙ paste-join s x y 0 n m e f (omega arith)
 
 -- five parts that fill a buffer one behind the other
-pub five-parts : (S Z P G U s : List ℕ) (a b c d e : ℕ) → length S ≡ a → length Z ≡ b → length P ≡ c → length G ≡ d → length U ≡ e →
+five-parts : (S Z P G U s : List ℕ) (a b c d e : ℕ) → length S ≡ a → length Z ≡ b → length P ≡ c → length G ≡ d → length U ≡ e →
     length s ≡ a + b + c + d + e →
     paste (paste (paste (paste (paste s 0 S a) a Z b) (a + b) P c) (a + b + c) G d) (a + b + c + d) U e ≡ S ++ (Z ++ (P ++ (G ++ U)))
 five-parts S Z P G U s a b c d e i j k l m t =

@@ -111,7 +111,3 @@ encode-decode-tree b t e =
     let k = and-both (is-tree (i .0)) (same-text (encode-tree (i .0)) b) (j .0) in
     let q : t ≡ i .0 = answered (j .1) in
     rw q (same-text-sound (encode-tree (i .0)) b (k .1), k .0)
-
--- bytes that are read as a tree have the width of all trees
-pub decode-tree-length : (b : List ℕ) (t : Place Node) → decode-tree b ≡ some t → length b ≡ tree-width
-decode-tree-length b t e = let i = encode-decode-tree b t e in ap length (sym (i .0)) ∙ length-encode-tree t (i .1)
