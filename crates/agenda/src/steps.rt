@@ -2,7 +2,7 @@
 ghost use mathlib.Core.Path.{_≡_};
 ghost use Prim.Native.Nat.{_+_, _-_, _≤_};
 ghost use lib.ListN.{length};
-ghost use Rattle.agenda.specs.Agenda.{Held, lines-from, call-setup, open-setup, setup-next, list-next, next-of, read-place};
+ghost use Rattle.agenda.specs.Agenda.{Held, call-setup, open-setup, setup-next, list-next, next-of, read-place};
 use crate::Call;
 use crate::Next;
 use crate::Phase;
