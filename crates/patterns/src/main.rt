@@ -6,7 +6,7 @@ ghost use lib.ListN.{length};
 ghost use Rattle.library.specs.CallBytes.{called-as};
 ghost use Rattle.agenda.specs.Agenda.{Held, Call-held};
 ghost use Rattle.agenda.specs.Conversation.{made};
-ghost use Rattle.patterns.specs.Held.{Stays, Wide-window, Answering};
+ghost use Rattle.patterns.specs.Held.{Reads, Stays, Wide-window, Answering};
 use agenda::Call;
 use agenda::Next;
 use agenda::Phase;
@@ -48,7 +48,7 @@ fn print(out: &[u8], n: usize) -> bool
 // Moves what is left to the front of the window and reads once behind it.
 fn read_on(window: &mut [u8], at: Place) -> Step
     requires { ⌜ Held at (length (now window)) ⌝ }
-    ensures { λ r. ⌜ Stays r (length (now (window .exit))) ⌝ }
+    ensures { λ r. ⌜ Reads r at (now (window .entry)) (now (window .exit)) ⌝ }
 {
     let from = at.from;
     let kept = at.to - from;

@@ -1,12 +1,14 @@
 -- `patterns::read_on` meets its contract: what is left fits in front of the window, and what is read behind it.
-use mathlib.Core.Path.{_≡_, refl, _∙_}
+use mathlib.Core.Path.{sym, ap₂, _≡_, refl, _∙_}
 use mathlib.Core.List.{List}
 use Prim.Native.Nat.{ℕ, _+_, _-_, _≤_}
+use native.Mathlib.Nat.{zero-add}
 use native.Mathlib.Omega.{arith}
+use lib.Seq.{paste, take-paste, length-take-le}
 use lib.ListN.{take, drop, length-drop, length}
-use lib.Seq.{length-take-le}
 use denote.Ref.{now}
-use borrow.Rule.Slice.PartMut.{midOf, putMid, same-len-mid}
+use borrow.Rule.Slice.PartMut.{take-put, midOf, putMid, same-len-mid}
+use Rattle.syntax.specs.Parts.{part}
 use Rattle.agenda.specs.AgendaLaws.{read-held}
 use Rattle.patterns.proofs.read_on.Statement.{statement}
 use Rattle.patterns.proofs.read_on.Tie as tie
@@ -18,6 +20,16 @@ fits x w k n e h i = omega (arith, e, length-drop k x, length-take-le (length x 
 -- the window keeps its length when bytes are moved in it and others read into its last part
 still : (k : ℕ) (m r b : List ℕ) → length m ≡ length b → length r ≡ length (midOf k (length m - k) m) → length (putMid k (length m - k) m r) ≡ length b
 still k m r b e h = same-len-mid k (length m - k) m r h ∙ e
+
+-- the bytes that were moved stay in front
+in-front : (w m r : List ℕ) (from to : ℕ) → from ≤ to → to ≤ length w → length m ≡ length w → m ≡ paste w 0 (drop from w) (to - from) →
+    take (to - from) (putMid (to - from) (length m - (to - from)) m r) ≡ part w from to
+unfolding part
+in-front w m r from to h l e q =
+    let k = to - from in
+    take-put k (length m - k) m r (omega (arith, e))
+    ∙ ap₂ take (sym (zero-add k)) q
+    ∙ take-paste w 0 (drop from w) k (omega arith) (omega (arith, length-drop from w))
 
 sub-kept : tie.Need-sub-kept
 sub-kept c = c .before .before .pre .ordered
@@ -50,7 +62,8 @@ same-length c =
     let s = c .before .before .before .before .before .before .before .before .before .before .before .before .before in
     let m = c .before .before .before .before .before .before .before .before .before .move-bytes in
     let r = c .before .before .before .before .before .read in
-    let e = still (s .args .at .to - s .args .at .from) (m .last .0) (r .last .1 .0) (now (s .args .window)) (m .kept .0) (r .kept .1 .0) in
+    let k = s .args .at .to - s .args .at .from in
+    let e = still k (m .last .0) (r .last .1 .0) (now (s .args .window)) (m .kept .0) (r .kept .1 .0) in
     e
 
 returns : tie.Need-returns
@@ -61,7 +74,8 @@ sub-count c =
     let s = c .before .before .before .before .before .before .before .before .before .before .before in
     let m = c .before .before .before .before .before .before .before .move-bytes in
     let r = c .before .before .before .read in
-    let e = still (s .args .at .to - s .args .at .from) (m .last .0) (r .last .1 .0) (now (s .args .window)) (m .kept .0) (r .kept .1 .0) in
+    let k = s .args .at .to - s .args .at .from in
+    let e = still k (m .last .0) (r .last .1 .0) (now (s .args .window)) (m .kept .0) (r .kept .1 .0) in
     omega (arith, e, s .pre .within)
 
 part-count-start : tie.Need-part-count-start
@@ -69,7 +83,8 @@ part-count-start c =
     let s = c .before .before .before .before .before .before .before .before .before .before .before .before in
     let m = c .before .before .before .before .before .before .before .before .move-bytes in
     let r = c .before .before .before .before .read in
-    let e = still (s .args .at .to - s .args .at .from) (m .last .0) (r .last .1 .0) (now (s .args .window)) (m .kept .0) (r .kept .1 .0) in
+    let k = s .args .at .to - s .args .at .from in
+    let e = still k (m .last .0) (r .last .1 .0) (now (s .args .window)) (m .kept .0) (r .kept .1 .0) in
     omega (arith, e, s .pre .within)
 
 part-count-end : tie.Need-part-count-end
@@ -83,10 +98,12 @@ after-read-requires c κs =
     let s = c .before .before .before .before .before .before .before .before .before .before .before .before .before .before in
     let m = c .before .before .before .before .before .before .before .before .before .before .move-bytes in
     let r = c .before .before .before .before .before .before .read in
-    let e = still (s .args .at .to - s .args .at .from) (m .last .0) (r .last .1 .0) (now (s .args .window)) (m .kept .0) (r .kept .1 .0) in
+    let k = s .args .at .to - s .args .at .from in
+    let e = still k (m .last .0) (r .last .1 .0) (now (s .args .window)) (m .kept .0) (r .kept .1 .0) in
     let n = c .count in
     let h = s .pre in
-    let w = fits (putMid (s .args .at .to - s .args .at .from) (length (m .last .0) - (s .args .at .to - s .args .at .from)) (m .last .0) (r .last .1 .0)) (length (now (s .args .window))) (s .args .at .to - s .args .at .from) (n .result) e (omega (arith, h .within)) (n .ensures .0 .0) in
+    let x = putMid k (length (m .last .0) - k) (m .last .0) (r .last .1 .0) in
+    let w = fits x (length (now (s .args .window))) k (n .result) e (omega (arith, h .within)) (n .ensures .0 .0) in
     (h .ordered, omega (arith, w, h .wide))
 
 same-length-2 : tie.Need-same-length-2
@@ -94,7 +111,8 @@ same-length-2 c =
     let s = c .before .before .before .before .before .before .before .before .before .before .before .before .before .before .before in
     let m = c .before .before .before .before .before .before .before .before .before .before .before .move-bytes in
     let r = c .before .before .before .before .before .before .before .read in
-    let e = still (s .args .at .to - s .args .at .from) (m .last .0) (r .last .1 .0) (now (s .args .window)) (m .kept .0) (r .kept .1 .0) in
+    let k = s .args .at .to - s .args .at .from in
+    let e = still k (m .last .0) (r .last .1 .0) (now (s .args .window)) (m .kept .0) (r .kept .1 .0) in
     e
 
 returns-2 : tie.Need-returns-2
@@ -102,11 +120,19 @@ returns-2 c =
     let s = c .before .before .before .before .before .before .before .before .before .before .before .before .before .before .before in
     let m = c .before .before .before .before .before .before .before .before .before .before .before .move-bytes in
     let r = c .before .before .before .before .before .before .before .read in
-    let e = still (s .args .at .to - s .args .at .from) (m .last .0) (r .last .1 .0) (now (s .args .window)) (m .kept .0) (r .kept .1 .0) in
+    let k = s .args .at .to - s .args .at .from in
+    let e = still k (m .last .0) (r .last .1 .0) (now (s .args .window)) (m .kept .0) (r .kept .1 .0) in
     let n = c .before .count in
     let h = s .pre in
-    let w = fits (putMid (s .args .at .to - s .args .at .from) (length (m .last .0) - (s .args .at .to - s .args .at .from)) (m .last .0) (r .last .1 .0)) (length (now (s .args .window))) (s .args .at .to - s .args .at .from) (n .result) e (omega (arith, h .within)) (n .ensures .0 .0) in
-    rw (c .after-read .ensures, e) (read-held (s .args .at) (length (now (s .args .window))) (n .result) h w)
+    let a = s .args .at in
+    let x = putMid k (length (m .last .0) - k) (m .last .0) (r .last .1 .0) in
+    let w = fits x (length (now (s .args .window))) k (n .result) e (omega (arith, h .within)) (n .ensures .0 .0) in
+    record {
+      got = n .result;
+      place = c .after-read .ensures;
+      front = in-front (now (s .args .window)) (m .last .0) (r .last .1 .0) (a .from) (a .to) (h .ordered) (h .within) (m .kept .0) (m .ensures);
+      held = rw (c .after-read .ensures, e) (read-held a (length (now (s .args .window))) (n .result) h w);
+    }
 
 pub read-on-spec : {M : Type 1} → statement M
 read-on-spec =

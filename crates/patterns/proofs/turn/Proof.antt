@@ -1,9 +1,21 @@
 -- `patterns::turn` meets its contract: whatever is to be done next stays in the window.
+use mathlib.Core.List.{List}
 use mathlib.Core.Path.{refl, sym, _∙_}
+use Prim.Native.Nat.{ℕ}
+use lib.ListN.{length}
 use denote.Ref.{now}
+use Rattle.agenda.specs.declared.Place.{Place}
 use Rattle.agenda.specs.AgendaLaws.{next-held}
+use Rattle.patterns.specs.declared.Step.{Step}
+use Rattle.patterns.specs.declared.Step.the-variants as step
+use Rattle.patterns.specs.Held.{Reads, Stays}
 use Rattle.patterns.proofs.turn.Statement.{statement}
 use Rattle.patterns.proofs.turn.Tie as tie
+
+-- what a read leaves stays too
+reads-stays : (r : Step) (at : Place) (w w′ : List ℕ) → Reads r at w w′ → Stays r (length w′)
+reads-stays (step.On then) at w w′ h = h .held
+reads-stays step.Ended at w w′ h = tt
 
 next-requires : tie.Need-next-requires
 next-requires c κs = c .before .before .before .before .pre .0
@@ -65,7 +77,10 @@ same-length-5 : tie.Need-same-length-5
 same-length-5 c = c .before .before .read-on .kept .0
 
 returns-3 : tie.Need-returns-3
-returns-3 c = c .before .before .read-on .ensures
+returns-3 c =
+    let a = c .before .before .before .before .before .before .before .before .before .before .before .args in
+    let r = c .before .before .read-on in
+    reads-stays (r .result) (a .at) (now (a .window)) (r .last .0) (r .ensures)
 
 same-length-6 : tie.Need-same-length-6
 same-length-6 c = refl
