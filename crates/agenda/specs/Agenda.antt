@@ -25,7 +25,7 @@ use Rattle.agenda.specs.declared.Next.the-variants as next
 use Rattle.agenda.specs.InputLines.{setup-length, next-line}
 
 -- a place lies in a window of so many bytes
-pub record Held (at : Place) (n : ℕ) : Type 0 where
+pub record Place-held (at : Place) (n : ℕ) : Type 0 where
   pub wide : n ≡ 65536
   pub ordered : at .from ≤ at .to
   pub within : at .to ≤ n
@@ -38,8 +38,8 @@ Call-held (call.List k) n = Unit {0}
 
 -- what is to be done stays in it
 abbrev pub Next-held : Next → ℕ → Type 0
-Next-held (next.Call c then) n = Call-held c n × Held then n
-Next-held (next.On at) n = Held at n
+Next-held (next.Call c then) n = Call-held c n × Place-held then n
+Next-held (next.On at) n = Place-held at n
 Next-held next.Read n = Unit {0}
 Next-held next.Over n = Unit {0}
 Next-held next.TooLong n = Unit {0}

@@ -22,7 +22,7 @@ use Rattle.agenda.specs.declared.SetupEnd.the-variants.{At, Open}
 use Rattle.agenda.specs.InputLines.{end-told, setup-length, next-line}
 use Rattle.agenda.specs.InputLinesLaws.{setup-in, next-is-line}
 use Rattle.agenda.specs.Agenda.{
-  Held,
+  Place-held,
   Next-held,
   lines-from,
   listed-from,
@@ -72,18 +72,18 @@ either-held : (n : ℕ) (b : Bool) (x y : Next) → Next-held x n → Next-held 
 either-held n true x y h k = h
 either-held n false x y h k = k
 
-module _ (t : Text) (at : Place) (held : Held at (length t)) where
+module _ (t : Text) (at : Place) (held : Place-held at (length t)) where
   -- what has been read
   read-length : length (take (at .to) t) ≡ at .to
   read-length = length-take-le (at .to) t (held .within)
 
-  lines-held : (p : ℕ) → p ≤ at .to → Held (lines-from at p) (length t)
+  lines-held : (p : ℕ) → p ≤ at .to → Place-held (lines-from at p) (length t)
   lines-held p h = record { wide = held .wide; ordered = h; within = held .within }
 
-  listed-held : (n : ℕ) → Held (listed-from at n) (length t)
+  listed-held : (n : ℕ) → Place-held (listed-from at n) (length t)
   listed-held n = record { wide = held .wide; ordered = held .ordered; within = held .within }
 
-  passing-held : Held (passing-from (at .to)) (length t)
+  passing-held : Place-held (passing-from (at .to)) (length t)
   passing-held = record { wide = held .wide; ordered = omega arith; within = held .within }
 
   -- where the setup ends lies in what has been read
@@ -102,7 +102,7 @@ module _ (t : Text) (at : Place) (held : Held at (length t)) where
       (held .within, lines-held (at .to) (omega arith))
       (either-held (length t) (eqb (at .to) (length t)) TooLong Read tt tt)
 
-  taken-held : (end : ℕ) (rest : Place) → at .from ≤ end → end ≤ length t → Held rest (length t) → Next-held (taken at end rest) (length t)
+  taken-held : (end : ℕ) (rest : Place) → at .from ≤ end → end ≤ length t → Place-held rest (length t) → Next-held (taken at end rest) (length t)
   unfolding taken
   taken-held end rest h k r = either-held (length t) (at .passing) (On rest) (Call (call.Run (at .from) end) rest) r ((h, k), r)
 
@@ -129,5 +129,5 @@ module _ (t : Text) (at : Place) (held : Held at (length t)) where
   next-held = phase-held (at .phase)
 
 -- and so does the place after a read that fits
-pub read-held : (at : Place) (n got : ℕ) → Held at n → (at .to - at .from) + got ≤ n → Held (read-place at got) n
+pub read-held : (at : Place) (n got : ℕ) → Place-held at n → (at .to - at .from) + got ≤ n → Place-held (read-place at got) n
 read-held at n got h fits = record { wide = h .wide; ordered = omega arith; within = fits }

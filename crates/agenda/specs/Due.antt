@@ -11,18 +11,18 @@ use Rattle.calls.specs.Program.{list-lines, run-and-list, program}
 use Rattle.agenda.specs.declared.Phase.{Phase}
 use Rattle.agenda.specs.declared.Phase.the-variants.{Setup, Lines, Listing}
 use Rattle.agenda.specs.declared.Place.{Place}
-use Rattle.agenda.specs.Agenda.{Held}
+use Rattle.agenda.specs.Agenda.{Place-held}
 use Rattle.agenda.specs.Conversation.{Talk, ahead, talk, Setup-fits}
 
 -- all but the first
-unfoldable pub behind : List Text → List Text
-behind [] = []
-behind (p ∷ ps) = ps
+unfoldable pub past-first : List Text → List Text
+past-first [] = []
+past-first (p ∷ ps) = ps
 
 -- the command lines of what is ahead; where its first belongs to a line that has been answered, those behind it
 unfoldable pub lines-due : Bool → List Text → List Text
 lines-due false ps = command-lines ps
-lines-due true ps = command-lines (behind ps)
+lines-due true ps = command-lines (past-first ps)
 
 unfoldable pub due-in : Talk → Phase → Text
 due-in s Setup = program (s .store) (s .answer) (ahead (s .at) (s .window) (s .unread))
@@ -53,7 +53,7 @@ Ready s (Listing n) = Unit {0}
 
 -- what holds of a run at every turn
 pub record Talking (s : Talk) : Type 0 where
-  pub held : Held (s .at) (length (s .window))
+  pub held : Place-held (s .at) (length (s .window))
   pub over : s .at .ended ≡ true → s .unread ≡ []
   pub ready : Ready s (s .at .phase)
 

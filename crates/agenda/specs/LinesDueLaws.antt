@@ -27,9 +27,9 @@ use Rattle.agenda.specs.declared.Next.the-variants.{Call, On, Read}
 use Rattle.agenda.specs.InputLines.{next-line}
 use Rattle.agenda.specs.InputLinesLaws.{line-is-piece, next-is-line, next-is-last, next-is-none, next-is-more, pieces-glue, command-first}
 use Rattle.agenda.specs.LongLineLaws.{long-lines-are-alike}
-use Rattle.agenda.specs.Agenda.{Held, lines-from, listed-from, passing-from, taken, unended, found-line, line-next, report-text, goes-on}
+use Rattle.agenda.specs.Agenda.{Place-held, lines-from, listed-from, passing-from, taken, unended, found-line, line-next, report-text, goes-on}
 use Rattle.agenda.specs.Conversation.{Talk, kept, ahead, moved, made, turned, talk}
-use Rattle.agenda.specs.Due.{behind, lines-due, due-in, due, busy, later, turns-due, Ready, Talking, Prints}
+use Rattle.agenda.specs.Due.{past-first, lines-due, due-in, due, busy, later, turns-due, Ready, Talking, Prints}
 use Rattle.agenda.specs.ReadingOnLaws.{read-prints}
 
 -- ---- texts
@@ -69,7 +69,7 @@ some-piece [] h = let z : ⊥ = omega arith in absurd z
 some-piece (p ∷ ps) h = (p, ps, refl)
 
 nothing-due : (b : Bool) → lines-due b ([] ∷ []) ≡ []
-unfolding lines-due behind command-lines
+unfolding lines-due past-first command-lines
 nothing-due true = refl
 nothing-due false = refl
 
@@ -92,7 +92,7 @@ module _ (m : ℕ) (others : Prints m) (s : Talk) (h : Talking s) (c : turns-due
   turns-are = omega (arith, c, ap later k)
 
   -- behind a line the run goes on
-  module _ (rest : Place) (in-lines : rest .phase ≡ Lines) (rest-held : Held rest (length (s .window))) (rest-over : rest .ended ≡ true → s .unread ≡ [])
+  module _ (rest : Place) (in-lines : rest .phase ≡ Lines) (rest-held : Place-held rest (length (s .window))) (rest-over : rest .ended ≡ true → s .unread ≡ [])
       (fewer : busy rest (length (s .unread)) < busy (s .at) (length (s .unread))) where
     abbrev others-due : List Text
     others-due = lines-due (rest .passing) (pieces newline (ahead rest (s .window) (s .unread)))
@@ -117,7 +117,7 @@ module _ (m : ℕ) (others : Prints m) (s : Talk) (h : Talking s) (c : turns-due
 
     -- a line is run, or has been answered
     module _ (end : ℕ) (line : Text) (alike : run-call (s .store) (part (s .window) (s .at .from) end) (s .answer) ≡ run-call (s .store) line (s .answer))
-        (first : command-lines lines-ahead ≡ line ∷ others-due) (then : command-lines (behind lines-ahead) ≡ others-due) where
+        (first : command-lines lines-ahead ≡ line ∷ others-due) (then : command-lines (past-first lines-ahead) ≡ others-due) where
       by-passing : (b : Bool) → cond b (turned (talk m) s (On rest)) (turned (talk m) s (Call (Run (s .at .from) end) rest))
           ≡ run-and-list (s .store) (s .answer) (lines-due b lines-ahead)
       unfolding turned made report-text goes-on lines-due
@@ -142,7 +142,7 @@ module _ (m : ℕ) (others : Prints m) (s : Talk) (h : Talking s) (c : turns-due
 
   line-ends : (e : ℕ) → next-line text-read (s .at .from) (s .at .ended) ≡ found.Line e →
       turned (talk m) s (taken (s .at) e (lines-from (s .at) (suc e))) ≡ due-in s Lines
-  unfolding lines-due behind busy
+  unfolding lines-due past-first busy
   line-ends e q =
       let p = line-is-piece text-read (s .at .from) (s .at .ended) (s .unread) e q in
       let n = next-is-line text-read (s .at .from) (s .at .ended) (s .unread) e q in
@@ -154,7 +154,7 @@ module _ (m : ℕ) (others : Prints m) (s : Talk) (h : Talking s) (c : turns-due
       e (part text-read (s .at .from) e)
       (ap (λ (x : Text). run-call (s .store) x (s .answer)) (sym same))
       (n .2)
-      (ap (λ (ps : List Text). command-lines (behind ps)) (p .2))
+      (ap (λ (ps : List Text). command-lines (past-first ps)) (p .2))
 
   -- behind all that has been read there is nothing, where the input has ended
   none-due : s .unread ≡ [] → command-lines (pieces newline (drop (s .at .to) text-read ++ s .unread)) ≡ []
@@ -164,7 +164,7 @@ module _ (m : ℕ) (others : Prints m) (s : Talk) (h : Talking s) (c : turns-due
 
   line-is-last : next-line text-read (s .at .from) (s .at .ended) ≡ found.Last →
       turned (talk m) s (taken (s .at) (s .at .to) (lines-from (s .at) (s .at .to))) ≡ due-in s Lines
-  unfolding lines-due behind busy command-lines
+  unfolding lines-due past-first busy command-lines
   line-is-last q =
       let n = next-is-last text-read (s .at .from) (s .at .ended) q in
       let u = h .over (n .0) in
@@ -178,12 +178,12 @@ module _ (m : ℕ) (others : Prints m) (s : Talk) (h : Talking s) (c : turns-due
       (s .at .to) d
       (ap (λ (x : Text). run-call (s .store) x (s .answer)) (part-kept (s .window) (s .at .from) (s .at .to) (h .held .ordered) (h .held .within)))
       (ap command-lines whole ∙ sym (ap command-lines (n .2)) ∙ n .3 ∙ ap (λ (ls : List Text). d ∷ ls) (sym none))
-      (ap (λ (ps : List Text). command-lines (behind ps)) whole ∙ sym none)
+      (ap (λ (ps : List Text). command-lines (past-first ps)) whole ∙ sym none)
 
   -- one that fills the window is answered by its first bytes
   line-fills : next-line text-read (s .at .from) (s .at .ended) ≡ found.More → length (s .window) ≤ s .at .to - s .at .from →
       turned (talk m) s (taken (s .at) (s .at .to) (passing-from (s .at .to))) ≡ due-in s Lines
-  unfolding lines-due behind busy
+  unfolding lines-due past-first busy
   line-fills q full =
       let n = next-is-more text-read (s .at .from) (s .at .ended) (omega (arith, h .held .ordered, read-length)) q in
       let one = ap (λ (b : Bool). cond {A = ℕ} b 0 1) (n .0) in
@@ -193,9 +193,9 @@ module _ (m : ℕ) (others : Prints m) (s : Talk) (h : Talking s) (c : turns-due
       let long : 65536 ≤ length d = omega (arith, full, h .held .wide, length-drop (s .at .from) text-read, read-length) in
       let longer : length line ≡ length d + length (r .0) = length-append d (r .0) in
       let whole : lines-ahead ≡ line ∷ r .1 = pieces-glue newline d (s .unread) (r .0) (r .1) (n .1) (r .2) in
-      let due-then : command-lines (behind (pieces newline (drop (s .at .to) text-read ++ s .unread))) ≡ command-lines (r .1) =
-      ap (λ (x : Text). command-lines (behind (pieces newline (x ++ s .unread)))) (none-kept (s .window) (s .at .to) (h .held .within))
-      ∙ ap (λ (ps : List Text). command-lines (behind ps)) (r .2) in
+      let due-then : command-lines (past-first (pieces newline (drop (s .at .to) text-read ++ s .unread))) ≡ command-lines (r .1) =
+      ap (λ (x : Text). command-lines (past-first (pieces newline (x ++ s .unread)))) (none-kept (s .window) (s .at .to) (h .held .within))
+      ∙ ap (λ (ps : List Text). command-lines (past-first ps)) (r .2) in
       taken-prints (passing-from (s .at .to)) refl
       (record { wide = h .held .wide; ordered = omega arith; within = h .held .within })
       (λ e. contra e refl)
@@ -204,7 +204,7 @@ module _ (m : ℕ) (others : Prints m) (s : Talk) (h : Talking s) (c : turns-due
       (ap (λ (x : Text). run-call (s .store) x (s .answer)) (part-kept (s .window) (s .at .from) (s .at .to) (h .held .ordered) (h .held .within))
       ∙ long-lines-are-alike (s .store) (s .answer) d line (omega arith) (omega arith))
       (ap command-lines whole ∙ command-first line (r .1) (omega arith) ∙ ap (λ (ls : List Text). line ∷ ls) (sym due-then))
-      (ap (λ (ps : List Text). command-lines (behind ps)) whole ∙ sym due-then)
+      (ap (λ (ps : List Text). command-lines (past-first ps)) whole ∙ sym due-then)
 
   -- behind the last line comes the listing
   line-is-none : next-line text-read (s .at .from) (s .at .ended) ≡ found.Nothing → turned (talk m) s (On (listed-from (s .at) 0)) ≡ due-in s Lines

@@ -1,7 +1,7 @@
 // What is to be done next in the command lines: the next line is run, unless it has been answered, or more of it is read.
 ghost use mathlib.Core.Path.{_≡_};
 ghost use lib.ListN.{length};
-ghost use Rattle.agenda.specs.Agenda.{Held, lines-from, listed-from, taken, unended, line-next};
+ghost use Rattle.agenda.specs.Agenda.{Place-held, lines-from, listed-from, taken, unended, line-next};
 use crate::Call;
 use crate::Next;
 use crate::NextLine;
@@ -52,7 +52,7 @@ fn taken(at: Place, end: usize, rest: Place) -> Next
 // What to do with a line whose end has not been read. One that fills the window is too long for any form, as its first bytes are: these
 // are run, and the others passed over.
 fn unended(window: &[u8], at: Place) -> Next
-    requires { ⌜ Held at (length (now window)) ⌝ }
+    requires { ⌜ Place-held at (length (now window)) ⌝ }
     ensures { λ r. ⌜ r ≡ unended (length (now (window .entry))) at ⌝ }
 {
     let to = at.to;
@@ -71,7 +71,7 @@ fn unended(window: &[u8], at: Place) -> Next
 
 // What to do in the command lines.
 pub fn line_next(window: &[u8], at: Place) -> Next
-    requires { ⌜ Held at (length (now window)) ⌝ }
+    requires { ⌜ Place-held at (length (now window)) ⌝ }
     ensures { λ r. ⌜ r ≡ line-next (now (window .entry)) at ⌝ }
 {
     let from = at.from;

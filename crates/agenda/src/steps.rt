@@ -2,7 +2,7 @@
 ghost use mathlib.Core.Path.{_≡_};
 ghost use Prim.Native.Nat.{_+_, _-_, _≤_};
 ghost use lib.ListN.{length};
-ghost use Rattle.agenda.specs.Agenda.{Held, call-setup, open-setup, setup-next, list-next, next-of, read-place};
+ghost use Rattle.agenda.specs.Agenda.{Place-held, call-setup, open-setup, setup-next, list-next, next-of, read-place};
 use crate::Call;
 use crate::Next;
 use crate::Phase;
@@ -39,7 +39,7 @@ fn open_setup(window: &[u8], at: Place) -> Next
 
 // What to do in the setup.
 fn setup_next(window: &[u8], at: Place) -> Next
-    requires { ⌜ Held at (length (now window)) ⌝ }
+    requires { ⌜ Place-held at (length (now window)) ⌝ }
     ensures { λ r. ⌜ r ≡ setup-next (now (window .entry)) at ⌝ }
 {
     let to = at.to;
@@ -64,7 +64,7 @@ fn list_next(at: Place, n: usize) -> Next
 
 // What the program does next.
 pub fn next(window: &[u8], at: Place) -> Next
-    requires { ⌜ Held at (length (now window)) ⌝ }
+    requires { ⌜ Place-held at (length (now window)) ⌝ }
     ensures { λ r. ⌜ r ≡ next-of (now (window .entry)) at ⌝ }
 {
     let phase = at.phase;

@@ -5,7 +5,7 @@ use Prim.Native.Nat.{ℕ, _-_}
 use lib.ListN.{length, take}
 use Rattle.syntax.specs.Parts.{part}
 use Rattle.agenda.specs.declared.Place.{Place}
-use Rattle.agenda.specs.Agenda.{Held, read-place}
+use Rattle.agenda.specs.Agenda.{Place-held, read-place}
 use Rattle.patterns.specs.declared.Step.{Step}
 use Rattle.patterns.specs.declared.Step.the-variants.{On, Ended}
 
@@ -22,7 +22,7 @@ pub record Read-behind (then at : Place) (w w′ : List ℕ) : Type 0 where
   pub got : ℕ
   pub place : then ≡ read-place at got
   pub front : take (at .to - at .from) w′ ≡ part w (at .from) (at .to)
-  pub held : Held then (length w′)
+  pub held : Place-held then (length w′)
 
 abbrev pub Reads : Step → Place → List ℕ → List ℕ → Type 0
 Reads (On then) at w w′ = Read-behind then at w w′
@@ -30,5 +30,5 @@ Reads Ended at w w′ = Unit {0}
 
 -- the place that a turn leaves lies in a window of so many bytes
 abbrev pub Stays : Step → ℕ → Type 0
-Stays (On at) n = Held at n
+Stays (On at) n = Place-held at n
 Stays Ended n = Unit {0}

@@ -4,7 +4,7 @@ ghost use mathlib.Core.Path.{_≡_};
 ghost use Prim.Native.Nat.{_≤_};
 ghost use lib.ListN.{length};
 ghost use Rattle.library.specs.CallBytes.{called-as};
-ghost use Rattle.agenda.specs.Agenda.{Held, Call-held};
+ghost use Rattle.agenda.specs.Agenda.{Place-held, Call-held};
 ghost use Rattle.agenda.specs.Conversation.{made};
 ghost use Rattle.patterns.specs.Held.{Reads, Stays, Wide-window, Answering};
 use agenda::Call;
@@ -47,7 +47,7 @@ fn print(out: &[u8], n: usize) -> bool
 
 // Moves what is left to the front of the window and reads once behind it.
 fn read_on(window: &mut [u8], at: Place) -> Step
-    requires { ⌜ Held at (length (now window)) ⌝ }
+    requires { ⌜ Place-held at (length (now window)) ⌝ }
     ensures { λ r. ⌜ Reads r at (now (window .entry)) (now (window .exit)) ⌝ }
 {
     let from = at.from;
@@ -77,7 +77,7 @@ fn answer_to(store: &mut [u8], window: &[u8], call: Call, answer: &mut [u8]) -> 
 // Makes a call and prints what is printed for it.
 fn make_call(store: &mut [u8], window: &[u8], call: Call, then: Place, answer: &mut [u8]) -> Step
     requires { ⌜ Call-held call (length (now window)) ⌝ }
-    requires { ⌜ Held then (length (now window)) ⌝ }
+    requires { ⌜ Place-held then (length (now window)) ⌝ }
     requires { ⌜ Answering (now answer) ⌝ }
     ensures { λ r. ⌜ Stays r (length (now (window .entry))) ⌝ }
 {
@@ -95,7 +95,7 @@ fn make_call(store: &mut [u8], window: &[u8], call: Call, then: Place, answer: &
 
 // Does what is to be done next.
 fn turn(store: &mut [u8], window: &mut [u8], at: Place, answer: &mut [u8]) -> Step
-    requires { ⌜ Held at (length (now window)) ⌝ }
+    requires { ⌜ Place-held at (length (now window)) ⌝ }
     requires { ⌜ Answering (now answer) ⌝ }
     ensures { λ r. ⌜ Stays r (length (now (window .exit))) ⌝ }
 {

@@ -5,7 +5,7 @@ use Prim.Native.Nat.{ℕ}
 use native.Mathlib.Omega.{arith}
 use lib.ListN.{length}
 use Rattle.agenda.specs.declared.Place.{Place}
-use Rattle.agenda.specs.Agenda.{Held}
+use Rattle.agenda.specs.Agenda.{Place-held}
 use Rattle.patterns.specs.Held.{Answering}
 use Rattle.patterns.proofs.serve.Statement.{statement}
 use Rattle.patterns.proofs.serve.Tie as tie
@@ -14,7 +14,7 @@ record Serving (store₀ window₀ answer₀ store window answer : List ℕ) (at
   stores : length store ≡ length store₀
   windows : length window ≡ length window₀
   answers : length answer ≡ length answer₀
-  held : Held at (length window)
+  held : Place-held at (length window)
   answering : Answering answer
 
 abbrev Inv-loop : tie.InvT-loop
