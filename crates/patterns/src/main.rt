@@ -6,7 +6,8 @@ ghost use lib.ListN.{length};
 ghost use Rattle.library.specs.CallBytes.{called-as};
 ghost use Rattle.agenda.specs.Agenda.{Place-held, Call-held};
 ghost use Rattle.agenda.specs.Conversation.{made};
-ghost use Rattle.patterns.specs.Held.{Reads, Stays, Wide-window, Answering};
+ghost use Rattle.patterns.specs.Held.{Stays, Wide-window, Answering};
+ghost use Rattle.patterns.specs.Turns.{Reads, Makes, Turns};
 use agenda::Call;
 use agenda::Next;
 use agenda::Phase;
@@ -80,6 +81,7 @@ fn make_call(store: &mut [u8], window: &[u8], call: Call, then: Place, answer: &
     requires { ⌜ Place-held then (length (now window)) ⌝ }
     requires { ⌜ Answering (now answer) ⌝ }
     ensures { λ r. ⌜ Stays r (length (now (window .entry))) ⌝ }
+    ensures { λ r. ⌜ Makes r call then (now (window .entry)) (now (store .entry)) (now (answer .entry)) (now (store .exit)) (now (answer .exit)) ⌝ }
 {
     let r = answer_to(store, window, call, answer);
     let mut out = [0u8; 4128];
@@ -98,6 +100,7 @@ fn turn(store: &mut [u8], window: &mut [u8], at: Place, answer: &mut [u8]) -> St
     requires { ⌜ Place-held at (length (now window)) ⌝ }
     requires { ⌜ Answering (now answer) ⌝ }
     ensures { λ r. ⌜ Stays r (length (now (window .exit))) ⌝ }
+    ensures { λ r. ⌜ Turns r at (now (window .entry)) (now (store .entry)) (now (answer .entry)) (now (window .exit)) (now (store .exit)) (now (answer .exit)) ⌝ }
 {
     match next(window, at) {
         Next::Call { call, then } => make_call(store, window, call, then, answer),

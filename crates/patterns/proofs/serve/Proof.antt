@@ -54,7 +54,7 @@ loop-again c =
       stores = w .kept .0 ∙ i .stores;
       windows = w .kept .1 .0 ∙ i .windows;
       answers = w .kept .1 .1 .1 .0 ∙ i .answers;
-      held = rw (c .before .then .given .1) at (w .ensures);
+      held = rw (c .before .then .given .1) at (w .ensures .0);
       answering = w .kept .1 .1 .1 .0 ∙ i .answering;
     }
 
