@@ -3,7 +3,7 @@ use mathlib.Core.Path.{_≡_}
 use mathlib.Core.List.{List}
 use Prim.Native.Nat.{ℕ}
 use lib.ListN.{length}
-use Rattle.agenda.specs.Agenda.{Held}
+use Rattle.agenda.specs.Agenda.{Place-held}
 use Rattle.patterns.specs.declared.Step.{Step}
 use Rattle.patterns.specs.declared.Step.the-variants.{On, Ended}
 

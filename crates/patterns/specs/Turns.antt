@@ -10,7 +10,7 @@ use Rattle.agenda.specs.declared.Place.{Place}
 use Rattle.agenda.specs.declared.Call.{Call}
 use Rattle.agenda.specs.declared.Next.{Next}
 use Rattle.agenda.specs.declared.Next.the-variants as next
-use Rattle.agenda.specs.Agenda.{Held, read-place, next-of, goes-on}
+use Rattle.agenda.specs.Agenda.{Place-held, read-place, next-of, goes-on}
 use Rattle.agenda.specs.Conversation.{made}
 use Rattle.patterns.specs.declared.Step.{Step}
 use Rattle.patterns.specs.declared.Step.the-variants.{On, Ended}
@@ -20,7 +20,7 @@ pub record Read-behind (then at : Place) (w w′ : List ℕ) : Type 0 where
   pub got : ℕ
   pub place : then ≡ read-place at got
   pub front : take (at .to - at .from) w′ ≡ part w (at .from) (at .to)
-  pub held : Held then (length w′)
+  pub held : Place-held then (length w′)
 
 abbrev pub Reads : Step → Place → List ℕ → List ℕ → Type 0
 Reads (On then) at w w′ = Read-behind then at w w′
