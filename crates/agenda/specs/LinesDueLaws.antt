@@ -28,7 +28,7 @@ use Rattle.agenda.specs.InputLines.{next-line}
 use Rattle.agenda.specs.InputLinesLaws.{line-is-piece, next-is-line, next-is-last, next-is-none, next-is-more, pieces-glue, command-first}
 use Rattle.agenda.specs.LongLineLaws.{long-lines-are-alike}
 use Rattle.agenda.specs.Agenda.{Place-held, lines-from, listed-from, passing-from, taken, unended, found-line, line-next, report-text, goes-on}
-use Rattle.agenda.specs.Conversation.{Talk, kept, ahead, moved, made, turned, talk}
+use Rattle.agenda.specs.Conversation.{Talk, ahead, moved, made, turned, talk}
 use Rattle.agenda.specs.Due.{past-first, lines-due, due-in, due, busy, later, turns-due, Ready, Talking, Prints}
 use Rattle.agenda.specs.ReadingOnLaws.{read-prints}
 

@@ -1,6 +1,6 @@
 -- The bytes of a tree: a well-formed tree is read back from its bytes, bytes that are read are those of the tree read, and
 -- there are always as many.
-use mathlib.Core.Path.{_≡_, refl, sym, _∙_, ap}
+use mathlib.Core.Path.{_≡_, refl, _∙_, ap}
 use mathlib.Core.List.{List, [], _++_}
 use mathlib.Core.Option.{some}
 use mathlib.Core.Bool.{Bool, true, _&&_, _||_}

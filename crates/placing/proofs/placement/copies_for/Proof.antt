@@ -1,5 +1,4 @@
 -- `placing::placement::copies_for` meets its contract: the copies are those of the checkout, and each answer is what the steps make of them.
-use mathlib.Core.Path.{_∙_}
 use native.Mathlib.Omega.{arith}
 use denote.Ref.{now}
 use Rattle.placing.specs.PlacingJobLaws.{job-row, job-text, job-name, job-low, checkout-job, copies-lie, copies-few, copies-fit, copies-too-deep, copies-too-many, copies-ready}

@@ -1,5 +1,5 @@
 -- `placing::placement::place_copies` meets its contract: copies that are ready make the tree of the steps, and a refusal is theirs.
-use mathlib.Core.Path.{_∙_, refl}
+use mathlib.Core.Path.{refl}
 use denote.Ref.{now}
 use Rattle.shell.specs.CommandBytesLaws.{refusal-follows}
 use Rattle.placing.specs.PlacingLaws.{ready-of, refused-of, ready-follows}

@@ -1,7 +1,6 @@
 -- `placing::placement::put_copies` meets its contract: what is lent from the buffer's third byte on is all behind the first two.
 use mathlib.Core.Path.{_∙_, ap}
-use mathlib.Core.List.{List}
-use Prim.Native.Nat.{ℕ, _-_}
+use Prim.Native.Nat.{_-_}
 use native.Mathlib.Omega.{arith}
 use lib.ListN.{length, drop, length-drop}
 use lib.Seq.{take-all}
