@@ -20,7 +20,7 @@ use Rattle.setup.specs.Setup.{Grant, Setup, accounts, person}
 use Rattle.setup.specs.SetupLaws.{apart}
 use Rattle.store.specs.HeaderLayout.{slot-width, sessions-offset, pairs-offset, pair-width, grants-offset, grant-width, grant-start}
 use Rattle.store.specs.State.{Sessions}
-use Rattle.store.specs.StoreBytes.{header-width, slot-of, session-byte, grant-of, header-bytes, setup-of}
+use Rattle.store.specs.StoreBytes.{slot-of, session-byte, grant-of, header-bytes, setup-of}
 use Rattle.store.specs.HeaderLaws.{length-header, setup-of-header, session-in-header, header-with-session}
 use Rattle.header.specs.HeaderBytes.{Wide-header, Heads, Headed, grant-in}
 
@@ -29,7 +29,6 @@ use Rattle.header.specs.HeaderBytes.{Wide-header, Heads, Headed, grant-i
 module _ {b : List ℕ} {u : Setup} {z : Sessions} (h : Heads b u z) where
   -- it has its width
   heads-wide : Wide-header b
-  unfolding header-width
   heads-wide = ap length (h .bytes) ∙ length-header u z (h .in-range) (h .sixteen)
 
   -- its setup is read from it

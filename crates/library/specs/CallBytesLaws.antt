@@ -26,9 +26,10 @@ use Rattle.shell.specs.declared.Answer.the-variants.{Done, Refused, WrongLine}
 use Rattle.shell.specs.declared.Answer.the-variants
 use Rattle.shell.specs.Replies.{reply, after, answer-of, written}
 use Rattle.shell.specs.CommandBytes.{bytes-after, Carries}
+use Rattle.store.specs.HeaderLayout.{header-width}
 use Rattle.store.specs.State.{Store, State, state-of}
 use Rattle.store.specs.Initial.{initial-store}
-use Rattle.store.specs.StoreBytes.{header-width, store-width, encode, decode}
+use Rattle.store.specs.StoreBytes.{store-width, encode, decode}
 use Rattle.store.specs.StoreBytesLaws.{decode-length}
 use Rattle.store.specs.DecodeLaws.{tree-read}
 use Rattle.machine.specs.RunsLaws.{least-room-is}
@@ -121,11 +122,10 @@ module _ (b a : List ℕ) (n : ℕ) where
       k (s .0) (s .1) ∙ ap (called b a) (sym (sound-call b a (listing-on b n) (s .0) l (s .1)))
 
 -- the tree of a sound store, as a part that ends with the store
-pub tree-part : (b : List ℕ) (s : State) → decode b ≡ some s → Encodes (take (length b - 6142) (drop 6142 b)) (s .store .tree)
-unfolding header-width
-tree-part b s e = rw (take-all (length b - 6142) (drop 6142 b) (omega (arith, length-drop 6142 b))) (tree-read b s e)
+pub tree-part : (b : List ℕ) (s : State) → decode b ≡ some s → Encodes (take (length b - header-width) (drop header-width b)) (s .store .tree)
+tree-part b s e = rw (take-all (length b - header-width) (drop header-width b) (omega (arith, length-drop header-width b))) (tree-read b s e)
 
 -- a sound store has room for its header
-pub store-reaches : (b : List ℕ) → is-some (decode b) ≡ true → 6142 ≤ length b
+pub store-reaches : (b : List ℕ) → is-some (decode b) ≡ true → header-width ≤ length b
 unfolding store-width
 store-reaches b e = let s = the-some (decode b) e in omega (arith, decode-length b (s .0) (s .1))

@@ -19,8 +19,9 @@ use Rattle.setup.specs.Setup.{Setup}
 use Rattle.tree.specs.TreeBytes.{Encodes}
 use Rattle.shell.specs.declared.Answer.{Answer}
 use Rattle.shell.specs.CommandBytes.{Carries, Carries-silently}
+use Rattle.store.specs.HeaderLayout.{header-width}
 use Rattle.store.specs.State.{Store, State, state-of}
-use Rattle.store.specs.StoreBytes.{header-width, store-width, encode}
+use Rattle.store.specs.StoreBytes.{store-width, encode}
 use Rattle.meanings.specs.Meaning.{Meant, needs-session}
 use Rattle.header.specs.HeaderBytes.{Heads, session-held}
 use Rattle.machine.specs.Machine.{run-login, run-logout, run-repository, run}

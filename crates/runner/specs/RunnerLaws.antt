@@ -22,9 +22,10 @@ use Rattle.shell.specs.declared.Answer.{Answer}
 use Rattle.shell.specs.Steps.{run-shell}
 use Rattle.shell.specs.Replies.{reply, answer-of, written}
 use Rattle.shell.specs.CommandBytes.{bytes-after, Carries, Carries-silently, Follows}
+use Rattle.store.specs.HeaderLayout.{header-width}
 use Rattle.store.specs.State.{Sessions, Store, State}
 use Rattle.store.specs.StateLaws.{parts}
-use Rattle.store.specs.StoreBytes.{header-width, store-width, header-bytes, encode, decode}
+use Rattle.store.specs.StoreBytes.{store-width, header-bytes, encode, decode}
 use Rattle.store.specs.HeaderLaws.{length-header}
 use Rattle.store.specs.StoreBytesLaws.{encode-decode, decode-length}
 use Rattle.store.specs.DecodeLaws.{tree-read}
@@ -59,32 +60,29 @@ read-stored b s e =
 
 -- the bytes behind the header as they are lent, and the store with others in their place
 abbrev pub lent-tree : List ℕ → List ℕ
-lent-tree b = take (length b - 6142) (drop 6142 b)
+lent-tree b = take (length b - header-width) (drop header-width b)
 
 abbrev pub tree-back : List ℕ → List ℕ → List ℕ
-tree-back b T = take 6142 b ++ (T ++ drop (length b - 6142) (drop 6142 b))
+tree-back b T = take header-width b ++ (T ++ drop (length b - header-width) (drop header-width b))
 
 module _ {b : List ℕ} (h : Some-store b) where
-  pub long-enough : 6142 ≤ length b
+  pub long-enough : header-width ≤ length b
   unfolding store-width
   long-enough = let w = h .1 .wide in omega arith
 
-  pub header-length : length (take 6142 b) ≡ 6142
-  header-length = length-take-le 6142 b long-enough
+  pub header-length : length (take header-width b) ≡ header-width
+  header-length = length-take-le header-width b long-enough
 
   -- what is lent is a header and a tree
-  pub lent-headed : Headed (take 6142 b)
-  unfolding header-width
+  pub lent-headed : Headed (take header-width b)
   lent-headed = (h .0 .setup, h .0 .store .sessions, h .1 .header)
 
   lent-is : lent-tree b ≡ drop header-width b
-  unfolding header-width
-  lent-is = take-all (length b - 6142) (drop 6142 b) (omega (arith, length-drop 6142 b))
+  lent-is = take-all (length b - header-width) (drop header-width b) (omega (arith, length-drop header-width b))
 
   back-is : (T : List ℕ) → tree-back b T ≡ take header-width b ++ T
-  unfolding header-width
   back-is T =
-      let gone : drop (length b - 6142) (drop 6142 b) ≡ [] = drop-of-length-le (drop 6142 b) {i = length b - 6142} (omega (arith, length-drop 6142 b)) in
+      let gone : drop (length b - header-width) (drop header-width b) ≡ [] = drop-of-length-le (drop header-width b) {i = length b - header-width} (omega (arith, length-drop header-width b)) in
       rw (gone, append-nil T)
 
   pub lent-whole : Whole (lent-tree b)

@@ -22,7 +22,7 @@ use Rattle.setup.specs.declared.Person.{Person as Slot}
 use Rattle.setup.specs.declared.Grant.{Grant as Held-grant}
 use Rattle.setup.specs.Setup.{Setup, accounts, most-pairs, most-grants, is-setup}
 use Rattle.setup.specs.Reader.{slot-value, grant-value}
-use Rattle.store.specs.HeaderLayout.{pair-width, grant-width}
+use Rattle.store.specs.HeaderLayout.{pair-width, grant-width, grants-offset, grants-width, header-width, spare-offset, spare-width, sessions-offset, pairs-offset, pairs-width}
 use Rattle.store.specs.Initial.{no-sessions}
 use Rattle.store.specs.StoreBytes.{slot-bytes, session-byte, grant-bytes, header-bytes}
 use Rattle.store.specs.HeaderLaws.{part-widths}
@@ -186,12 +186,12 @@ five-parts S Z P G U s a b c d e i j k l m t =
     ∙ append-assoc S Z (P ++ (G ++ U))
 
 -- the parts of a setup in range, written into a header one after the other, are its header without sessions
-pub header-written : (u : Setup) → is-setup u ≡ true → (h a b c d e : List ℕ) (U : List ℕ) → U ≡ replicate 5700 0 → length h ≡ 6142 →
-    a ≡ paste h 0 (all-bytes slot-bytes (u .persons)) 48 →
-    b ≡ paste a 48 (replicate 16 0) 16 →
-    c ≡ paste b 64 (table-bytes pair-width most-pairs pair-bytes (u .pairs)) 57 →
-    d ≡ paste c 121 (table-bytes grant-width most-grants grant-bytes (u .grants)) 321 →
-    e ≡ paste d 442 U 5700 →
+pub header-written : (u : Setup) → is-setup u ≡ true → (h a b c d e : List ℕ) (U : List ℕ) → U ≡ replicate spare-width 0 → length h ≡ header-width →
+    a ≡ paste h 0 (all-bytes slot-bytes (u .persons)) sessions-offset →
+    b ≡ paste a sessions-offset (replicate 16 0) 16 →
+    c ≡ paste b pairs-offset (table-bytes pair-width most-pairs pair-bytes (u .pairs)) pairs-width →
+    d ≡ paste c grants-offset (table-bytes grant-width most-grants grant-bytes (u .grants)) grants-width →
+    e ≡ paste d spare-offset U spare-width →
     e ≡ header-bytes u no-sessions
 unfolding header-bytes no-sessions accounts session-byte
 header-written u g h a b c d e U z l i j k m n =
@@ -202,11 +202,11 @@ header-written u g h a b c d e U z l i j k m n =
     let G = table-bytes grant-width most-grants grant-bytes (u .grants) in
     let none : all-bytes (λ z. session-byte z ∷ []) no-sessions ≡ Z = unfold all-bytes in refl in
     n
-    ∙ ap (λ (y : List ℕ). paste y 442 U 5700) (m
-    ∙ ap (λ (y : List ℕ). paste y 121 G 321) (k
-    ∙ ap (λ (y : List ℕ). paste y 64 P 57) (j
-    ∙ ap (λ (y : List ℕ). paste y 48 Z 16) i)))
-    ∙ five-parts S Z P G U h 48 16 57 321 5700 (w .slots) (length-replicate {A = ℕ} 16 0) (w .pairs) (w .grants) (ap length z ∙ length-replicate {A = ℕ} 5700 0) l
+    ∙ ap (λ (y : List ℕ). paste y spare-offset U spare-width) (m
+    ∙ ap (λ (y : List ℕ). paste y grants-offset G grants-width) (k
+    ∙ ap (λ (y : List ℕ). paste y pairs-offset P pairs-width) (j
+    ∙ ap (λ (y : List ℕ). paste y sessions-offset Z 16) i)))
+    ∙ five-parts S Z P G U h sessions-offset 16 pairs-width grants-width spare-width (w .slots) (length-replicate {A = ℕ} 16 0) (w .pairs) (w .grants) (ap length z ∙ length-replicate {A = ℕ} spare-width 0) l
     ∙ ap₂ (λ (y v : List ℕ). S ++ (y ++ (P ++ (G ++ v)))) (sym none) z
 
 -- ---- header and tree

@@ -33,11 +33,11 @@ abbrev pub Grants-fit : Text → List Held-grant → ℕ → Type 0
 Grants-fit t l n = (k : ℕ) → k < n → Password-fits t (getD l k no-grant)
 
 -- the header's parts of the first n pairs and of the first n grants
-abbrev pub pairs-part : List Pair → ℕ → List ℕ
-pairs-part pairs n = table-bytes pair-width most-pairs pair-bytes (take n pairs)
+abbrev pub pairs-table : List Pair → ℕ → List ℕ
+pairs-table pairs n = table-bytes pair-width most-pairs pair-bytes (take n pairs)
 
-abbrev pub grants-part : Text → List Held-grant → ℕ → List ℕ
-grants-part t grants n = table-bytes grant-width most-grants grant-bytes (map (grant-value t) (take n grants))
+abbrev pub grants-table : Text → List Held-grant → ℕ → List ℕ
+grants-table t grants n = table-bytes grant-width most-grants grant-bytes (map (grant-value t) (take n grants))
 
 -- the bytes of the store that a setup begins with
 abbrev pub first-store : Setup → List ℕ

@@ -9,9 +9,9 @@ ghost use Rattle.buffers.specs.Text.{every};
 ghost use Rattle.buffers.specs.Fields.{all-bytes};
 ghost use Rattle.setup.specs.Setup.{is-slot};
 ghost use Rattle.setup.specs.Reader.{slot-value};
-ghost use Rattle.store.specs.HeaderLayout.{pairs-offset, grants-offset};
+ghost use Rattle.store.specs.HeaderLayout.{pairs-offset, grants-offset, grants-width, spare-offset, sessions-offset, pairs-width};
 ghost use Rattle.store.specs.StoreBytes.{slot-bytes};
-ghost use Rattle.setups.specs.Writable.{Grants-fit, pairs-part, grants-part};
+ghost use Rattle.setups.specs.Writable.{Grants-fit, pairs-table, grants-table};
 use crate::header_values::write_grant;
 use crate::header_values::write_pair;
 use crate::header_values::write_slot;
@@ -28,10 +28,10 @@ use store::SPARE;
 
 // Writes the slots of all accounts.
 pub fn write_slots(header: &mut [u8], persons: [Person; 16])
-    requires { ⌜ 48 ≤ length (now header) ⌝ }
+    requires { ⌜ sessions-offset ≤ length (now header) ⌝ }
     requires { ⌜ length persons ≡ 16 ⌝ }
     requires { ⌜ every is-slot (map slot-value persons) ≡ true ⌝ }
-    ensures { λ _. ⌜ now (header .exit) ≡ paste (now (header .entry)) 0 (all-bytes slot-bytes (map slot-value persons)) 48 ⌝ }
+    ensures { λ _. ⌜ now (header .exit) ≡ paste (now (header .entry)) 0 (all-bytes slot-bytes (map slot-value persons)) sessions-offset ⌝ }
 {
     let mut k: usize = 0;
     while k < 16 {
@@ -43,10 +43,10 @@ pub fn write_slots(header: &mut [u8], persons: [Person; 16])
 
 // Writes the first n pairs behind their number, and zeros up to the part's end.
 pub fn write_pairs(header: &mut [u8], pairs: [Pair; 28], n: usize)
-    requires { ⌜ 121 ≤ length (now header) ⌝ }
+    requires { ⌜ grants-offset ≤ length (now header) ⌝ }
     requires { ⌜ length pairs ≡ 28 ⌝ }
     requires { ⌜ n ≤ 28 ⌝ }
-    ensures { λ _. ⌜ now (header .exit) ≡ paste (now (header .entry)) pairs-offset (pairs-part pairs n) 57 ⌝ }
+    ensures { λ _. ⌜ now (header .exit) ≡ paste (now (header .entry)) pairs-offset (pairs-table pairs n) pairs-width ⌝ }
 {
     header[PAIRS] = n as u8;
     let mut k: usize = 0;
@@ -61,11 +61,11 @@ pub fn write_pairs(header: &mut [u8], pairs: [Pair; 28], n: usize)
 
 // Writes the first n grants behind their number, and zeros up to the part's end.
 pub fn write_grants(header: &mut [u8], text: &[u8], grants: [Grant; 32], n: usize)
-    requires { ⌜ 442 ≤ length (now header) ⌝ }
+    requires { ⌜ spare-offset ≤ length (now header) ⌝ }
     requires { ⌜ length grants ≡ 32 ⌝ }
     requires { ⌜ n ≤ 32 ⌝ }
     requires { ⌜ Grants-fit (now text) grants n ⌝ }
-    ensures { λ _. ⌜ now (header .exit) ≡ paste (now (header .entry)) grants-offset (grants-part (now (text .entry)) grants n) 321 ⌝ }
+    ensures { λ _. ⌜ now (header .exit) ≡ paste (now (header .entry)) grants-offset (grants-table (now (text .entry)) grants n) grants-width ⌝ }
 {
     header[GRANTS] = n as u8;
     let mut k: usize = 0;

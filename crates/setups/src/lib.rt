@@ -2,8 +2,9 @@
 ghost use mathlib.Core.Path.{_≡_};
 ghost use lib.ListN.{length};
 ghost use Rattle.setup.specs.Reader.{setup-value};
+ghost use Rattle.store.specs.HeaderLayout.{header-width};
 ghost use Rattle.store.specs.Initial.{no-sessions};
-ghost use Rattle.store.specs.StoreBytes.{header-width, store-width, header-bytes};
+ghost use Rattle.store.specs.StoreBytes.{store-width, header-bytes};
 ghost use Rattle.setups.specs.Writable.{Writable, first-store};
 
 mod header_parts;

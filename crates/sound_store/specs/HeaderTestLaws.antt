@@ -27,7 +27,7 @@ use Rattle.syntax.specs.Field.{bounded, bounded-by}
 use Rattle.setup.specs.Setup.{Setup, accounts, most-pairs, most-grants, person, is-person, is-slot, is-pair, is-grant, is-setup}
 use Rattle.soundness.specs.RowTestLaws.{eqb-flip, length-text-at, same-filled, same-zeros-at}
 use Rattle.store.specs.StoreBytes.{slot-bytes, slot-of, session-byte, session-of, grant-bytes, grant-of, header-bytes, setup-of, sessions-of, is-header}
-use Rattle.store.specs.HeaderLayout.{pair-start, grant-start}
+use Rattle.store.specs.HeaderLayout.{pair-start, grant-start, grants-offset, spare-offset, spare-width, sessions-offset, pairs-offset}
 use Rattle.sound_store.specs.HeaderTests.{Header-wide, passes-from, slot-start, is-slot-at, has-slots, is-session-at, has-sessions, is-pair-at, has-pairs, named-at, is-password-at, is-grant-at, has-grants, header-test}
 use Rattle.sound_store.specs.PassesLaws.{passes-both, passes-same, stretch, opened, all-pass, all-same, table-values, table-same}
 
@@ -148,11 +148,11 @@ module _ (b : List ℕ) (wide : Header-wide b) (small : (k : ℕ) → getD b k 0
       let s = ap (λ (j : ℕ). take 3 (drop j b)) q ∙ three-at b i (omega arith) in
       rw (s, two-at b (i + 1) (omega arith)) (slot-read (getD b i 0) (getD b (i + 1) 0) (getD b (i + 1 + 1) 0) (small (i + 1)) (small (i + 1 + 1)))
 
-  session-is : (k : ℕ) → k < 16 → let s = stretch 1 48 b k in same-text (session-byte (session-of (getD s 0 0)) ∷ []) s ≡ is-session-at b k
+  session-is : (k : ℕ) → k < 16 → let s = stretch 1 sessions-offset b k in same-text (session-byte (session-of (getD s 0 0)) ∷ []) s ≡ is-session-at b k
   unfolding is-session-at
   session-is k h =
-      let i = 48 + k in
-      let q : 48 + 1 * k ≡ i = omega arith in
+      let i = sessions-offset + k in
+      let q : sessions-offset + 1 * k ≡ i = omega arith in
       let s = ap (λ (j : ℕ). take 1 (drop j b)) q ∙ one-at b i (omega arith) in
       rw s (session-read (getD b i 0))
 
@@ -187,13 +187,13 @@ module _ (b : List ℕ) (wide : Header-wide b) (small : (k : ℕ) → getD b k 0
   slots-same = passes-from (λ k. same-text (slot-bytes (slot-of (stretch 3 0 b k))) (stretch 3 0 b k)) 0 16
 
   abbrev sessions-same : Bool
-  sessions-same = passes-from (λ k. same-text (session-byte (session-of (getD (stretch 1 48 b k) 0 0)) ∷ []) (stretch 1 48 b k)) 0 16
+  sessions-same = passes-from (λ k. same-text (session-byte (session-of (getD (stretch 1 sessions-offset b k) 0 0)) ∷ []) (stretch 1 sessions-offset b k)) 0 16
 
   abbrev pairs-same : Bool
-  pairs-same = passes-from (λ k. same-text (pair-bytes (pair-of (stretch 2 65 b k))) (stretch 2 65 b k)) 0 (getD b 64 0)
+  pairs-same = passes-from (λ k. same-text (pair-bytes (pair-of (stretch 2 65 b k))) (stretch 2 65 b k)) 0 (getD b pairs-offset 0)
 
   abbrev grants-same : Bool
-  grants-same = passes-from (λ k. same-text (grant-bytes (grant-of (stretch 10 122 b k))) (stretch 10 122 b k)) 0 (getD b 121 0)
+  grants-same = passes-from (λ k. same-text (grant-bytes (grant-of (stretch 10 122 b k))) (stretch 10 122 b k)) 0 (getD b grants-offset 0)
 
   abbrev u : Setup
   u = setup-of b
@@ -215,76 +215,76 @@ module _ (b : List ℕ) (wide : Header-wide b) (small : (k : ℕ) → getD b k 0
   sessions-are : sessions-same ≡ has-sessions b
   unfolding has-sessions
   sessions-are =
-      passes-same (λ k. same-text (session-byte (session-of (getD (stretch 1 48 b k) 0 0)) ∷ []) (stretch 1 48 b k)) (is-session-at b) 0 16 (λ k h. session-is k (omega arith))
+      passes-same (λ k. same-text (session-byte (session-of (getD (stretch 1 sessions-offset b k) 0 0)) ∷ []) (stretch 1 sessions-offset b k)) (is-session-at b) 0 16 (λ k h. session-is k (omega arith))
 
-  pairs-are : getD b 64 0 ≤ 28 → (every is-pair (u .pairs) && pairs-same) ≡ passes-from (is-pair-at b) 0 (getD b 64 0)
+  pairs-are : getD b pairs-offset 0 ≤ 28 → (every is-pair (u .pairs) && pairs-same) ≡ passes-from (is-pair-at b) 0 (getD b pairs-offset 0)
   unfolding setup-of
   pairs-are few =
-      let n = getD b 64 0 in
+      let n = getD b pairs-offset 0 in
       let P : ℕ → Bool = λ k. is-pair (pair-of (stretch 2 65 b k)) in
       let T : ℕ → Bool = λ k. same-text (pair-bytes (pair-of (stretch 2 65 b k))) (stretch 2 65 b k) in
-      ap (λ (t : Bool). t && pairs-same) (ap (every is-pair) (table-values 2 28 64 b pair-of (omega arith)) ∙ all-pass 2 65 b pair-of is-pair n)
+      ap (λ (t : Bool). t && pairs-same) (ap (every is-pair) (table-values 2 28 pairs-offset b pair-of (omega arith)) ∙ all-pass 2 65 b pair-of is-pair n)
       ∙ passes-both P T 0 n
       ∙ passes-same (λ k. P k && T k) (is-pair-at b) 0 n (λ k h. pair-is k (omega arith))
 
-  grants-are : getD b 121 0 ≤ 32 → (every (is-grant u) (u .grants) && grants-same) ≡ passes-from (is-grant-at b) 0 (getD b 121 0)
+  grants-are : getD b grants-offset 0 ≤ 32 → (every (is-grant u) (u .grants) && grants-same) ≡ passes-from (is-grant-at b) 0 (getD b grants-offset 0)
   grants-are few =
-      let n = getD b 121 0 in
+      let n = getD b grants-offset 0 in
       let P : ℕ → Bool = λ k. is-grant u (grant-of (stretch 10 122 b k)) in
       let T : ℕ → Bool = λ k. same-text (grant-bytes (grant-of (stretch 10 122 b k))) (stretch 10 122 b k) in
-      let g : u .grants ≡ all-from 10 grant-of n (drop 122 b) = unfold setup-of in table-values 10 32 121 b grant-of (omega arith) in
+      let g : u .grants ≡ all-from 10 grant-of n (drop 122 b) = unfold setup-of in table-values 10 32 grants-offset b grant-of (omega arith) in
       ap (λ (t : Bool). t && grants-same) (ap (every (is-grant u)) g ∙ all-pass 10 122 b grant-of (is-grant u) n)
       ∙ passes-both P T 0 n
       ∙ passes-same (λ k. P k && T k) (is-grant-at b) 0 n (λ k h. grant-is k (omega arith))
 
   -- how many of each are read
-  pair-number : length (u .pairs) ≡ getD b 64 0
+  pair-number : length (u .pairs) ≡ getD b pairs-offset 0
   unfolding setup-of
-  pair-number = sym (table-count 2 pair-of b 64)
+  pair-number = sym (table-count 2 pair-of b pairs-offset)
 
-  grant-number : length (u .grants) ≡ getD b 121 0
+  grant-number : length (u .grants) ≡ getD b grants-offset 0
   unfolding setup-of
-  grant-number = sym (table-count 10 grant-of b 121)
+  grant-number = sym (table-count 10 grant-of b grants-offset)
 
   -- the setup in range, part by part
   setup-is : is-setup u ≡ ((eqb (getD b 0 0) 0 && every is-slot (u .persons))
-      && ((leb (getD b 64 0) 28 && every is-pair (u .pairs)) && (leb (getD b 121 0) 32 && every (is-grant u) (u .grants))))
+      && ((leb (getD b pairs-offset 0) 28 && every is-pair (u .pairs)) && (leb (getD b grants-offset 0) 32 && every (is-grant u) (u .grants))))
   unfolding is-setup accounts most-pairs most-grants
   setup-is =
       let sixteen : length (u .persons) ≡ 16 = unfold setup-of in length-all-from 3 slot-of 16 b in
       rw (eq-eqb (length (u .persons)) 16 sixteen, account-0-is, pair-number, grant-number)
 
   -- the bytes of what is read, with a name for the zeros at their end
-  header-with : (R : List ℕ) → R ≡ replicate 5700 0 → header-bytes u (sessions-of b)
-      ≡ all-bytes slot-bytes (all-from 3 slot-of 16 b) ++ (all-bytes (λ z. session-byte z ∷ []) (all-from 1 (λ s. session-of (getD s 0 0)) 16 (drop 48 b))
-      ++ (table-bytes 2 28 pair-bytes (table-from 2 pair-of (drop 64 b)) ++ (table-bytes 10 32 grant-bytes (table-from 10 grant-of (drop 121 b)) ++ R)))
+  header-with : (R : List ℕ) → R ≡ replicate spare-width 0 → header-bytes u (sessions-of b)
+      ≡ all-bytes slot-bytes (all-from 3 slot-of 16 b) ++ (all-bytes (λ z. session-byte z ∷ []) (all-from 1 (λ s. session-of (getD s 0 0)) 16 (drop sessions-offset b))
+      ++ (table-bytes 2 28 pair-bytes (table-from 2 pair-of (drop pairs-offset b)) ++ (table-bytes 10 32 grant-bytes (table-from 10 grant-of (drop grants-offset b)) ++ R)))
   unfolding header-bytes setup-of sessions-of accounts most-pairs most-grants
   header-with R e =
-      ap (λ (l : List ℕ). all-bytes slot-bytes (all-from 3 slot-of 16 b) ++ (all-bytes (λ z. session-byte z ∷ []) (all-from 1 (λ s. session-of (getD s 0 0)) 16 (drop 48 b))
-      ++ (table-bytes 2 28 pair-bytes (table-from 2 pair-of (drop 64 b)) ++ (table-bytes 10 32 grant-bytes (table-from 10 grant-of (drop 121 b)) ++ l)))) (sym e)
+      ap (λ (l : List ℕ). all-bytes slot-bytes (all-from 3 slot-of 16 b) ++ (all-bytes (λ z. session-byte z ∷ []) (all-from 1 (λ s. session-of (getD s 0 0)) 16 (drop sessions-offset b))
+      ++ (table-bytes 2 28 pair-bytes (table-from 2 pair-of (drop pairs-offset b)) ++ (table-bytes 10 32 grant-bytes (table-from 10 grant-of (drop grants-offset b)) ++ l)))) (sym e)
 
   pairs-zero : Bool
-  pairs-zero = zeros-at (pair-start (getD b 64 0)) (121 - pair-start (getD b 64 0)) b
+  pairs-zero = zeros-at (pair-start (getD b pairs-offset 0)) (grants-offset - pair-start (getD b pairs-offset 0)) b
 
   grants-zero : Bool
-  grants-zero = zeros-at (grant-start (getD b 121 0)) (442 - grant-start (getD b 121 0)) b
+  grants-zero = zeros-at (grant-start (getD b grants-offset 0)) (spare-offset - grant-start (getD b grants-offset 0)) b
 
   -- they are the header's just if each part's are, with zeros behind the pairs and the grants
-  same-header : (R : List ℕ) → R ≡ replicate 5700 0 → getD b 64 0 ≤ 28 → getD b 121 0 ≤ 32 →
+  same-header : (R : List ℕ) → R ≡ replicate spare-width 0 → getD b pairs-offset 0 ≤ 28 → getD b grants-offset 0 ≤ 32 →
       same-text (header-bytes u (sessions-of b)) b
-      ≡ (slots-same && (sessions-same && (pairs-same && (pairs-zero && (grants-same && (grants-zero && zeros-at 442 5700 b))))))
+      ≡ (slots-same && (sessions-same && (pairs-same && (pairs-zero && (grants-same && (grants-zero && zeros-at spare-offset spare-width b))))))
   unfolding pairs-zero grants-zero
   same-header R e few-pairs few-grants =
-      let n = getD b 64 0 in
-      let m = getD b 121 0 in
-      let G = table-bytes 10 32 grant-bytes (table-from 10 grant-of (drop 121 b)) ++ R in
-      let P = table-bytes 2 28 pair-bytes (table-from 2 pair-of (drop 64 b)) ++ G in
-      let Z = all-bytes (λ z. session-byte z ∷ []) (all-from 1 (λ s. session-of (getD s 0 0)) 16 (drop 48 b)) ++ P in
-      let last = ap (λ (l : List ℕ). same-text l (drop 442 b)) e ∙ zeros-last 5700 442 b (omega arith) in
-      let grants = table-same 10 32 121 b grant-of (omega arith) grant-bytes grant-long R (442 - grant-start m) 442 (omega arith) (omega arith) (omega arith) in
-      let pairs = table-same 2 28 64 b pair-of (omega arith) pair-bytes pair-long G (121 - pair-start n) 121 (omega arith) (omega arith) (omega arith) in
-      let sessions = all-same 1 48 b (λ s. session-of (getD s 0 0)) (λ z. session-byte z ∷ []) session-long P 16 64 refl (omega arith) in
-      let slots = all-same 3 0 b slot-of slot-bytes slot-long Z 16 48 refl (omega arith) in
+      let n = getD b pairs-offset 0 in
+      let m = getD b grants-offset 0 in
+      let G = table-bytes 10 32 grant-bytes (table-from 10 grant-of (drop grants-offset b)) ++ R in
+      let P = table-bytes 2 28 pair-bytes (table-from 2 pair-of (drop pairs-offset b)) ++ G in
+      let Z = all-bytes (λ z. session-byte z ∷ []) (all-from 1 (λ s. session-of (getD s 0 0)) 16 (drop sessions-offset b)) ++ P in
+      let last = ap (λ (l : List ℕ). same-text l (drop spare-offset b)) e ∙ zeros-last spare-width spare-offset b (omega arith) in
+      let grants = table-same 10 32 grants-offset b grant-of (omega arith) grant-bytes grant-long R (spare-offset - grant-start m) spare-offset (omega arith) (omega arith) (omega arith) in
+      let pairs = table-same 2 28 pairs-offset b pair-of (omega arith) pair-bytes pair-long G (grants-offset - pair-start n) grants-offset (omega arith) (omega arith) (omega arith) in
+      let sessions = all-same 1 sessions-offset b (λ s. session-of (getD s 0 0)) (λ z. session-byte z ∷ []) session-long P 16 pairs-offset refl (omega arith) in
+      let slots = all-same 3 0 b slot-of slot-bytes slot-long Z 16 sessions-offset refl (omega arith) in
       ap (λ (l : List ℕ). same-text l b) (header-with R e)
       ∙ slots
       ∙ ap (λ (t : Bool). slots-same && t) (sessions
@@ -296,15 +296,15 @@ module _ (b : List ℕ) (wide : Header-wide b) (small : (k : ℕ) → getD b k 0
   pub header-test-is : header-test b ≡ is-header b
   unfolding header-test is-header has-slots has-pairs has-grants pairs-zero grants-zero
   header-test-is =
-      let n = getD b 64 0 in
-      let m = getD b 121 0 in
+      let n = getD b pairs-offset 0 in
+      let m = getD b grants-offset 0 in
       let same = same-text (header-bytes u (sessions-of b)) b in
       let setup = ap (λ (t : Bool). t && same) setup-is in
       case (leb n 28)
       (λ p. case (leb m 32)
       (λ g. sym (setup
-      ∙ ap (λ (t : Bool). ((eqb (getD b 0 0) 0 && every is-slot (u .persons)) && ((leb n 28 && every is-pair (u .pairs)) && (leb m 32 && every (is-grant u) (u .grants)))) && t) (same-header (replicate 5700 0) refl (leb-true n 28 p) (leb-true m 32 g))
-      ∙ parts-shuffled (eqb (getD b 0 0) 0) (every is-slot (u .persons)) slots-same sessions-same (leb n 28) (every is-pair (u .pairs)) pairs-same pairs-zero (leb m 32) (every (is-grant u) (u .grants)) grants-same grants-zero (zeros-at 442 5700 b)
+      ∙ ap (λ (t : Bool). ((eqb (getD b 0 0) 0 && every is-slot (u .persons)) && ((leb n 28 && every is-pair (u .pairs)) && (leb m 32 && every (is-grant u) (u .grants)))) && t) (same-header (replicate spare-width 0) refl (leb-true n 28 p) (leb-true m 32 g))
+      ∙ parts-shuffled (eqb (getD b 0 0) 0) (every is-slot (u .persons)) slots-same sessions-same (leb n 28) (every is-pair (u .pairs)) pairs-same pairs-zero (leb m 32) (every (is-grant u) (u .grants)) grants-same grants-zero (zeros-at spare-offset spare-width b)
       ∙ rw (slots-are, sessions-are, pairs-are (leb-true n 28 p), grants-are (leb-true m 32 g))))
       (λ g. simp (g, and-false) (sym (setup ∙ simp (g, and-false)))))
       (λ p. simp (p, and-false) (sym (setup ∙ simp (p, and-false))))

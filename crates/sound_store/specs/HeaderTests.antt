@@ -7,11 +7,11 @@ use lib.Dec.{eqb, leb, ltb}
 use lib.ListN.{length, getD}
 use Rattle.buffers.specs.Fields.{text-at, zeros-at, is-filled}
 use Rattle.syntax.specs.Path.{is-name}
-use Rattle.store.specs.HeaderLayout.{slot-width, sessions-offset, pairs-offset, grants-offset, password-offset, password-width, spare-offset, spare-width, pair-start, grant-start}
+use Rattle.store.specs.HeaderLayout.{slot-width, sessions-offset, pairs-offset, grants-offset, password-offset, password-width, spare-offset, spare-width, pair-start, grant-start, header-width}
 
 -- as many bytes as a header has
 abbrev pub Header-wide : List ℕ → Type 0
-Header-wide b = length b ≡ 6142
+Header-wide b = length b ≡ header-width
 
 -- whether so many indices from one on pass a test
 unfoldable pub passes-from : (ℕ → Bool) → ℕ → ℕ → Bool

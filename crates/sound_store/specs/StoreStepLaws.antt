@@ -12,9 +12,9 @@ use Rattle.syntax.specs.Path.{is-name}
 use Rattle.syntax.specs.Form.{is-some}
 use Rattle.soundness.specs.RowTestLaws.{length-text-at}
 use Rattle.tree.specs.Encoding.{decode-tree}
-use Rattle.store.specs.StoreBytes.{header-width, store-width, is-header, decode}
+use Rattle.store.specs.StoreBytes.{store-width, is-header, decode}
 use Rattle.store.specs.DecodeLaws.{decode-in-parts}
-use Rattle.store.specs.HeaderLayout.{pair-start, grant-start}
+use Rattle.store.specs.HeaderLayout.{pair-start, grant-start, grants-offset, header-width, spare-offset, spare-width, sessions-offset, pairs-offset}
 use Rattle.sound_store.specs.HeaderTests.{Header-wide, passes-from, slot-start, is-slot-at, has-slots, is-session-at, is-pair-at, has-pairs, named-at, is-password-at, is-grant-at, has-grants, has-sessions, header-test}
 
 module _ (b : List ℕ) (k : ℕ) where
@@ -34,13 +34,13 @@ module _ (b : List ℕ) (k : ℕ) where
   slot-groups e h = rw (ne-eqb (getD b (slot-start k) 0) 0 e, le-leb (getD b (slot-start k) 0) 15 h)
 
   -- a session past role 7, and one in range
-  pub session-past : 8 < getD b (48 + k) 0 → is-session-at b k ≡ false
+  pub session-past : 8 < getD b (sessions-offset + k) 0 → is-session-at b k ≡ false
   unfolding is-session-at
-  session-past h = lt-leb (getD b (48 + k) 0) 8 h
+  session-past h = lt-leb (getD b (sessions-offset + k) 0) 8 h
 
-  pub session-fits : getD b (48 + k) 0 ≤ 8 → is-session-at b k ≡ true
+  pub session-fits : getD b (sessions-offset + k) 0 ≤ 8 → is-session-at b k ≡ true
   unfolding is-session-at
-  session-fits h = le-leb (getD b (48 + k) 0) 8 h
+  session-fits h = le-leb (getD b (sessions-offset + k) 0) 8 h
 
   -- a pair that does not fall, and one that does
   pub pair-rises : getD b (pair-start k + 1) 0 ≤ getD b (pair-start k) 0 → is-pair-at b k ≡ false
@@ -104,32 +104,32 @@ module _ (b : List ℕ) where
   by-slots e = rw (eq-eqb (getD b 0 0) 0 e)
 
   -- too many pairs, one out of range, or the zeros behind them decide
-  pub many-pairs : 28 < getD b 64 0 → has-pairs b ≡ false
+  pub many-pairs : 28 < getD b pairs-offset 0 → has-pairs b ≡ false
   unfolding has-pairs
-  many-pairs h = rw (lt-leb (getD b 64 0) 28 h)
+  many-pairs h = rw (lt-leb (getD b pairs-offset 0) 28 h)
 
-  pub pair-fails : passes-from (is-pair-at b) 0 (getD b 64 0) ≡ false → has-pairs b ≡ false
+  pub pair-fails : passes-from (is-pair-at b) 0 (getD b pairs-offset 0) ≡ false → has-pairs b ≡ false
   unfolding has-pairs
   pair-fails e = simp (e, and-false)
 
-  pub by-pair-zeros : getD b 64 0 ≤ 28 → passes-from (is-pair-at b) 0 (getD b 64 0) ≡ true →
-      has-pairs b ≡ zeros-at (pair-start (getD b 64 0)) (121 - pair-start (getD b 64 0)) b
+  pub by-pair-zeros : getD b pairs-offset 0 ≤ 28 → passes-from (is-pair-at b) 0 (getD b pairs-offset 0) ≡ true →
+      has-pairs b ≡ zeros-at (pair-start (getD b pairs-offset 0)) (grants-offset - pair-start (getD b pairs-offset 0)) b
   unfolding has-pairs
-  by-pair-zeros h e = rw (le-leb (getD b 64 0) 28 h, e)
+  by-pair-zeros h e = rw (le-leb (getD b pairs-offset 0) 28 h, e)
 
   -- and so with grants
-  pub many-grants : 32 < getD b 121 0 → has-grants b ≡ false
+  pub many-grants : 32 < getD b grants-offset 0 → has-grants b ≡ false
   unfolding has-grants
-  many-grants h = rw (lt-leb (getD b 121 0) 32 h)
+  many-grants h = rw (lt-leb (getD b grants-offset 0) 32 h)
 
-  pub grant-fails : passes-from (is-grant-at b) 0 (getD b 121 0) ≡ false → has-grants b ≡ false
+  pub grant-fails : passes-from (is-grant-at b) 0 (getD b grants-offset 0) ≡ false → has-grants b ≡ false
   unfolding has-grants
   grant-fails e = simp (e, and-false)
 
-  pub by-grant-zeros : getD b 121 0 ≤ 32 → passes-from (is-grant-at b) 0 (getD b 121 0) ≡ true →
-      has-grants b ≡ zeros-at (grant-start (getD b 121 0)) (442 - grant-start (getD b 121 0)) b
+  pub by-grant-zeros : getD b grants-offset 0 ≤ 32 → passes-from (is-grant-at b) 0 (getD b grants-offset 0) ≡ true →
+      has-grants b ≡ zeros-at (grant-start (getD b grants-offset 0)) (spare-offset - grant-start (getD b grants-offset 0)) b
   unfolding has-grants
-  by-grant-zeros h e = rw (le-leb (getD b 121 0) 32 h, e)
+  by-grant-zeros h e = rw (le-leb (getD b grants-offset 0) 32 h, e)
 
   -- the parts of a header
   pub slots-fail : has-slots b ≡ false → header-test b ≡ false
@@ -148,7 +148,7 @@ module _ (b : List ℕ) where
   unfolding header-test
   grants-fail e = simp (e, and-false)
 
-  pub by-spare : has-slots b ≡ true → has-sessions b ≡ true → has-pairs b ≡ true → has-grants b ≡ true → header-test b ≡ zeros-at 442 5700 b
+  pub by-spare : has-slots b ≡ true → has-sessions b ≡ true → has-pairs b ≡ true → has-grants b ≡ true → header-test b ≡ zeros-at spare-offset spare-width b
   unfolding header-test
   by-spare s z p g = rw (s, z, p, g)
 

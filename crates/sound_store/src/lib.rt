@@ -2,7 +2,8 @@
 ghost use mathlib.Core.Path.{_≡_};
 ghost use lib.ListN.{length};
 ghost use Rattle.syntax.specs.Form.{is-some};
-ghost use Rattle.store.specs.StoreBytes.{header-width, is-header, decode};
+ghost use Rattle.store.specs.HeaderLayout.{header-width};
+ghost use Rattle.store.specs.StoreBytes.{is-header, decode};
 
 mod accounts_part;
 mod grants_part;

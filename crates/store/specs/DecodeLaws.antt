@@ -20,9 +20,10 @@ use Rattle.tree.specs.Encoding.{encode-tree, decode-tree}
 use Rattle.tree.specs.EncodingLaws.{decode-encode-tree, encode-decode-tree}
 use Rattle.tree.specs.TreeBytes.{Encodes}
 use Rattle.tree.specs.TreeBytesLaws.{encodes}
+use Rattle.store.specs.HeaderLayout.{header-width, sessions-offset}
 use Rattle.store.specs.State.{Sessions, State, state-of, well-formed}
 use Rattle.store.specs.StateLaws.{parts, formed}
-use Rattle.store.specs.StoreBytes.{header-width, store-width, header-bytes, session-of, setup-of, sessions-of, is-header, encode, decode}
+use Rattle.store.specs.StoreBytes.{store-width, header-bytes, session-of, setup-of, sessions-of, is-header, encode, decode}
 use Rattle.store.specs.HeaderLaws.{length-header, setup-of-header, sessions-of-header}
 use Rattle.store.specs.StoreBytesLaws.{decode-encode, encode-decode, decode-length}
 
@@ -66,7 +67,7 @@ tree-read b s e =
 -- there are always 16 sessions
 length-sessions-of : (b : List ℕ) → length (sessions-of b) ≡ 16
 unfolding sessions-of accounts
-length-sessions-of b = length-all-from 1 (λ s. session-of (getD s 0 0)) 16 (drop 48 b)
+length-sessions-of b = length-all-from 1 (λ s. session-of (getD s 0 0)) 16 (drop sessions-offset b)
 
 -- bytes that have these parts are read
 parts-are-read : (b : List ℕ) → Read-parts b → is-some (decode b) ≡ true

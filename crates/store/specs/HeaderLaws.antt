@@ -25,9 +25,9 @@ use Rattle.syntax.specs.Field.{bounded, bounded-by}
 use Rattle.syntax.specs.Form.{is-some}
 use Rattle.setup.specs.Setup.{Person, Grant, Setup, accounts, most-pairs, most-grants, person, is-person, is-slot, is-pair, is-grant, is-setup}
 use Rattle.setup.specs.SetupLaws.{apart}
-use Rattle.store.specs.HeaderLayout.{sessions-offset, pair-width, grant-width}
+use Rattle.store.specs.HeaderLayout.{sessions-offset, pair-width, grant-width, grants-offset, grants-width, header-width, spare-width, pairs-offset, pairs-width}
 use Rattle.store.specs.State.{Sessions}
-use Rattle.store.specs.StoreBytes.{header-width, slot-bytes, slot-of, session-byte, session-of, grant-bytes, grant-of, header-bytes, setup-of, sessions-of}
+use Rattle.store.specs.StoreBytes.{slot-bytes, slot-of, session-byte, session-of, grant-bytes, grant-of, header-bytes, setup-of, sessions-of}
 
 -- ---- one value
 
@@ -121,11 +121,11 @@ length-five S Z P G R = rw (length-append S (Z ++ (P ++ (G ++ R))), length-appen
 
 -- the bytes that are zero, not computed
 unused : List ℕ
-unused = replicate 5700 0
+unused = replicate spare-width 0
 
-length-unused : length unused ≡ 5700
+length-unused : length unused ≡ spare-width
 unfolding unused
-length-unused = length-replicate {A = ℕ} 5700 0
+length-unused = length-replicate {A = ℕ} spare-width 0
 
 -- what stands before them
 slots-part : Setup → List ℕ
@@ -149,7 +149,7 @@ before : (u : Setup) (z : Sessions) (B : List ℕ) →
     header-bytes u z ++ B ≡ slots-part u ++ (sessions-part z ++ (pairs-part u ++ (grants-part u ++ (unused ++ B))))
 before u z B = ap (λ (l : List ℕ). l ++ B) (header-parts u z) ∙ appended (slots-part u) (sessions-part z) (pairs-part u) (grants-part u) unused B
 
-length-slots : (u : Setup) → is-setup u ≡ true → length (slots-part u) ≡ 48
+length-slots : (u : Setup) → is-setup u ≡ true → length (slots-part u) ≡ sessions-offset
 unfolding slots-part
 length-slots u h = let r = apart u h in length-all-bytes 3 is-slot slot-bytes length-slot (u .persons) (r .slots) ∙ omega (arith, r .count)
 
@@ -157,19 +157,19 @@ length-sessions : (z : Sessions) → length z ≡ 16 → length (sessions-part z
 unfolding sessions-part
 length-sessions z e = length-all-bytes 1 any-session one-session length-session z (every-session z) ∙ omega arith
 
-length-pairs : (u : Setup) → is-setup u ≡ true → length (pairs-part u) ≡ 57
+length-pairs : (u : Setup) → is-setup u ≡ true → length (pairs-part u) ≡ pairs-width
 unfolding pairs-part most-pairs
 length-pairs u h = let r = apart u h in length-table 2 is-pair pair-bytes length-pair 28 (u .pairs) (r .all-pairs) (r .few-pairs)
 
-length-grants : (u : Setup) → is-setup u ≡ true → length (grants-part u) ≡ 321
+length-grants : (u : Setup) → is-setup u ≡ true → length (grants-part u) ≡ grants-width
 unfolding grants-part most-grants
 length-grants u h = let r = apart u h in length-table 10 (is-grant u) grant-bytes (length-grant u) 32 (u .grants) (r .all-grants) (r .few-grants)
 
 -- the widths of these parts, of a setup in range
 pub record Part-widths (u : Setup) : Type 0 where
-  pub slots : length (all-bytes slot-bytes (u .persons)) ≡ 48
-  pub pairs : length (table-bytes pair-width most-pairs pair-bytes (u .pairs)) ≡ 57
-  pub grants : length (table-bytes grant-width most-grants grant-bytes (u .grants)) ≡ 321
+  pub slots : length (all-bytes slot-bytes (u .persons)) ≡ sessions-offset
+  pub pairs : length (table-bytes pair-width most-pairs pair-bytes (u .pairs)) ≡ pairs-width
+  pub grants : length (table-bytes grant-width most-grants grant-bytes (u .grants)) ≡ grants-width
 
 pub part-widths : (u : Setup) → is-setup u ≡ true → Part-widths u
 unfolding slots-part pairs-part grants-part
@@ -193,7 +193,6 @@ grants-back u Q h =
 
 -- the header takes its width
 pub length-header : (u : Setup) (z : Sessions) → is-setup u ≡ true → length z ≡ 16 → length (header-bytes u z) ≡ header-width
-unfolding header-width
 length-header u z h e =
     ap length (header-parts u z) ∙ length-five (slots-part u) (sessions-part z) (pairs-part u) (grants-part u) unused
     ∙ omega (arith, length-slots u h, length-sessions z e, length-pairs u h, length-grants u h, length-unused)
@@ -211,8 +210,8 @@ setup-of-header u z B h e =
     let w = length-sessions z e in
     rw (
       before u z B,
-      past-two S Z (P ++ G) 48 16 64 s w refl,
-      past-three S Z P G 48 16 57 121 s w (length-pairs u h) refl,
+      past-two S Z (P ++ G) sessions-offset 16 pairs-offset s w refl,
+      past-three S Z P G sessions-offset 16 pairs-width grants-offset s w (length-pairs u h) refl,
       persons-back u (Z ++ (P ++ G)) h,
       pairs-back u G h,
       grants-back u Q h,
@@ -223,7 +222,7 @@ pub sessions-of-header : (u : Setup) (z : Sessions) (B : List ℕ) → is-setup 
 unfolding sessions-of sessions-part one-session accounts
 sessions-of-header u z B h e =
     let Q = pairs-part u ++ (grants-part u ++ (unused ++ B)) in
-    rw (before u z B, drop-at (slots-part u) (sessions-part z ++ Q) 48 (length-slots u h), ← e)
+    rw (before u z B, drop-at (slots-part u) (sessions-part z ++ Q) sessions-offset (length-slots u h), ← e)
     (all-from-bytes 1 any-session one-session length-session (λ s. session-of (getD s 0 0)) (λ a t. session-back a) z Q (every-session z))
 
 -- ---- one session of a header
@@ -253,7 +252,7 @@ module _ (u : Setup) (z : Sessions) (h : is-setup u ≡ true) (e : length z ≡ 
       let S = slots-part u in
       let Z = sessions-part z in
       let R = pairs-part u ++ (grants-part u ++ unused) in
-      let k : 48 + i ≡ length S + i = omega (arith, length-slots u h) in
+      let k : sessions-offset + i ≡ length S + i = omega (arith, length-slots u h) in
       rw (header-parts u z, k, getD-append-add S (Z ++ R) i 0, List·getD-append Z R 0 i (omega (arith, length-sessions z e))) (session-in-part z i)
 
   -- stored there, a session's byte makes the header of the sessions with it
@@ -262,7 +261,7 @@ module _ (u : Setup) (z : Sessions) (h : is-setup u ≡ true) (e : length z ≡ 
       let S = slots-part u in
       let Z = sessions-part z in
       let R = pairs-part u ++ (grants-part u ++ unused) in
-      let k : 48 + i ≡ length S + i = omega (arith, length-slots u h) in
+      let k : sessions-offset + i ≡ length S + i = omega (arith, length-slots u h) in
       rw (
         header-parts u z,
         k,

@@ -29,12 +29,23 @@ password-offset = 2
 abbrev pub password-width : ℕ
 password-width = 8
 
+-- the bytes of all pairs and of all grants, each with their number
+abbrev pub pairs-width : ℕ
+pairs-width = 57
+
+abbrev pub grants-width : ℕ
+grants-width = 321
+
 -- zeros up to the header's end
 abbrev pub spare-offset : ℕ
 spare-offset = 442
 
 abbrev pub spare-width : ℕ
 spare-width = 5700
+
+-- the whole header; the tree begins behind it
+abbrev pub header-width : ℕ
+header-width = 6142
 
 -- where the pair and the grant of an index begin
 abbrev pub pair-start : ℕ → ℕ

@@ -24,11 +24,8 @@ use Rattle.syntax.specs.Form.{_>>=_, _>>_, check}
 use Rattle.syntax.specs.Field.{bounded}
 use Rattle.setup.specs.Setup.{Person, Grant, Setup, accounts, most-pairs, most-grants, is-setup}
 use Rattle.tree.specs.Encoding.{encode-tree, decode-tree}
-use Rattle.store.specs.HeaderLayout.{slot-width, sessions-offset, pairs-offset, pair-width, grants-offset, grant-width, password-offset, password-width, spare-width}
+use Rattle.store.specs.HeaderLayout.{slot-width, sessions-offset, pairs-offset, pair-width, grants-offset, grant-width, password-offset, password-width, spare-width, header-width}
 use Rattle.store.specs.State.{Sessions, State, well-formed}
-
-unfoldable pub header-width : ℕ
-header-width = 6142
 
 unfoldable pub store-width : ℕ
 store-width = 65536

@@ -15,14 +15,15 @@ use Rattle.syntax.specs.Form.{_>>=_, _>>_, check}
 use Rattle.syntax.specs.FormLaws.{both-read, checked, answered}
 use Rattle.tree.specs.Encoding.{encode-tree, decode-tree}
 use Rattle.tree.specs.EncodingLaws.{length-encode-tree, decode-encode-tree}
+use Rattle.store.specs.HeaderLayout.{header-width}
 use Rattle.store.specs.State.{State, well-formed}
 use Rattle.store.specs.StateLaws.{parts}
-use Rattle.store.specs.StoreBytes.{header-width, store-width, header-bytes, setup-of, sessions-of, encode, decode}
+use Rattle.store.specs.StoreBytes.{store-width, header-bytes, setup-of, sessions-of, encode, decode}
 use Rattle.store.specs.HeaderLaws.{length-header, setup-of-header, sessions-of-header}
 
 -- the encoding of a well-formed state has the width of all stores
 pub length-encode : (s : State) → well-formed s ≡ true → length (encode s) ≡ store-width
-unfolding encode header-width store-width
+unfolding encode store-width
 length-encode s h =
     let i = parts s h in
     let H = header-bytes (s .setup) (s .store .sessions) in

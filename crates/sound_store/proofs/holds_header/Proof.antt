@@ -5,7 +5,7 @@ use Prim.Native.Nat.{ℕ}
 use native.Mathlib.Omega.{arith}
 use denote.Ref.{now}
 use Rattle.buffers.specs.Cases.{answers-false, answers-true}
-use Rattle.store.specs.StoreBytes.{header-width, is-header}
+use Rattle.store.specs.StoreBytes.{is-header}
 use Rattle.sound_store.specs.HeaderTests.{header-test}
 use Rattle.sound_store.specs.HeaderTestLaws.{header-test-is}
 use Rattle.sound_store.specs.StoreStepLaws.{slots-fail, sessions-fail, pairs-fail, grants-fail, by-spare}
@@ -16,39 +16,33 @@ abbrev bytes-of : tie.After-shared-slice-known → List ℕ
 bytes-of k = now (k .before .args .header)
 
 whole : (k : tie.After-shared-slice-known) → header-test (bytes-of k) ≡ is-header (bytes-of k)
-unfolding header-width
 whole k = header-test-is (bytes-of k) (omega arith) (λ j. omega (arith, k .shared-slice-known .given j))
 
 has-slots-requires : tie.Need-has-slots-requires
-unfolding header-width
 has-slots-requires c κs = omega arith
 
 returns : tie.Need-returns
 returns c = let k = c .before .before in sym (slots-fail (bytes-of k) (answers-false (c .before .has-slots .ensures) (c .if1 .taken))) ∙ whole k
 
 has-sessions-requires : tie.Need-has-sessions-requires
-unfolding header-width
 has-sessions-requires c κs = omega arith
 
 returns-2 : tie.Need-returns-2
 returns-2 c = let k = c .before .before .before .before in sym (sessions-fail (bytes-of k) (answers-false (c .before .has-sessions .ensures) (c .if2 .taken))) ∙ whole k
 
 has-pairs-requires : tie.Need-has-pairs-requires
-unfolding header-width
 has-pairs-requires c κs = omega arith
 
 returns-3 : tie.Need-returns-3
 returns-3 c = let k = c .before .before .before .before .before .before in sym (pairs-fail (bytes-of k) (answers-false (c .before .has-pairs .ensures) (c .if3 .taken))) ∙ whole k
 
 has-grants-requires : tie.Need-has-grants-requires
-unfolding header-width
 has-grants-requires c κs = omega arith
 
 returns-4 : tie.Need-returns-4
 returns-4 c = let k = c .before .before .before .before .before .before .before .before in sym (grants-fail (bytes-of k) (answers-false (c .before .has-grants .ensures) (c .if4 .taken))) ∙ whole k
 
 is-zero-in-blocks-requires : tie.Need-is-zero-in-blocks-requires
-unfolding header-width
 is-zero-in-blocks-requires c κs = (omega arith, omega arith)
 
 returns-5 : tie.Need-returns-5

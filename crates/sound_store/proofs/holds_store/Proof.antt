@@ -9,7 +9,7 @@ use denote.Ref.{now}
 use Rattle.buffers.specs.Cases.{answers-false, answers-true}
 use Rattle.syntax.specs.Form.{is-some}
 use Rattle.tree.specs.Encoding.{decode-tree}
-use Rattle.store.specs.StoreBytes.{header-width}
+use Rattle.store.specs.HeaderLayout.{header-width}
 use Rattle.sound_store.specs.StoreStepLaws.{another-length, header-fails, by-tree}
 use borrow.Author.Needs.{needs}
 use Rattle.sound_store.proofs.holds_store.Statement.{statement}
@@ -19,14 +19,12 @@ returns : tie.Need-returns
 returns c = sym (another-length (now (c .before .before .args .store)) (λ e. omega arith))
 
 slice-aggregate-holds-header : tie.Need-slice-aggregate-holds-header
-slice-aggregate-holds-header c = sym (length-take-le 6142 (now (c .before .before .before .args .store)) (omega arith))
+slice-aggregate-holds-header c = sym (length-take-le header-width (now (c .before .before .before .args .store)) (omega arith))
 
 holds-header-requires : tie.Need-holds-header-requires
-unfolding header-width
-holds-header-requires c κs = length-take-le 6142 (now (c .before .before .before .args .store)) (omega arith)
+holds-header-requires c κs = length-take-le header-width (now (c .before .before .before .args .store)) (omega arith)
 
 returns-2 : tie.Need-returns-2
-unfolding header-width
 returns-2 c = sym (header-fails (now (c .before .before .before .before .before .args .store)) (answers-false (c .before .holds-header .ensures) (c .if2 .taken)))
 
 sub-holds-tree : tie.Need-sub-holds-tree
@@ -42,11 +40,10 @@ holds-tree-requires : tie.Need-holds-tree-requires
 holds-tree-requires c κs = search needs
 
 returns-3 : tie.Need-returns-3
-unfolding header-width
 returns-3 c =
     let b = now (c .before .before .before .before .before .before .before .args .store) in
     let header = answers-true (c .before .before .before .holds-header .ensures) (c .before .before .if2 .left) in
-    let rest : take (length b - 6142) (drop 6142 b) ≡ drop 6142 b = take-all (length b - 6142) (drop 6142 b) (omega (arith, length-drop 6142 b)) in
+    let rest : take (length b - header-width) (drop header-width b) ≡ drop header-width b = take-all (length b - header-width) (drop header-width b) (omega (arith, length-drop header-width b)) in
     c .holds-tree .ensures ∙ ap (λ (l : List ℕ). is-some (decode-tree l)) rest ∙ sym (by-tree b (omega arith) header)
 
 pub holds-store-spec : {M : Type 1} → statement M

@@ -11,6 +11,7 @@ use Rattle.dominance.specs.PairsIn.{pairs-in}
 use Rattle.header.specs.HeaderBytesLaws.{headed-wide, pairs-stand}
 use Rattle.header.specs.PairRowsLaws.{few-paired, pairs-in-fall}
 use borrow.Author.Needs.{needs}
+use Rattle.store.specs.HeaderLayout.{pairs-offset}
 use Rattle.header.proofs.roles.dominance_of.Statement.{statement}
 use Rattle.header.proofs.roles.dominance_of.Tie as tie
 
@@ -46,7 +47,7 @@ closed-bytes-requires c κs =
 returns : tie.Need-returns
 returns c u z h =
     let b = now (c .before .before .before .before .args .header) in
-    c .closed-bytes .ensures ∙ ap (λ (l : List ℕ). rows-of (pairs-in (getD b 64 0) l)) (behind-number b) ∙ ap rows-of (sym (pairs-stand h))
+    c .closed-bytes .ensures ∙ ap (λ (l : List ℕ). rows-of (pairs-in (getD b pairs-offset 0) l)) (behind-number b) ∙ ap rows-of (sym (pairs-stand h))
 
 pub dominance-of-spec : {M : Type 1} → statement M
 dominance-of-spec =

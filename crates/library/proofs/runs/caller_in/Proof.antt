@@ -1,6 +1,5 @@
 -- `library::runs::caller_in` meets its contract: it is what the header tells.
 use mathlib.Core.Path.{sym}
-use Rattle.store.specs.StoreBytes.{header-width}
 use Rattle.runner.specs.RunnerLaws.{header-length, lent-headed}
 use Rattle.library.proofs.runs.caller_in.Statement.{statement}
 use Rattle.library.proofs.runs.caller_in.Tie as tie
@@ -12,7 +11,6 @@ caller-of-requires : tie.Need-caller-of-requires
 caller-of-requires c κs = lent-headed (c .before .before .pre)
 
 returns : tie.Need-returns
-unfolding header-width
 returns c s h = c .caller-of .ensures (s .setup) (s .store .sessions) (h .header)
 
 pub caller-in-spec : {M : Type 1} → statement M

@@ -8,6 +8,7 @@ use Rattle.accounts.specs.declared.Role.{Role}
 use Rattle.accounts.specs.Closure.{row-account}
 use Rattle.header.specs.SessionBytesLaws.{role-is}
 use Rattle.header.specs.PairRowsLaws.{rows-tell-account}
+use Rattle.store.specs.HeaderLayout.{header-width}
 use Rattle.runner.specs.RunnerLaws.{long-enough, lent-whole}
 use Rattle.runner.specs.SessionStepLaws.{acting, role-carries}
 use borrow.Rule.Slice.PartMut.{same-len-mid}
@@ -36,7 +37,7 @@ same-length : tie.Need-same-length
 same-length c =
     let b = now (c .before .before .before .before .before .before .before .before .before .args .store) in
     let l = c .before .before .entry-command in
-    same-len-mid 6142 (length b - 6142) b (l .last .0) (l .kept .0)
+    same-len-mid header-width (length b - header-width) b (l .last .0) (l .kept .0)
 
 returns : tie.Need-returns
 returns c s z k h e held n m =

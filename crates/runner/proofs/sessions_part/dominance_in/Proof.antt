@@ -1,6 +1,5 @@
 -- `runner::sessions_part::dominance_in` meets its contract: it is what the header tells.
 use mathlib.Core.Path.{sym}
-use Rattle.store.specs.StoreBytes.{header-width}
 use Rattle.runner.specs.RunnerLaws.{header-length, lent-headed}
 use Rattle.runner.proofs.sessions_part.dominance_in.Statement.{statement}
 use Rattle.runner.proofs.sessions_part.dominance_in.Tie as tie
@@ -12,7 +11,6 @@ dominance-of-requires : tie.Need-dominance-of-requires
 dominance-of-requires c κs = lent-headed (c .before .before .pre)
 
 returns : tie.Need-returns
-unfolding header-width
 returns c s h = c .dominance-of .ensures (s .setup) (s .store .sessions) (h .header)
 
 pub dominance-in-spec : {M : Type 1} → statement M

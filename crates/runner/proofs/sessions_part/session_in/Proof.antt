@@ -1,6 +1,5 @@
 -- `runner::sessions_part::session_in` meets its contract: it is what the header tells.
 use mathlib.Core.Path.{sym}
-use Rattle.store.specs.StoreBytes.{header-width}
 use Rattle.runner.specs.RunnerLaws.{header-length, lent-headed}
 use Rattle.runner.proofs.sessions_part.session_in.Statement.{statement}
 use Rattle.runner.proofs.sessions_part.session_in.Tie as tie
@@ -12,7 +11,6 @@ session-of-requires : tie.Need-session-of-requires
 session-of-requires c κs = (lent-headed (c .before .before .pre .0), c .before .before .pre .1)
 
 returns : tie.Need-returns
-unfolding header-width
 returns c s h = c .session-of .ensures (s .setup) (s .store .sessions) (h .header)
 
 pub session-in-spec : {M : Type 1} → statement M

@@ -3,6 +3,7 @@ use Prim.Native.Nat.{_-_}
 use native.Mathlib.Omega.{arith}
 use lib.ListN.{length}
 use denote.Ref.{now}
+use Rattle.store.specs.HeaderLayout.{header-width}
 use Rattle.runner.specs.RunnerLaws.{long-enough, lent-whole, shell-carries}
 use borrow.Rule.Slice.PartMut.{same-len-mid}
 use Rattle.runner.proofs.store_part.in_shell.Statement.{statement}
@@ -24,7 +25,7 @@ same-length : tie.Need-same-length
 same-length c =
     let b = now (c .before .before .before .before .before .before .before .before .before .before .args .store) in
     let l = c .before .before .before .before .shell-command in
-    same-len-mid 6142 (length b - 6142) b (l .last .0) (l .kept .0)
+    same-len-mid header-width (length b - header-width) b (l .last .0) (l .kept .0)
 
 same-length-2 : tie.Need-same-length-2
 same-length-2 c = c .before .before .before .before .shell-command .kept .1 .1 .1 .1 .0

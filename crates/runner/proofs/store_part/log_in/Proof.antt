@@ -3,8 +3,8 @@ use mathlib.Core.Path.{sym, subst}
 use lib.ListN.{take}
 use denote.Ref.{now}
 use Rattle.buffers.specs.Text.{Text}
-use Rattle.store.specs.StoreBytes.{header-width}
 use Rattle.header.specs.HeaderBytes.{Logs-in}
+use Rattle.store.specs.HeaderLayout.{header-width}
 use Rattle.runner.specs.RunnerLaws.{long-enough, header-length, lent-headed, login-carries}
 use borrow.Author.Needs.{needs}
 use Rattle.runner.proofs.store_part.log_in.Statement.{statement}
@@ -26,11 +26,10 @@ same-length : tie.Need-same-length
 same-length c = search needs
 
 returns : tie.Need-returns
-unfolding header-width
 returns c s z h e =
     let a = c .before .before .before .before .before .before .before .before .args in
     let l = c .before .before .login in
-    let H = take 6142 (now (a .store)) in
+    let H = take header-width (now (a .store)) in
     let logs = subst (λ (x : Text). Logs-in H (a .caller .account .uid) (a .role) x (l .result) (l .last .0)) (c .before .before .before .part .ensures) (l .ensures) in
     login-carries h (a .caller) z _ (l .result) (l .last .0) (logs (s .setup) (s .store .sessions) (h .header) z e)
 

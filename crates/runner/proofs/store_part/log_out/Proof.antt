@@ -1,6 +1,5 @@
 -- `runner::store_part::log_out` meets its contract: the header is lent, and the tree stays behind what is left of it.
 use mathlib.Core.Path.{sym}
-use Rattle.store.specs.StoreBytes.{header-width}
 use Rattle.runner.specs.RunnerLaws.{long-enough, header-length, lent-headed, logout-carries}
 use borrow.Author.Needs.{needs}
 use Rattle.runner.proofs.store_part.log_out.Statement.{statement}
@@ -19,7 +18,6 @@ same-length : tie.Need-same-length
 same-length c = search needs
 
 returns : tie.Need-returns
-unfolding header-width
 returns c s h =
     let l = c .before .before .logout in
     let a = c .before .before .before .before .before .before .args in

@@ -8,6 +8,7 @@ use lib.Seq.{paste}
 use denote.Ref.{now}
 use Rattle.setup.specs.Setup.{most-grants}
 use Rattle.setup.specs.Reader.{grant-value, no-grant}
+use Rattle.store.specs.HeaderLayout.{grants-offset, grants-width, spare-offset}
 use Rattle.store.specs.StoreBytes.{grant-bytes}
 use Rattle.setups.specs.HeaderWrittenLaws.{grant-wide, table-bytes-map, Values-written, none-written, one-written, table-written}
 use Rattle.setups.proofs.header_parts.write_grants.Statement.{statement}
@@ -26,7 +27,7 @@ slice-write-header : tie.Need-slice-write-header Inv-loop μ-loop
 slice-write-header c = omega arith
 
 loop-holds : tie.Need-loop-holds Inv-loop μ-loop
-loop-holds c = let a = c .before .before .args in none-written (λ g. grant-bytes (grant-value (now (a .text)) g)) 10 122 (a .t3) (a .n) (set (now (a .header)) 121 (a .n))
+loop-holds c = let a = c .before .before .args in none-written (λ g. grant-bytes (grant-value (now (a .text)) g)) 10 122 (a .t3) (a .n) (set (now (a .header)) grants-offset (a .n))
 
 mul-grant : tie.Need-mul-grant Inv-loop μ-loop
 mul-grant c = omega arith
@@ -48,7 +49,7 @@ write-grant-requires c κs =
     let l = c .before .before .before .loop in
     let i = l .inv in
     let s = c .before .before .before .before .before .before in
-    (omega (arith, length-set (now (s .args .header)) 121 (s .args .n)), s .pre .1 .1 .1 (l .k) (omega arith))
+    (omega (arith, length-set (now (s .args .header)) grants-offset (s .args .n)), s .pre .1 .1 .1 (l .k) (omega arith))
 
 add-k : tie.Need-add-k Inv-loop μ-loop
 add-k c = omega arith
@@ -63,8 +64,8 @@ loop-again c =
     let s = c .before .before .before .before .before .before .before .before .before in
     let a = s .args in
     let short = s .pre .1 .1 .1 (l .k) (omega arith) .short in
-    one-written (λ g. grant-bytes (grant-value (now (a .text)) g)) 10 122 (a .t3) (a .n) (set (now (a .header)) 121 (a .n)) (l .header) (w .last .0) (l .k) (122 + 10 * l .k) no-grant (l .inv)
-    (omega arith) (omega arith) (grant-wide (now (a .text)) (getD (a .t3) (l .k) no-grant) short) refl (omega (arith, length-set (now (a .header)) 121 (a .n))) (w .kept .0) (w .ensures)
+    one-written (λ g. grant-bytes (grant-value (now (a .text)) g)) 10 122 (a .t3) (a .n) (set (now (a .header)) grants-offset (a .n)) (l .header) (w .last .0) (l .k) (122 + 10 * l .k) no-grant (l .inv)
+    (omega arith) (omega arith) (grant-wide (now (a .text)) (getD (a .t3) (l .k) no-grant) short) refl (omega (arith, length-set (now (a .header)) grants-offset (a .n))) (w .kept .0) (w .ensures)
 
 add-end : tie.Need-add-end Inv-loop μ-loop
 add-end c = omega arith
@@ -82,12 +83,12 @@ clear-requires : tie.Need-clear-requires Inv-loop μ-loop
 clear-requires c κs =
     let i = c .before .before .loop .inv in
     let a = c .before .before .before .before .before .args in
-    omega (arith, length-set (now (a .header)) 121 (a .n))
+    omega (arith, length-set (now (a .header)) grants-offset (a .n))
 
 same-length : tie.Need-same-length Inv-loop μ-loop
 same-length c =
     let a = c .before .before .before .before .before .before .before .before .args in
-    c .before .before .clear .kept .0 ∙ c .before .before .before .before .before .loop .inv .len ∙ length-set (now (a .header)) 121 (a .n)
+    c .before .before .clear .kept .0 ∙ c .before .before .before .before .before .loop .inv .len ∙ length-set (now (a .header)) grants-offset (a .n)
 
 returns : tie.Need-returns Inv-loop μ-loop
 unfolding most-grants
@@ -95,9 +96,9 @@ returns c =
     let l = c .before .before .before .before .before .loop in
     let a = c .before .before .before .before .before .before .before .before .args in
     c .before .before .clear .ensures
-    ∙ table-written (λ g. grant-bytes (grant-value (now (a .text)) g)) 10 32 121 (a .t3) (a .n) (now (a .header)) (l .header) (l .k) (442 - (122 + 10 * a .n)) 321 (122 + 10 * a .n) (l .inv)
+    ∙ table-written (λ g. grant-bytes (grant-value (now (a .text)) g)) 10 32 grants-offset (a .t3) (a .n) (now (a .header)) (l .header) (l .k) (spare-offset - (122 + 10 * a .n)) grants-width (122 + 10 * a .n) (l .inv)
     (omega arith) (omega arith) (omega arith) (omega arith) (omega arith) refl
-    ∙ ap (λ (x : List ℕ). paste (now (a .header)) 121 x 321) (sym (table-bytes-map 10 32 grant-bytes (grant-value (now (a .text))) (take (a .n) (a .t3))))
+    ∙ ap (λ (x : List ℕ). paste (now (a .header)) grants-offset x grants-width) (sym (table-bytes-map 10 32 grant-bytes (grant-value (now (a .text))) (take (a .n) (a .t3))))
 
 pub write-grants-spec : {M : Type 1} → statement M
 write-grants-spec =

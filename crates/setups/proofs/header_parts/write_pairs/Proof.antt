@@ -6,6 +6,7 @@ use lib.ListN.{getD, set, length-set}
 use denote.Ref.{now}
 use Rattle.accounts.specs.PairBytes.{pair-bytes, no-pair}
 use Rattle.setup.specs.Setup.{most-pairs}
+use Rattle.store.specs.HeaderLayout.{grants-offset, pairs-offset, pairs-width}
 use Rattle.setups.specs.HeaderWrittenLaws.{pair-wide, Values-written, none-written, one-written, table-written}
 use Rattle.setups.proofs.header_parts.write_pairs.Statement.{statement}
 use Rattle.setups.proofs.header_parts.write_pairs.Tie as tie
@@ -23,7 +24,7 @@ slice-write-header : tie.Need-slice-write-header Inv-loop μ-loop
 slice-write-header c = omega arith
 
 loop-holds : tie.Need-loop-holds Inv-loop μ-loop
-loop-holds c = let a = c .before .args in none-written pair-bytes 2 65 (a .t2) (a .n) (set (now (a .header)) 64 (a .n))
+loop-holds c = let a = c .before .args in none-written pair-bytes 2 65 (a .t2) (a .n) (set (now (a .header)) pairs-offset (a .n))
 
 mul-pair : tie.Need-mul-pair Inv-loop μ-loop
 mul-pair c = omega arith
@@ -44,7 +45,7 @@ write-pair-requires : tie.Need-write-pair-requires Inv-loop μ-loop
 write-pair-requires c κs =
     let i = c .before .before .before .loop .inv in
     let a = c .before .before .before .before .before .args in
-    omega (arith, length-set (now (a .header)) 64 (a .n))
+    omega (arith, length-set (now (a .header)) pairs-offset (a .n))
 
 add-k : tie.Need-add-k Inv-loop μ-loop
 add-k c = omega arith
@@ -57,8 +58,8 @@ loop-again c =
     let w = c .before .before .write-pair in
     let l = c .before .before .before .before .before .before .loop in
     let a = c .before .before .before .before .before .before .before .before .args in
-    one-written pair-bytes 2 65 (a .t2) (a .n) (set (now (a .header)) 64 (a .n)) (l .header) (w .last .0) (l .k) (65 + 2 * l .k) no-pair (l .inv)
-    (omega arith) (omega arith) (pair-wide (getD (a .t2) (l .k) no-pair)) refl (omega (arith, length-set (now (a .header)) 64 (a .n))) (w .kept .0) (w .ensures)
+    one-written pair-bytes 2 65 (a .t2) (a .n) (set (now (a .header)) pairs-offset (a .n)) (l .header) (w .last .0) (l .k) (65 + 2 * l .k) no-pair (l .inv)
+    (omega arith) (omega arith) (pair-wide (getD (a .t2) (l .k) no-pair)) refl (omega (arith, length-set (now (a .header)) pairs-offset (a .n))) (w .kept .0) (w .ensures)
 
 add-end : tie.Need-add-end Inv-loop μ-loop
 add-end c = omega arith
@@ -76,12 +77,12 @@ clear-requires : tie.Need-clear-requires Inv-loop μ-loop
 clear-requires c κs =
     let i = c .before .before .loop .inv in
     let a = c .before .before .before .before .args in
-    omega (arith, length-set (now (a .header)) 64 (a .n))
+    omega (arith, length-set (now (a .header)) pairs-offset (a .n))
 
 same-length : tie.Need-same-length Inv-loop μ-loop
 same-length c =
     let a = c .before .before .before .before .before .before .before .args in
-    c .before .before .clear .kept .0 ∙ c .before .before .before .before .before .loop .inv .len ∙ length-set (now (a .header)) 64 (a .n)
+    c .before .before .clear .kept .0 ∙ c .before .before .before .before .before .loop .inv .len ∙ length-set (now (a .header)) pairs-offset (a .n)
 
 returns : tie.Need-returns Inv-loop μ-loop
 unfolding most-pairs
@@ -89,7 +90,7 @@ returns c =
     let l = c .before .before .before .before .before .loop in
     let a = c .before .before .before .before .before .before .before .args in
     c .before .before .clear .ensures
-    ∙ table-written pair-bytes 2 28 64 (a .t2) (a .n) (now (a .header)) (l .header) (l .k) (121 - (65 + 2 * a .n)) 57 (65 + 2 * a .n) (l .inv)
+    ∙ table-written pair-bytes 2 28 pairs-offset (a .t2) (a .n) (now (a .header)) (l .header) (l .k) (grants-offset - (65 + 2 * a .n)) pairs-width (65 + 2 * a .n) (l .inv)
     (omega arith) (omega arith) (omega arith) (omega arith) (omega arith) refl
 
 pub write-pairs-spec : {M : Type 1} → statement M

@@ -10,6 +10,7 @@ use Rattle.buffers.specs.Fields.{all-bytes}
 use Rattle.setup.specs.Setup.{is-slot}
 use Rattle.setup.specs.Reader.{slot-value}
 use Rattle.setup.specs.ReaderLaws.{no-slot}
+use Rattle.store.specs.HeaderLayout.{sessions-offset}
 use Rattle.store.specs.StoreBytes.{slot-bytes}
 use Rattle.setups.specs.HeaderWrittenLaws.{slot-wide, all-bytes-map, Values-written, none-written, one-written, all-written}
 use Rattle.setups.specs.WritableLaws.{image-passes}
@@ -63,7 +64,7 @@ returns c =
     let l = c .before .loop in
     let a = c .before .before .before .args in
     let all = ap (all-bytes (λ p. slot-bytes (slot-value p))) (take-all 16 (a .t2) (omega arith)) ∙ sym (all-bytes-map slot-bytes slot-value (a .t2)) in
-    all-written (λ p. slot-bytes (slot-value p)) 3 0 (a .t2) 16 (now (a .header)) (l .header) (l .k) (l .inv) (omega arith) ∙ ap (λ (x : List ℕ). paste (now (a .header)) 0 x 48) all
+    all-written (λ p. slot-bytes (slot-value p)) 3 0 (a .t2) 16 (now (a .header)) (l .header) (l .k) (l .inv) (omega arith) ∙ ap (λ (x : List ℕ). paste (now (a .header)) 0 x sessions-offset) all
 
 pub write-slots-spec : {M : Type 1} → statement M
 write-slots-spec =

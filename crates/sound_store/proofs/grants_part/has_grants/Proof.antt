@@ -3,6 +3,7 @@ use mathlib.Core.Path.{sym, _∙_}
 use native.Mathlib.Omega.{arith}
 use denote.Ref.{now}
 use Rattle.buffers.specs.Cases.{answers-false, answers-true}
+use Rattle.store.specs.HeaderLayout.{grants-offset}
 use Rattle.sound_store.specs.StoreStepLaws.{many-grants, grant-fails, by-grant-zeros}
 use borrow.Author.Needs.{needs}
 use Rattle.sound_store.proofs.grants_part.has_grants.Statement.{statement}
@@ -12,7 +13,7 @@ shared-slice-read-n : tie.Need-shared-slice-read-n
 shared-slice-read-n c = search needs
 
 cast-n : tie.Need-cast-n
-cast-n c = let small : _ = c .shared-slice-known2 .given 121 in omega arith
+cast-n c = let small : _ = c .shared-slice-known2 .given grants-offset in omega arith
 
 returns : tie.Need-returns
 returns c = sym (many-grants (now (c .before .before .before .args .header)) (omega arith))

@@ -5,6 +5,7 @@ use denote.Ref.{now}
 use Rattle.buffers.specs.Cases.{answers-false, answers-true}
 use Rattle.sound_store.specs.StoreStepLaws.{many-pairs, pair-fails, by-pair-zeros}
 use borrow.Author.Needs.{needs}
+use Rattle.store.specs.HeaderLayout.{pairs-offset}
 use Rattle.sound_store.proofs.pairs_part.has_pairs.Statement.{statement}
 use Rattle.sound_store.proofs.pairs_part.has_pairs.Tie as tie
 
@@ -12,7 +13,7 @@ shared-slice-read-n : tie.Need-shared-slice-read-n
 shared-slice-read-n c = search needs
 
 cast-n : tie.Need-cast-n
-cast-n c = let small : _ = c .shared-slice-known2 .given 64 in omega arith
+cast-n c = let small : _ = c .shared-slice-known2 .given pairs-offset in omega arith
 
 returns : tie.Need-returns
 returns c = sym (many-pairs (now (c .before .before .before .args .header)) (omega arith))
