@@ -19,17 +19,13 @@ use Rattle.tree.specs.declared.Cause.the-variants.{UnknownCaller}
 use Rattle.tree.specs.Result.{Result, refused, done, _>>=_, Outcome}
 use Rattle.shell.specs.declared.Answer.{Answer}
 use Rattle.shell.specs.CommandBytes.{Carries-silently}
-use Rattle.store.specs.HeaderLayout.{password-offset, password-width, spare-offset, spare-width, grant-start}
+use Rattle.store.specs.HeaderLayout.{password-offset, password-width, grant-start}
 use Rattle.store.specs.State.{Sessions}
 use Rattle.store.specs.StoreBytes.{header-bytes}
 use Rattle.store.specs.Callers.{granted}
 use Rattle.store.specs.Logins.{logged-in, logged-out}
 use Rattle.header.specs.declared.Known.{Known}
 use Rattle.header.specs.declared.Known.the-variants.{As, Nobody}
-
--- as many bytes as a header has
-abbrev pub Wide-header : List ℕ → Type 0
-Wide-header b = length b ≡ spare-offset + spare-width
 
 -- the bytes of the header of a setup in range and sixteen sessions
 pub record Heads (b : List ℕ) (u : Setup) (z : Sessions) : Type 0 where

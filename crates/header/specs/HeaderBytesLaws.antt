@@ -18,11 +18,11 @@ use Rattle.accounts.specs.PairBytes.{pair-of}
 use Rattle.dominance.specs.PairsIn.{pairs-in}
 use Rattle.setup.specs.Setup.{Grant, Setup, accounts, person}
 use Rattle.setup.specs.SetupLaws.{apart}
-use Rattle.store.specs.HeaderLayout.{slot-width, sessions-offset, pairs-offset, pair-width, grants-offset, grant-width, grant-start}
+use Rattle.store.specs.HeaderLayout.{slot-width, sessions-offset, pairs-offset, pair-width, grants-offset, grant-width, grant-start, Wide-header}
 use Rattle.store.specs.State.{Sessions}
 use Rattle.store.specs.StoreBytes.{slot-of, session-byte, grant-of, header-bytes, setup-of}
 use Rattle.store.specs.HeaderLaws.{length-header, setup-of-header, session-in-header, header-with-session}
-use Rattle.header.specs.HeaderBytes.{Wide-header, Heads, Headed, grant-in}
+use Rattle.header.specs.HeaderBytes.{Heads, Headed, grant-in}
 
 -- ---- a header
 

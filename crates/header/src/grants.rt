@@ -1,7 +1,8 @@
 // Whether a login is granted.
 ghost use mathlib.Core.Path.{_≡_};
 ghost use Prim.Native.Nat.{_<_};
-ghost use Rattle.header.specs.HeaderBytes.{Wide-header, Headed, grant-in, grant-has, Grant-told};
+ghost use Rattle.store.specs.HeaderLayout.{Wide-header};
+ghost use Rattle.header.specs.HeaderBytes.{Headed, grant-in, grant-has, Grant-told};
 use accounts::Role;
 use accounts::Uid;
 use buffers::same;

@@ -2,7 +2,7 @@
 ghost use mathlib.Core.Path.{_≡_};
 ghost use lib.ListN.{length};
 ghost use Rattle.setup.specs.Reader.{setup-value};
-ghost use Rattle.store.specs.HeaderLayout.{header-width};
+ghost use Rattle.store.specs.HeaderLayout.{Wide-header};
 ghost use Rattle.store.specs.Initial.{no-sessions};
 ghost use Rattle.store.specs.StoreBytes.{store-width, header-bytes};
 ghost use Rattle.setups.specs.Writable.{Writable, first-store};
@@ -22,7 +22,7 @@ use store::write_initial;
 
 // Writes the header of a setup without sessions, whatever stood there.
 pub fn write_header(header: &mut [u8], text: &[u8], setup: Setup)
-    requires { ⌜ length (now header) ≡ header-width ⌝ }
+    requires { ⌜ Wide-header (now header) ⌝ }
     requires { ⌜ Writable (now text) setup ⌝ }
     ensures { λ _. ⌜ now (header .exit) ≡ header-bytes (setup-value (now (text .entry)) setup) no-sessions ⌝ }
 {

@@ -27,8 +27,8 @@ use Rattle.syntax.specs.Field.{bounded, bounded-by}
 use Rattle.setup.specs.Setup.{Setup, accounts, most-pairs, most-grants, person, is-person, is-slot, is-pair, is-grant, is-setup}
 use Rattle.soundness.specs.RowTestLaws.{eqb-flip, length-text-at, same-filled, same-zeros-at}
 use Rattle.store.specs.StoreBytes.{slot-bytes, slot-of, session-byte, session-of, grant-bytes, grant-of, header-bytes, setup-of, sessions-of, is-header}
-use Rattle.store.specs.HeaderLayout.{pair-start, grant-start, grants-offset, spare-offset, spare-width, sessions-offset, pairs-offset}
-use Rattle.sound_store.specs.HeaderTests.{Header-wide, passes-from, slot-start, is-slot-at, has-slots, is-session-at, has-sessions, is-pair-at, has-pairs, named-at, is-password-at, is-grant-at, has-grants, header-test}
+use Rattle.store.specs.HeaderLayout.{pair-start, grant-start, grants-offset, spare-offset, spare-width, sessions-offset, pairs-offset, Wide-header}
+use Rattle.sound_store.specs.HeaderTests.{passes-from, slot-start, is-slot-at, has-slots, is-session-at, has-sessions, is-pair-at, has-pairs, named-at, is-password-at, is-grant-at, has-grants, header-test}
 use Rattle.sound_store.specs.PassesLaws.{passes-both, passes-same, stretch, opened, all-pass, all-same, table-values, table-same}
 
 -- ---- the bytes of one value
@@ -139,7 +139,7 @@ parts-shuffled true true true true true true true true true true true true zu = 
 
 -- ---- the parts
 
-module _ (b : List ℕ) (wide : Header-wide b) (small : (k : ℕ) → getD b k 0 < 256) where
+module _ (b : List ℕ) (wide : Wide-header b) (small : (k : ℕ) → getD b k 0 < 256) where
   slot-is : (k : ℕ) → k < 16 → let s = stretch 3 0 b k in (is-slot (slot-of s) && same-text (slot-bytes (slot-of s)) s) ≡ is-slot-at b k
   unfolding is-slot-at zeros-at
   slot-is k h =

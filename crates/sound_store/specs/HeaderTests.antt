@@ -1,17 +1,12 @@
 -- What the code tests: a header's bytes part by part, and a part's values one by one.
-use mathlib.Core.Path.{_≡_}
 use mathlib.Core.List.{List}
 use mathlib.Core.Bool.{Bool, true, _&&_, _||_, not, cond}
 use Prim.Native.Nat.{ℕ, zero, suc, _+_, _-_, _*_, _%_}
 use lib.Dec.{eqb, leb, ltb}
-use lib.ListN.{length, getD}
+use lib.ListN.{getD}
 use Rattle.buffers.specs.Fields.{text-at, zeros-at, is-filled}
 use Rattle.syntax.specs.Path.{is-name}
-use Rattle.store.specs.HeaderLayout.{slot-width, sessions-offset, pairs-offset, grants-offset, password-offset, password-width, spare-offset, spare-width, pair-start, grant-start, header-width}
-
--- as many bytes as a header has
-abbrev pub Header-wide : List ℕ → Type 0
-Header-wide b = length b ≡ header-width
+use Rattle.store.specs.HeaderLayout.{slot-width, sessions-offset, pairs-offset, grants-offset, password-offset, password-width, spare-offset, spare-width, pair-start, grant-start}
 
 -- whether so many indices from one on pass a test
 unfoldable pub passes-from : (ℕ → Bool) → ℕ → ℕ → Bool

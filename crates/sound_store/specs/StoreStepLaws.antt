@@ -14,8 +14,8 @@ use Rattle.soundness.specs.RowTestLaws.{length-text-at}
 use Rattle.tree.specs.Encoding.{decode-tree}
 use Rattle.store.specs.StoreBytes.{store-width, is-header, decode}
 use Rattle.store.specs.DecodeLaws.{decode-in-parts}
-use Rattle.store.specs.HeaderLayout.{pair-start, grant-start, grants-offset, header-width, spare-offset, spare-width, sessions-offset, pairs-offset}
-use Rattle.sound_store.specs.HeaderTests.{Header-wide, passes-from, slot-start, is-slot-at, has-slots, is-session-at, is-pair-at, has-pairs, named-at, is-password-at, is-grant-at, has-grants, has-sessions, header-test}
+use Rattle.store.specs.HeaderLayout.{pair-start, grant-start, grants-offset, header-width, spare-offset, spare-width, sessions-offset, pairs-offset, Wide-header}
+use Rattle.sound_store.specs.HeaderTests.{passes-from, slot-start, is-slot-at, has-slots, is-session-at, is-pair-at, has-pairs, named-at, is-password-at, is-grant-at, has-grants, has-sessions, header-test}
 
 module _ (b : List ℕ) (k : ℕ) where
   -- a slot that is no person's
@@ -77,7 +77,7 @@ module _ (b : List ℕ) (k : ℕ) where
       rw (e, ← l, q)
 
   -- no password is longer than its field
-  pub password-within : Header-wide b → k < 32 → length (text-at (grant-start k + 2) 8 b) ≤ 8
+  pub password-within : Wide-header b → k < 32 → length (text-at (grant-start k + 2) 8 b) ≤ 8
   password-within w h = length-text-at (grant-start k + 2) 8 b (omega arith)
 
   -- a grant of nobody, one of a role past 7, and another

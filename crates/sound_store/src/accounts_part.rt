@@ -1,14 +1,15 @@
 // The header's slots and sessions, one of each for every account.
 ghost use mathlib.Core.Path.{_≡_};
 ghost use Prim.Native.Nat.{_<_};
-ghost use Rattle.sound_store.specs.HeaderTests.{Header-wide, is-slot-at, has-slots, has-sessions, named-at};
+ghost use Rattle.store.specs.HeaderLayout.{Wide-header};
+ghost use Rattle.sound_store.specs.HeaderTests.{is-slot-at, has-slots, has-sessions, named-at};
 use buffers::is_zero;
 use store::SESSIONS;
 use store::SLOT;
 
 // Whether a slot is zeros, or a person's groups in range.
 fn is_slot(header: &[u8], k: usize) -> bool
-    requires { ⌜ Header-wide (now header) ⌝ }
+    requires { ⌜ Wide-header (now header) ⌝ }
     requires { ⌜ k < 16 ⌝ }
     ensures { λ r. ⌜ r ≡ is-slot-at (now (header .entry)) k ⌝ }
 {
@@ -25,7 +26,7 @@ fn is_slot(header: &[u8], k: usize) -> bool
 
 // Whether account 0 is no person's, and every slot is in range.
 pub fn has_slots(header: &[u8]) -> bool
-    requires { ⌜ Header-wide (now header) ⌝ }
+    requires { ⌜ Wide-header (now header) ⌝ }
     ensures { λ r. ⌜ r ≡ has-slots (now (header .entry)) ⌝ }
 {
     if header[0] != 0 {
@@ -43,7 +44,7 @@ pub fn has_slots(header: &[u8]) -> bool
 
 // Whether every session is of a role or none.
 pub fn has_sessions(header: &[u8]) -> bool
-    requires { ⌜ Header-wide (now header) ⌝ }
+    requires { ⌜ Wide-header (now header) ⌝ }
     ensures { λ r. ⌜ r ≡ has-sessions (now (header .entry)) ⌝ }
 {
     let mut k: usize = 0;
@@ -58,7 +59,7 @@ pub fn has_sessions(header: &[u8]) -> bool
 
 // Whether a number is root's or a person's.
 pub fn is_named(header: &[u8], uid: u8) -> bool
-    requires { ⌜ Header-wide (now header) ⌝ }
+    requires { ⌜ Wide-header (now header) ⌝ }
     ensures { λ r. ⌜ r ≡ named-at (now (header .entry)) uid ⌝ }
 {
     if uid == 0 {

@@ -1,7 +1,8 @@
 // The header's login grants.
 ghost use mathlib.Core.Path.{_≡_};
 ghost use Prim.Native.Nat.{_≤_, _<_};
-ghost use Rattle.sound_store.specs.HeaderTests.{Header-wide, passes-from, is-grant-at, is-password-at, has-grants};
+ghost use Rattle.store.specs.HeaderLayout.{Wide-header};
+ghost use Rattle.sound_store.specs.HeaderTests.{passes-from, is-grant-at, is-password-at, has-grants};
 use crate::accounts_part::is_named;
 use buffers::is_zero;
 use store::GRANT;
@@ -12,7 +13,7 @@ use store::SPARE;
 
 // Whether a grant's password is a name, filled up with zeros.
 fn is_password(header: &[u8], k: usize) -> bool
-    requires { ⌜ Header-wide (now header) ⌝ }
+    requires { ⌜ Wide-header (now header) ⌝ }
     requires { ⌜ k < 32 ⌝ }
     ensures { λ r. ⌜ r ≡ is-password-at (now (header .entry)) k ⌝ }
 {
@@ -27,7 +28,7 @@ fn is_password(header: &[u8], k: usize) -> bool
 
 // Whether a grant is root's or a person's, its role in range, and its password a name.
 fn is_grant(header: &[u8], k: usize) -> bool
-    requires { ⌜ Header-wide (now header) ⌝ }
+    requires { ⌜ Wide-header (now header) ⌝ }
     requires { ⌜ k < 32 ⌝ }
     ensures { λ r. ⌜ r ≡ is-grant-at (now (header .entry)) k ⌝ }
 {
@@ -43,7 +44,7 @@ fn is_grant(header: &[u8], k: usize) -> bool
 
 // Whether the first n grants are in range.
 fn are_grants(header: &[u8], n: usize) -> bool
-    requires { ⌜ Header-wide (now header) ⌝ }
+    requires { ⌜ Wide-header (now header) ⌝ }
     requires { ⌜ n ≤ 32 ⌝ }
     ensures { λ r. ⌜ r ≡ passes-from (is-grant-at (now (header .entry))) 0 n ⌝ }
 {
@@ -59,7 +60,7 @@ fn are_grants(header: &[u8], n: usize) -> bool
 
 // Whether there are at most 32 grants, all in range, and zeros behind them.
 pub fn has_grants(header: &[u8]) -> bool
-    requires { ⌜ Header-wide (now header) ⌝ }
+    requires { ⌜ Wide-header (now header) ⌝ }
     ensures { λ r. ⌜ r ≡ has-grants (now (header .entry)) ⌝ }
 {
     let n = header[GRANTS] as usize;

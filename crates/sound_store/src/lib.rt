@@ -1,8 +1,7 @@
 // Whether a lent buffer holds a sound store: a header, and behind it a tree.
 ghost use mathlib.Core.Path.{_≡_};
-ghost use lib.ListN.{length};
 ghost use Rattle.syntax.specs.Form.{is-some};
-ghost use Rattle.store.specs.HeaderLayout.{header-width};
+ghost use Rattle.store.specs.HeaderLayout.{Wide-header};
 ghost use Rattle.store.specs.StoreBytes.{is-header, decode};
 
 mod accounts_part;
@@ -21,7 +20,7 @@ use store::STORE;
 
 // Whether a header's bytes are those of a setup in range and of sessions.
 pub fn holds_header(header: &[u8]) -> bool
-    requires { ⌜ length (now header) ≡ header-width ⌝ }
+    requires { ⌜ Wide-header (now header) ⌝ }
     ensures { λ r. ⌜ r ≡ is-header (now (header .entry)) ⌝ }
 {
     if !has_slots(header) {

@@ -1,7 +1,8 @@
 // The header's role pairs.
 ghost use mathlib.Core.Path.{_≡_};
 ghost use Prim.Native.Nat.{_≤_, _<_};
-ghost use Rattle.sound_store.specs.HeaderTests.{Header-wide, passes-from, is-pair-at, has-pairs};
+ghost use Rattle.store.specs.HeaderLayout.{Wide-header};
+ghost use Rattle.sound_store.specs.HeaderTests.{passes-from, is-pair-at, has-pairs};
 use buffers::is_zero;
 use store::GRANTS;
 use store::PAIR;
@@ -9,7 +10,7 @@ use store::PAIRS;
 
 // Whether a pair falls, and its roles are in range.
 fn is_pair(header: &[u8], k: usize) -> bool
-    requires { ⌜ Header-wide (now header) ⌝ }
+    requires { ⌜ Wide-header (now header) ⌝ }
     requires { ⌜ k < 28 ⌝ }
     ensures { λ r. ⌜ r ≡ is-pair-at (now (header .entry)) k ⌝ }
 {
@@ -24,7 +25,7 @@ fn is_pair(header: &[u8], k: usize) -> bool
 
 // Whether the first n pairs are in range.
 fn are_pairs(header: &[u8], n: usize) -> bool
-    requires { ⌜ Header-wide (now header) ⌝ }
+    requires { ⌜ Wide-header (now header) ⌝ }
     requires { ⌜ n ≤ 28 ⌝ }
     ensures { λ r. ⌜ r ≡ passes-from (is-pair-at (now (header .entry))) 0 n ⌝ }
 {
@@ -40,7 +41,7 @@ fn are_pairs(header: &[u8], n: usize) -> bool
 
 // Whether there are at most 28 pairs, all in range, and zeros behind them.
 pub fn has_pairs(header: &[u8]) -> bool
-    requires { ⌜ Header-wide (now header) ⌝ }
+    requires { ⌜ Wide-header (now header) ⌝ }
     ensures { λ r. ⌜ r ≡ has-pairs (now (header .entry)) ⌝ }
 {
     let n = header[PAIRS] as usize;

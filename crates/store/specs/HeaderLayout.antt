@@ -1,5 +1,8 @@
 -- Where the parts of a store stand, and how wide they are; src/layout.rt has the same numbers for the code.
+use mathlib.Core.Path.{_≡_}
+use mathlib.Core.List.{List}
 use Prim.Native.Nat.{ℕ, _+_, _*_}
+use lib.ListN.{length}
 
 -- an account's slot: its primary group, its further groups in two bytes
 abbrev pub slot-width : ℕ
@@ -46,6 +49,9 @@ spare-width = 5700
 -- the whole header; the tree begins behind it
 abbrev pub header-width : ℕ
 header-width = 6142
+
+abbrev pub Wide-header : List ℕ → Type 0
+Wide-header b = length b ≡ header-width
 
 -- where the pair and the grant of an index begin
 abbrev pub pair-start : ℕ → ℕ
