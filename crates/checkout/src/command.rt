@@ -1,6 +1,5 @@
 // The command `co` on a tree's bytes. There are no more copies than the entry has rows with all below it: by how many these are, the
 // copies are made in an array for few, some, many, half or all of the rows of a tree.
-ghost use mathlib.Core.Path.{_≡_};
 ghost use Prim.Native.Nat.{_≤_};
 ghost use Rattle.tree.specs.Layout.{few-rows, some-rows, many-rows, half-rows, most-rows};
 ghost use Rattle.tree.specs.TreeBytes.{Whole, Path-text, Entry-path-text};

@@ -35,7 +35,7 @@ use Rattle.store.specs.DecodeLaws.{tree-read}
 use Rattle.machine.specs.RunsLaws.{least-room-is}
 use Rattle.listing.specs.Listing.{listing}
 use Rattle.calls.specs.Calls.{set-up, setup-call, Called, called, encoded, on-state, listing-on, listing-result, listing-call}
-use Rattle.runner.specs.Runner.{bytes-with}
+use Rattle.stored_header.specs.Stored.{bytes-with}
 use Rattle.library.specs.CallBytes.{set-up-as, called-as}
 
 -- ---- setup

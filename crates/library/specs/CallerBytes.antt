@@ -1,5 +1,4 @@
--- Who calls, and a command by whom a number names, on a store's bytes: what the code of `run` promises on the way.
-use mathlib.Core.Path.{_≡_}
+-- A command by whom a number names, on a store's bytes: what the code of `run` promises on the way.
 use mathlib.Core.List.{List}
 use Prim.Native.Nat.{ℕ}
 use Rattle.buffers.specs.Text.{Text}
@@ -11,16 +10,10 @@ use Rattle.shell.specs.declared.Answer.{Answer}
 use Rattle.shell.specs.CommandBytes.{Carries}
 use Rattle.store.specs.State.{Store, State}
 use Rattle.store.specs.Callers.{caller}
-use Rattle.header.specs.declared.Known.{Known}
-use Rattle.header.specs.HeaderBytes.{known}
 use Rattle.machine.specs.Machine.{run}
 use Rattle.machine.specs.StoreMachine.{store}
 use Rattle.meanings.specs.Meaning.{Meant}
-use Rattle.runner.specs.Runner.{Stored, bytes-with}
-
--- the answer is whom the setup knows, whichever store's bytes these are
-abbrev pub Caller-told : List ℕ → Uid → Known → Type 0
-Caller-told b uid r = (s : State) → Stored b s → known r ≡ caller (s .setup) uid
+use Rattle.stored_header.specs.Stored.{Stored, bytes-with}
 
 -- who calls, then the command
 abbrev pub calls-and-runs : State → Uid → Command → Result (Outcome Store)

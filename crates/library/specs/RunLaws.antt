@@ -27,7 +27,7 @@ use Rattle.machine.specs.StoreMachine.{store}
 use Rattle.machine.specs.Runs.{perform}
 use Rattle.machine.specs.CallerLaws.{caller-in-range}
 use Rattle.calls.specs.Calls.{called, encoded, line-on, run-result, run-call}
-use Rattle.runner.specs.Runner.{Stored, bytes-with}
+use Rattle.stored_header.specs.Stored.{Stored, bytes-with}
 use Rattle.library.specs.CallBytes.{called-as}
 use Rattle.library.specs.CallBytesLaws.{refused-call, short-call, unsound-call, sound-call, carried-call}
 use Rattle.library.specs.CallerBytes.{calls-and-runs}

@@ -4,29 +4,20 @@ ghost use Prim.Native.Nat.{_≤_};
 ghost use lib.ListN.{length};
 ghost use Rattle.calls.specs.Calls.{run-call};
 ghost use Rattle.meanings.specs.Meaning.{Meaningful};
-ghost use Rattle.runner.specs.Runner.{Some-store};
+ghost use Rattle.stored_header.specs.Stored.{Some-store};
 ghost use Rattle.library.specs.CallBytes.{called-as};
-ghost use Rattle.library.specs.CallerBytes.{Caller-told, Called-by};
+ghost use Rattle.library.specs.CallerBytes.{Called-by};
 use crate::LEAST_ROOM;
 use accounts::Uid;
 use commands::Command;
 use commands::Parsed;
 use commands::parse;
 use header::Known;
-use header::caller_of;
 use runner::run_command;
 use shell::Answer;
 use sound_store::holds_store;
-use store::HEADER;
+use stored_header::caller_in;
 use tree::Cause;
-
-// Who an account number is, by the store's header.
-fn caller_in(store: &[u8], uid: Uid) -> Known
-    requires { ⌜ Some-store (now store) ⌝ }
-    ensures { λ r. ⌜ Caller-told (now (store .entry)) uid r ⌝ }
-{
-    caller_of(&store[..HEADER], uid)
-}
 
 // A command by whom the setup knows under an account number.
 fn by_caller(store: &mut [u8], uid: Uid, line: &[u8], command: Command, answer: &mut [u8]) -> Answer

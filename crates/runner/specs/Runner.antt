@@ -1,85 +1,43 @@
--- A parsed command carried out on a store's bytes: the command that its parts mean, the state whose bytes these are, and what the code promises.
+-- A parsed command carried out on a store's bytes: what the code promises, for the command that its parts mean.
 use mathlib.Core.Path.{_≡_}
 use mathlib.Core.List.{List}
 use mathlib.Core.Option.{none, some}
 use mathlib.Core.Bool.{true}
 use Prim.Native.Nat.{ℕ}
-use lib.ListN.{length, take, drop, getD}
+use lib.ListN.{getD}
 use Rattle.buffers.specs.Text.{Text}
 use Rattle.accounts.specs.declared.Caller.{Caller}
-use Rattle.accounts.specs.declared.Dominance.{Dominance}
 use Rattle.accounts.specs.declared.Role.{Role}
-use Rattle.accounts.specs.declared.Session.{Session}
-use Rattle.accounts.specs.declared.Uid.{Uid}
-use Rattle.accounts.specs.Closure.{rows-of}
 use Rattle.accounts.specs.Dominance.{Bounded-role}
 use Rattle.commands.specs.declared.Command.{Command as Parts}
 use Rattle.commands.specs.Command.{Shell-command, Repository-command, Command, shell, repository}
-use Rattle.setup.specs.Setup.{Setup}
-use Rattle.tree.specs.TreeBytes.{Encodes}
 use Rattle.shell.specs.declared.Answer.{Answer}
 use Rattle.shell.specs.CommandBytes.{Carries, Carries-silently}
-use Rattle.store.specs.HeaderLayout.{header-width}
-use Rattle.store.specs.State.{Store, State, state-of}
-use Rattle.store.specs.StoreBytes.{store-width, encode}
+use Rattle.store.specs.State.{State}
 use Rattle.meanings.specs.Meaning.{Meant, needs-session}
-use Rattle.header.specs.HeaderBytes.{Heads, session-held}
-use Rattle.machine.specs.Machine.{run-login, run-logout, run-repository, run}
+use Rattle.machine.specs.Machine.{run-repository, run}
 use Rattle.machine.specs.StoreMachine.{store}
+use Rattle.stored_header.specs.Stored.{Stored, bytes-with}
 
--- ---- what is asked
+-- a caller's command that the parts of a line mean
+module _ (c : Caller) (line : Text) (command : Parts) where
+  -- the shell's
+  abbrev pub Store-shell-done : List ℕ → List ℕ → Answer → List ℕ → List ℕ → Type 0
+  Store-shell-done b a r b′ a′ = (s : State) (k : Shell-command) → Stored b s → Meant line command (shell k)
+      → Carries (bytes-with (s .setup)) (run store (s .setup) (s .store) c (shell k)) b a r b′ a′
 
--- the bytes of a store in the state s: those of a header, then those of a tree
-pub record Stored (b : List ℕ) (s : State) : Type 0 where
-  pub wide : length b ≡ store-width
-  pub header : Heads (take header-width b) (s .setup) (s .store .sessions)
-  pub tree : Encodes (drop header-width b) (s .store .tree)
+  -- one that needs a session, in the session of a role
+  abbrev pub Role-done : Role → List ℕ → Answer → List ℕ → Type 0
+  Role-done role b r b′ = (s : State) (z : Bounded-role) (k : Repository-command) → Stored b s → z .role ≡ role
+      → getD (s .store .sessions) (c .account .uid .0) none ≡ some z → needs-session k ≡ true → Meant line command (repository k)
+      → Carries-silently (bytes-with (s .setup)) (run-repository store (s .setup) (s .store) c k) b r b′
 
--- the bytes of some store
-abbrev pub Some-store : List ℕ → Type 0
-Some-store b = (s : State) × Stored b s
+  -- and with or without a session
+  abbrev pub Session-done : List ℕ → Answer → List ℕ → Type 0
+  Session-done b r b′ = (s : State) (k : Repository-command) → Stored b s → needs-session k ≡ true → Meant line command (repository k)
+      → Carries-silently (bytes-with (s .setup)) (run-repository store (s .setup) (s .store) c k) b r b′
 
--- ---- what is promised
-
--- a store's bytes with its setup
-abbrev pub bytes-with : Setup → Store → List ℕ
-bytes-with u s = encode (state-of u s)
-
--- the session of an account, and the rows of the setup's pairs, whichever store's bytes these are
-abbrev pub Session-of : List ℕ → Uid → Session → Type 0
-Session-of b uid r = (s : State) → Stored b s → r ≡ session-held (getD (s .store .sessions) (uid .0) none)
-
-abbrev pub Rows-of : List ℕ → Dominance → Type 0
-Rows-of b r = (s : State) → Stored b s → r .rows ≡ rows-of (s .setup .pairs)
-
-module _ (c : Caller) where
-  -- `login` and `logout`
-  abbrev pub Login-done : Role → Text → List ℕ → Answer → List ℕ → Type 0
-  Login-done role password b r b′ = (s : State) (z : Bounded-role) → Stored b s → z .role ≡ role
-      → Carries-silently (bytes-with (s .setup)) (run-login store (s .setup) (s .store) c z password) b r b′
-
-  abbrev pub Logout-done : List ℕ → Answer → List ℕ → Type 0
-  Logout-done b r b′ = (s : State) → Stored b s → Carries-silently (bytes-with (s .setup)) (run-logout store (s .setup) (s .store) c) b r b′
-
-  -- a command that the parts of a line mean
-  module _ (line : Text) (command : Parts) where
-    -- the shell's
-    abbrev pub Store-shell-done : List ℕ → List ℕ → Answer → List ℕ → List ℕ → Type 0
-    Store-shell-done b a r b′ a′ = (s : State) (k : Shell-command) → Stored b s → Meant line command (shell k)
-        → Carries (bytes-with (s .setup)) (run store (s .setup) (s .store) c (shell k)) b a r b′ a′
-
-    -- one that needs a session, in the session of a role
-    abbrev pub Role-done : Role → List ℕ → Answer → List ℕ → Type 0
-    Role-done role b r b′ = (s : State) (z : Bounded-role) (k : Repository-command) → Stored b s → z .role ≡ role
-        → getD (s .store .sessions) (c .account .uid .0) none ≡ some z → needs-session k ≡ true → Meant line command (repository k)
-        → Carries-silently (bytes-with (s .setup)) (run-repository store (s .setup) (s .store) c k) b r b′
-
-    -- and with or without a session
-    abbrev pub Session-done : List ℕ → Answer → List ℕ → Type 0
-    Session-done b r b′ = (s : State) (k : Repository-command) → Stored b s → needs-session k ≡ true → Meant line command (repository k)
-        → Carries-silently (bytes-with (s .setup)) (run-repository store (s .setup) (s .store) c k) b r b′
-
-    -- any command
-    abbrev pub Command-done : List ℕ → List ℕ → Answer → List ℕ → List ℕ → Type 0
-    Command-done b a r b′ a′ = (s : State) (k : Command) → Stored b s → Meant line command k
-        → Carries (bytes-with (s .setup)) (run store (s .setup) (s .store) c k) b a r b′ a′
+  -- any command
+  abbrev pub Command-done : List ℕ → List ℕ → Answer → List ℕ → List ℕ → Type 0
+  Command-done b a r b′ a′ = (s : State) (k : Command) → Stored b s → Meant line command k
+      → Carries (bytes-with (s .setup)) (run store (s .setup) (s .store) c k) b a r b′ a′

@@ -29,7 +29,7 @@ use Rattle.machine.specs.Acting.{Acting, on-tree-steps}
 use Rattle.machine.specs.ActingLaws.{add-keeps-sessions, commit-keeps-sessions, up-keeps-sessions, del-keeps-sessions}
 use Rattle.checkout.specs.CheckoutRunLaws.{co-keeps-sessions}
 use Rattle.meanings.specs.Meaning.{needs-session}
-use Rattle.runner.specs.Runner.{Stored, bytes-with}
+use Rattle.stored_header.specs.Stored.{Stored, bytes-with}
 use Rattle.runner.specs.RunnerLaws.{lent-tree, tree-back, lent-carries}
 
 -- no session is held where none is, and a role's where it is

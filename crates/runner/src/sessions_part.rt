@@ -1,36 +1,18 @@
 // The commands that act in a session, on a store's bytes.
 ghost use Prim.Native.Nat.{_<_};
 ghost use Rattle.meanings.specs.Meaning.{Session-meaning};
-ghost use Rattle.runner.specs.Runner.{Some-store, Session-of, Rows-of, Role-done, Session-done};
+ghost use Rattle.stored_header.specs.Stored.{Some-store};
+ghost use Rattle.runner.specs.Runner.{Role-done, Session-done};
 use accounts::Caller;
-use accounts::Dominance;
 use accounts::Role;
 use accounts::Session;
-use accounts::Uid;
 use commands::Command;
 use entry_runner::entry_command;
-use header::dominance_of;
-use header::session_of;
 use shell::Answer;
 use store::HEADER;
+use stored_header::dominance_in;
+use stored_header::session_in;
 use tree::Cause;
-
-// The session of an account.
-fn session_in(store: &[u8], uid: Uid) -> Session
-    requires { ⌜ Some-store (now store) ⌝ }
-    requires { ⌜ uid .0 < 16 ⌝ }
-    ensures { λ r. ⌜ Session-of (now (store .entry)) uid r ⌝ }
-{
-    session_of(&store[..HEADER], uid)
-}
-
-// Which roles dominate which.
-fn dominance_in(store: &[u8]) -> Dominance
-    requires { ⌜ Some-store (now store) ⌝ }
-    ensures { λ r. ⌜ Rows-of (now (store .entry)) r ⌝ }
-{
-    dominance_of(&store[..HEADER])
-}
 
 // A command in the session of a role.
 fn as_role(store: &mut [u8], caller: Caller, role: Role, line: &[u8], command: Command) -> Answer

@@ -1,47 +1,17 @@
 // Any command on a store's bytes.
 ghost use Prim.Native.Nat.{_≤_, _<_};
 ghost use lib.ListN.{length};
-ghost use Rattle.syntax.specs.Parts.{Inside, span-text};
 ghost use Rattle.meanings.specs.Meaning.{Meaningful, Shell-meaning};
-ghost use Rattle.runner.specs.Runner.{Some-store, Login-done, Logout-done, Store-shell-done, Command-done};
+ghost use Rattle.stored_header.specs.Stored.{Some-store};
+ghost use Rattle.runner.specs.Runner.{Store-shell-done, Command-done};
 use crate::sessions_part::in_session;
 use accounts::Caller;
-use accounts::Role;
 use commands::Command;
-use header::login;
-use header::logout;
-use meanings::part;
 use shell::Answer;
 use shell_runner::shell_command;
 use store::HEADER;
-use syntax::Span;
-
-// `login` on the store's header.
-fn log_in(store: &mut [u8], caller: Caller, role: Role, line: &[u8], password: Span) -> Answer
-    requires { ⌜ Some-store (now store) ⌝ }
-    requires { ⌜ caller .account .uid .0 < 16 ⌝ }
-    requires { ⌜ role .0 < 8 ⌝ }
-    requires { ⌜ Inside password (now line) ⌝ }
-    ensures { λ r. ⌜ Login-done caller role (span-text (now (line .entry)) password) (now (store .entry)) r (now (store .exit)) ⌝ }
-{
-    let account = caller.account;
-    login(
-        &mut store[..HEADER],
-        account.uid,
-        role,
-        part(line, password),
-    )
-}
-
-// `logout` on the store's header.
-fn log_out(store: &mut [u8], caller: Caller) -> Answer
-    requires { ⌜ Some-store (now store) ⌝ }
-    requires { ⌜ caller .account .uid .0 < 16 ⌝ }
-    ensures { λ r. ⌜ Logout-done caller (now (store .entry)) r (now (store .exit)) ⌝ }
-{
-    let account = caller.account;
-    logout(&mut store[..HEADER], account.uid)
-}
+use stored_header::log_in;
+use stored_header::log_out;
 
 // A command of the shell on the store's tree.
 fn in_shell(

@@ -1,8 +1,6 @@
 -- `checkout::decision::readable_entry` meets its contract: the walk's answer stands, but for an entry that may not be read.
-use mathlib.Core.Path.{sym, _∙_, ap}
 use borrow.Author.Tests.{not-true, not-false}
 use denote.Ref.{now}
-use Rattle.walks.specs.RowWalk.{outcome}
 use Rattle.checkout.specs.CheckoutLaws.{entry-told-not, entry-told-row, entry-told-shut, entry-told-open}
 use Rattle.checkout.proofs.decision.readable_entry.Statement.{statement}
 use Rattle.checkout.proofs.decision.readable_entry.Tie as tie

@@ -7,7 +7,7 @@ use Rattle.syntax.specs.FormLaws.{the-some}
 use Rattle.commands.specs.Parsed.{parsed}
 use Rattle.commands.specs.ParsedLaws.{parsed-none, parsed-line}
 use Rattle.store.specs.StoreBytes.{decode}
-use Rattle.runner.specs.RunnerLaws.{read-stored}
+use Rattle.stored_header.specs.StoredLaws.{read-stored}
 use Rattle.library.specs.RunLaws.{run-short, run-unsound, run-unformed, run-carried}
 use Rattle.library.proofs.runs.run.Statement.{statement}
 use Rattle.library.proofs.runs.run.Tie as tie

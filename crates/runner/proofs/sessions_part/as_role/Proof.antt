@@ -9,7 +9,8 @@ use Rattle.accounts.specs.Closure.{row-account}
 use Rattle.header.specs.SessionBytesLaws.{role-is}
 use Rattle.header.specs.PairRowsLaws.{rows-tell-account}
 use Rattle.store.specs.HeaderLayout.{header-width}
-use Rattle.runner.specs.RunnerLaws.{long-enough, lent-whole}
+use Rattle.stored_header.specs.StoredLaws.{long-enough}
+use Rattle.runner.specs.RunnerLaws.{lent-whole}
 use Rattle.runner.specs.SessionStepLaws.{acting, role-carries}
 use borrow.Rule.Slice.PartMut.{same-len-mid}
 use Rattle.runner.proofs.sessions_part.as_role.Statement.{statement}

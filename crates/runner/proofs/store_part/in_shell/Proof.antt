@@ -4,7 +4,8 @@ use native.Mathlib.Omega.{arith}
 use lib.ListN.{length}
 use denote.Ref.{now}
 use Rattle.store.specs.HeaderLayout.{header-width}
-use Rattle.runner.specs.RunnerLaws.{long-enough, lent-whole, shell-carries}
+use Rattle.stored_header.specs.StoredLaws.{long-enough}
+use Rattle.runner.specs.RunnerLaws.{lent-whole, shell-carries}
 use borrow.Rule.Slice.PartMut.{same-len-mid}
 use Rattle.runner.proofs.store_part.in_shell.Statement.{statement}
 use Rattle.runner.proofs.store_part.in_shell.Tie as tie

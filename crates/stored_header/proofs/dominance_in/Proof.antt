@@ -1,8 +1,8 @@
--- `runner::sessions_part::dominance_in` meets its contract: it is what the header tells.
+-- `stored_header::dominance_in` meets its contract: it is what the header tells.
 use mathlib.Core.Path.{sym}
-use Rattle.runner.specs.RunnerLaws.{header-length, lent-headed}
-use Rattle.runner.proofs.sessions_part.dominance_in.Statement.{statement}
-use Rattle.runner.proofs.sessions_part.dominance_in.Tie as tie
+use Rattle.stored_header.specs.StoredLaws.{header-length, lent-headed}
+use Rattle.stored_header.proofs.dominance_in.Statement.{statement}
+use Rattle.stored_header.proofs.dominance_in.Tie as tie
 
 slice-aggregate-dominance-of : tie.Need-slice-aggregate-dominance-of
 slice-aggregate-dominance-of c = sym (header-length (c .before .before .pre))

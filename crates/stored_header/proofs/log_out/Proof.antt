@@ -1,9 +1,9 @@
--- `runner::store_part::log_out` meets its contract: the header is lent, and the tree stays behind what is left of it.
+-- `stored_header::log_out` meets its contract: the header is lent, and the tree stays behind what is left of it.
 use mathlib.Core.Path.{sym}
-use Rattle.runner.specs.RunnerLaws.{long-enough, header-length, lent-headed, logout-carries}
+use Rattle.stored_header.specs.StoredLaws.{long-enough, header-length, lent-headed, logout-carries}
 use borrow.Author.Needs.{needs}
-use Rattle.runner.proofs.store_part.log_out.Statement.{statement}
-use Rattle.runner.proofs.store_part.log_out.Tie as tie
+use Rattle.stored_header.proofs.log_out.Statement.{statement}
+use Rattle.stored_header.proofs.log_out.Tie as tie
 
 slice-relend-prefix-logout : tie.Need-slice-relend-prefix-logout
 slice-relend-prefix-logout c = long-enough (c .before .before .pre .0)

@@ -1,14 +1,14 @@
--- `runner::store_part::log_in` meets its contract: the header is lent, and the tree stays behind what is left of it.
+-- `stored_header::log_in` meets its contract: the header is lent, and the tree stays behind what is left of it.
 use mathlib.Core.Path.{sym, subst}
 use lib.ListN.{take}
 use denote.Ref.{now}
 use Rattle.buffers.specs.Text.{Text}
 use Rattle.header.specs.HeaderBytes.{Logs-in}
 use Rattle.store.specs.HeaderLayout.{header-width}
-use Rattle.runner.specs.RunnerLaws.{long-enough, header-length, lent-headed, login-carries}
+use Rattle.stored_header.specs.StoredLaws.{long-enough, header-length, lent-headed, login-carries}
 use borrow.Author.Needs.{needs}
-use Rattle.runner.proofs.store_part.log_in.Statement.{statement}
-use Rattle.runner.proofs.store_part.log_in.Tie as tie
+use Rattle.stored_header.proofs.log_in.Statement.{statement}
+use Rattle.stored_header.proofs.log_in.Tie as tie
 
 slice-relend-prefix-login : tie.Need-slice-relend-prefix-login
 slice-relend-prefix-login c = long-enough (c .before .before .before .pre .0)

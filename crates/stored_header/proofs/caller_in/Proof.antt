@@ -1,8 +1,8 @@
--- `library::runs::caller_in` meets its contract: it is what the header tells.
+-- `stored_header::caller_in` meets its contract: it is what the header tells.
 use mathlib.Core.Path.{sym}
-use Rattle.runner.specs.RunnerLaws.{header-length, lent-headed}
-use Rattle.library.proofs.runs.caller_in.Statement.{statement}
-use Rattle.library.proofs.runs.caller_in.Tie as tie
+use Rattle.stored_header.specs.StoredLaws.{header-length, lent-headed}
+use Rattle.stored_header.proofs.caller_in.Statement.{statement}
+use Rattle.stored_header.proofs.caller_in.Tie as tie
 
 slice-aggregate-caller-of : tie.Need-slice-aggregate-caller-of
 slice-aggregate-caller-of c = sym (header-length (c .before .before .pre))

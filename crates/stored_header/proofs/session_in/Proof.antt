@@ -1,8 +1,8 @@
--- `runner::sessions_part::session_in` meets its contract: it is what the header tells.
+-- `stored_header::session_in` meets its contract: it is what the header tells.
 use mathlib.Core.Path.{sym}
-use Rattle.runner.specs.RunnerLaws.{header-length, lent-headed}
-use Rattle.runner.proofs.sessions_part.session_in.Statement.{statement}
-use Rattle.runner.proofs.sessions_part.session_in.Tie as tie
+use Rattle.stored_header.specs.StoredLaws.{header-length, lent-headed}
+use Rattle.stored_header.proofs.session_in.Statement.{statement}
+use Rattle.stored_header.proofs.session_in.Tie as tie
 
 slice-aggregate-session-of : tie.Need-slice-aggregate-session-of
 slice-aggregate-session-of c = sym (header-length (c .before .before .pre .0))

@@ -1,0 +1,64 @@
+-- The bytes of a store as one state, and what the code promises of its header: who calls, the sessions, the roles.
+use mathlib.Core.Path.{_≡_}
+use mathlib.Core.List.{List}
+use mathlib.Core.Option.{none}
+use Prim.Native.Nat.{ℕ}
+use lib.ListN.{length, take, drop, getD}
+use Rattle.buffers.specs.Text.{Text}
+use Rattle.accounts.specs.declared.Caller.{Caller}
+use Rattle.accounts.specs.declared.Dominance.{Dominance}
+use Rattle.accounts.specs.declared.Role.{Role}
+use Rattle.accounts.specs.declared.Session.{Session}
+use Rattle.accounts.specs.declared.Uid.{Uid}
+use Rattle.accounts.specs.Closure.{rows-of}
+use Rattle.accounts.specs.Dominance.{Bounded-role}
+use Rattle.setup.specs.Setup.{Setup}
+use Rattle.tree.specs.TreeBytes.{Encodes}
+use Rattle.shell.specs.declared.Answer.{Answer}
+use Rattle.shell.specs.CommandBytes.{Carries-silently}
+use Rattle.store.specs.HeaderLayout.{header-width}
+use Rattle.store.specs.State.{Store, State, state-of}
+use Rattle.store.specs.StoreBytes.{store-width, encode}
+use Rattle.store.specs.Callers.{caller}
+use Rattle.header.specs.declared.Known.{Known}
+use Rattle.header.specs.HeaderBytes.{Heads, known, session-held}
+use Rattle.machine.specs.Machine.{run-login, run-logout}
+use Rattle.machine.specs.StoreMachine.{store}
+
+-- ---- what is asked
+
+-- the bytes of a store in the state s: those of a header, then those of a tree
+pub record Stored (b : List ℕ) (s : State) : Type 0 where
+  pub wide : length b ≡ store-width
+  pub header : Heads (take header-width b) (s .setup) (s .store .sessions)
+  pub tree : Encodes (drop header-width b) (s .store .tree)
+
+-- the bytes of some store
+abbrev pub Some-store : List ℕ → Type 0
+Some-store b = (s : State) × Stored b s
+
+-- ---- what is promised
+
+-- a store's bytes with its setup
+abbrev pub bytes-with : Setup → Store → List ℕ
+bytes-with u s = encode (state-of u s)
+
+-- the answer is whom the setup knows, whichever store's bytes these are
+abbrev pub Caller-told : List ℕ → Uid → Known → Type 0
+Caller-told b uid r = (s : State) → Stored b s → known r ≡ caller (s .setup) uid
+
+-- the session of an account, and the rows of the setup's pairs, whichever store's bytes these are
+abbrev pub Session-of : List ℕ → Uid → Session → Type 0
+Session-of b uid r = (s : State) → Stored b s → r ≡ session-held (getD (s .store .sessions) (uid .0) none)
+
+abbrev pub Rows-of : List ℕ → Dominance → Type 0
+Rows-of b r = (s : State) → Stored b s → r .rows ≡ rows-of (s .setup .pairs)
+
+module _ (c : Caller) where
+  -- `login` and `logout`
+  abbrev pub Login-done : Role → Text → List ℕ → Answer → List ℕ → Type 0
+  Login-done role password b r b′ = (s : State) (z : Bounded-role) → Stored b s → z .role ≡ role
+      → Carries-silently (bytes-with (s .setup)) (run-login store (s .setup) (s .store) c z password) b r b′
+
+  abbrev pub Logout-done : List ℕ → Answer → List ℕ → Type 0
+  Logout-done b r b′ = (s : State) → Stored b s → Carries-silently (bytes-with (s .setup)) (run-logout store (s .setup) (s .store) c) b r b′

@@ -1,0 +1,71 @@
+// Who calls, the sessions and the roles, on a store's bytes: its header is lent.
+ghost use Prim.Native.Nat.{_<_};
+ghost use Rattle.syntax.specs.Parts.{Inside, span-text};
+ghost use Rattle.stored_header.specs.Stored.{Some-store, Caller-told, Session-of, Rows-of, Login-done, Logout-done};
+use accounts::Caller;
+use accounts::Dominance;
+use accounts::Role;
+use accounts::Session;
+use accounts::Uid;
+use header::Known;
+use header::caller_of;
+use header::dominance_of;
+use header::login;
+use header::logout;
+use header::session_of;
+use meanings::part;
+use shell::Answer;
+use store::HEADER;
+use syntax::Span;
+
+// Who an account number is, by the store's header.
+pub fn caller_in(store: &[u8], uid: Uid) -> Known
+    requires { ⌜ Some-store (now store) ⌝ }
+    ensures { λ r. ⌜ Caller-told (now (store .entry)) uid r ⌝ }
+{
+    caller_of(&store[..HEADER], uid)
+}
+
+// The session of an account.
+pub fn session_in(store: &[u8], uid: Uid) -> Session
+    requires { ⌜ Some-store (now store) ⌝ }
+    requires { ⌜ uid .0 < 16 ⌝ }
+    ensures { λ r. ⌜ Session-of (now (store .entry)) uid r ⌝ }
+{
+    session_of(&store[..HEADER], uid)
+}
+
+// Which roles dominate which.
+pub fn dominance_in(store: &[u8]) -> Dominance
+    requires { ⌜ Some-store (now store) ⌝ }
+    ensures { λ r. ⌜ Rows-of (now (store .entry)) r ⌝ }
+{
+    dominance_of(&store[..HEADER])
+}
+
+// `login` on the store's header.
+pub fn log_in(store: &mut [u8], caller: Caller, role: Role, line: &[u8], password: Span) -> Answer
+    requires { ⌜ Some-store (now store) ⌝ }
+    requires { ⌜ caller .account .uid .0 < 16 ⌝ }
+    requires { ⌜ role .0 < 8 ⌝ }
+    requires { ⌜ Inside password (now line) ⌝ }
+    ensures { λ r. ⌜ Login-done caller role (span-text (now (line .entry)) password) (now (store .entry)) r (now (store .exit)) ⌝ }
+{
+    let account = caller.account;
+    login(
+        &mut store[..HEADER],
+        account.uid,
+        role,
+        part(line, password),
+    )
+}
+
+// `logout` on the store's header.
+pub fn log_out(store: &mut [u8], caller: Caller) -> Answer
+    requires { ⌜ Some-store (now store) ⌝ }
+    requires { ⌜ caller .account .uid .0 < 16 ⌝ }
+    ensures { λ r. ⌜ Logout-done caller (now (store .entry)) r (now (store .exit)) ⌝ }
+{
+    let account = caller.account;
+    logout(&mut store[..HEADER], account.uid)
+}
