@@ -1,4 +1,5 @@
--- What a turn of the program does with its place and its buffers: all but what is printed, and which bytes a read gives.
+-- What a turn of the program does with its place and its buffers: all but what is printed, which bytes a read gives, and what the window holds behind
+-- a read that failed.
 use mathlib.Core.Path.{_≡_}
 use mathlib.Core.List.{List}
 use mathlib.Core.Bool.{Bool, true}
@@ -45,8 +46,8 @@ abbrev pub Does : Next → Step → Place → List ℕ → List ℕ → List ℕ
 Does (next.Call c then) r at w b a w′ b′ a′ = (w′ ≡ w) × Makes r c then w b a b′ a′
 Does (next.On then) r at w b a w′ b′ a′ = (r ≡ On then) × (w′ ≡ w) × (b′ ≡ b) × (a′ ≡ a)
 Does next.Read r at w b a w′ b′ a′ = Reads r at w w′ × (b′ ≡ b) × (a′ ≡ a)
-Does next.Over r at w b a w′ b′ a′ = r ≡ Ended
-Does next.TooLong r at w b a w′ b′ a′ = r ≡ Ended
+Does next.Over r at w b a w′ b′ a′ = (r ≡ Ended) × (w′ ≡ w) × (b′ ≡ b) × (a′ ≡ a)
+Does next.TooLong r at w b a w′ b′ a′ = (r ≡ Ended) × (w′ ≡ w) × (b′ ≡ b) × (a′ ≡ a)
 
 abbrev pub Turns : Step → Place → List ℕ → List ℕ → List ℕ → List ℕ → List ℕ → List ℕ → Type 0
 Turns r at w b a w′ b′ a′ = Does (next-of w at) r at w b a w′ b′ a′

@@ -6,7 +6,7 @@ ghost use lib.ListN.{length};
 ghost use Rattle.library.specs.CallBytes.{called-as};
 ghost use Rattle.agenda.specs.Agenda.{Place-held, Call-held};
 ghost use Rattle.agenda.specs.Conversation.{made};
-ghost use Rattle.patterns.specs.Held.{Stays, Wide-window, Answering};
+ghost use Rattle.patterns.specs.Buffers.{Stays, Wide-window, Answering};
 ghost use Rattle.patterns.specs.Turns.{Reads, Makes, Turns};
 use agenda::Call;
 use agenda::Next;

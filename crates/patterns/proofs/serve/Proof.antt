@@ -6,7 +6,7 @@ use native.Mathlib.Omega.{arith}
 use lib.ListN.{length}
 use Rattle.agenda.specs.declared.Place.{Place}
 use Rattle.agenda.specs.Agenda.{Place-held}
-use Rattle.patterns.specs.Held.{Answering}
+use Rattle.patterns.specs.Buffers.{Answering}
 use Rattle.patterns.proofs.serve.Statement.{statement}
 use Rattle.patterns.proofs.serve.Tie as tie
 

@@ -12,7 +12,7 @@ use Rattle.agenda.specs.AgendaLaws.{next-held}
 use Rattle.patterns.specs.Turns.{Turns, Reads, Does}
 use Rattle.patterns.specs.declared.Step.{Step}
 use Rattle.patterns.specs.declared.Step.the-variants as step
-use Rattle.patterns.specs.Held.{Stays}
+use Rattle.patterns.specs.Buffers.{Stays}
 use Rattle.patterns.proofs.turn.Statement.{statement}
 use Rattle.patterns.proofs.turn.Tie as tie
 
@@ -108,7 +108,7 @@ returns-4 : tie.Need-returns-4
 returns-4 c =
     let a = c .before .before .before .before .before .before .before .args in
     let k = c .before .before .next in
-    (tt, done-as next.Over (k .result) step.Ended (a .at) (now (a .window)) (now (a .store)) (now (a .answer)) (now (a .window)) (now (a .store)) (now (a .answer)) (k .ensures) (c .enum-told2 .given .1) refl)
+    (tt, done-as next.Over (k .result) step.Ended (a .at) (now (a .window)) (now (a .store)) (now (a .answer)) (now (a .window)) (now (a .store)) (now (a .answer)) (k .ensures) (c .enum-told2 .given .1) (refl, refl, refl, refl))
 
 same-length-7 : tie.Need-same-length-7
 same-length-7 c = refl
@@ -117,7 +117,7 @@ returns-5 : tie.Need-returns-5
 returns-5 c =
     let a = c .before .before .before .before .before .before .before .before .before .args in
     let k = c .before .before .before .before .next in
-    (tt, done-as next.TooLong (k .result) step.Ended (a .at) (now (a .window)) (now (a .store)) (now (a .answer)) (now (a .window)) (now (a .store)) (now (a .answer)) (k .ensures) (c .before .before .enum-told3 .given .1) refl)
+    (tt, done-as next.TooLong (k .result) step.Ended (a .at) (now (a .window)) (now (a .store)) (now (a .answer)) (now (a .window)) (now (a .store)) (now (a .answer)) (k .ensures) (c .before .before .enum-told3 .given .1) (refl, refl, refl, refl))
 
 pub turn-spec : {M : Type 1} → statement M
 turn-spec =
