@@ -3,6 +3,7 @@ use mathlib.Core.Path.{_≡_, refl}
 use mathlib.Core.Bool.{Bool, true, false, _||_, cond}
 use Prim.Native.Nat.{ℕ, _/_, _%_}
 use lib.Dec.{eqb}
+use borrow.Author.Tests.{eqb-true}
 use Rattle.accounts.specs.declared.Uid.{Uid}
 use Rattle.accounts.specs.declared.Gid.{Gid}
 use Rattle.accounts.specs.declared.Account.{Account}
@@ -59,6 +60,42 @@ unfolding grants
 grants-none R = refl
 grants-none W = refl
 grants-none X = refl
+
+-- digit 7 every right
+pub grants-7 : (t : Right) → grants 7 t ≡ true
+unfolding grants
+grants-7 R = refl
+grants-7 W = refl
+grants-7 X = refl
+
+-- digit 5 r and x
+pub grants-5 : (grants 5 R ≡ true) × (grants 5 W ≡ false) × (grants 5 X ≡ true)
+unfolding grants
+grants-5 = (refl, refl, refl)
+
+-- digit 4 r
+pub grants-4 : (grants 4 R ≡ true) × (grants 4 W ≡ false) × (grants 4 X ≡ false)
+unfolding grants
+grants-4 = (refl, refl, refl)
+
+-- accounts are the same by their numbers
+pub same-uid-is : (u v : Uid) → same-uid u v ≡ eqb (u .0) (v .0)
+unfolding same-uid
+same-uid-is u v = refl
+
+-- root is account 0
+pub is-root-is : (u : Uid) → is-root u ≡ eqb (u .0) 0
+unfolding is-root
+is-root-is u = refl
+
+pub root-is : (u : Uid) → is-root u ≡ true → u ≡ record { 0 = 0 }
+unfolding is-root
+root-is u r = λ i. record { 0 = eqb-true (u .0) 0 r i }
+
+-- who is account 0 is root
+pub same-as-root : (u : Uid) → same-uid u (record { 0 = 0 }) ≡ is-root u
+unfolding same-uid is-root
+same-as-root u = refl
 
 -- mode 0040: the owner is judged by the owner's digit alone, though in the group
 pub owner-alone : may (record { uid = record { 0 = 1 }; groups = with-group (record { 0 = 1 }) no-groups }) R (record { 0 = 1 }) (record { 0 = 1 }) 32 ≡ false

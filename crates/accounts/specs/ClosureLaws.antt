@@ -15,10 +15,11 @@ use lib.Pow.{pow-mono, pow-lt, pow-add}
 use Rattle.buffers.specs.Cases.{case, and-both}
 use Rattle.accounts.specs.declared.Role.{Role}
 use Rattle.accounts.specs.declared.Pair.{Pair}
+use Rattle.accounts.specs.declared.Session.the-variants.{As}
 use Rattle.accounts.specs.Groups.{same-gid, member, no-groups, with-group, member-with}
 use Rattle.accounts.specs.Dominance.{Bounded-role, Listed, first, later, Dominates, self, down, same-role, same-role-is, juniors, any-role, chain, dominates, dominates-is, dominates-falls, Falling, falls, all-fall, all-fall-is}
 use Rattle.accounts.specs.Service.{service-gid, all-services, service-groups, service, service-uid}
-use Rattle.accounts.specs.Closure.{has-role, row-of, rows-from, rows-of, own-rows, grown-row, grown-rows, row-dominates, row-account}
+use Rattle.accounts.specs.Closure.{has-role, row-of, rows-from, rows-of, own-rows, grown-row, grown-rows, row-dominates, row-account, session-dominates}
 
 -- without pairs each role has its own bit alone
 pub own-rows-are : own-rows ≡ rows-of []
@@ -276,3 +277,8 @@ grown-rows-are ps p h e = case (ltb (p .junior .0) 8)
     unfold grown-rows in rw (role-row ps (p .junior) l) (rows-grow ps p h e l 0 8))
     (λ b. let l : 8 ≤ p .junior .0 = ltb-false (p .junior .0) 8 b in
     sym (none-grown p (rows-of ps) (unfold rows-from in refl) l) ∙ rows-beyond ps p h e l 0 8)
+
+-- a session dominates what its role dominates
+pub session-as : (rows : List ℕ) (s r : Role) → session-dominates (As s) rows r ≡ row-dominates rows s r
+unfolding session-dominates
+session-as rows s r = refl

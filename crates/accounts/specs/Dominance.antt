@@ -75,6 +75,16 @@ pub same-role-is : (s r : Role) → same-role s r ≡ true → s ≡ r
 unfolding same-role
 same-role-is s r h = λ i. record { 0 = eqb-true (s .0) (r .0) h i }
 
+-- roles are the same by their numbers
+pub same-role-number : (s r : Role) → same-role s r ≡ eqb (s .0) (r .0)
+unfolding same-role
+same-role-number s r = refl
+
+-- a pair leads down by its numbers
+pub falls-is : (p : Pair) → falls p ≡ ltb (p .senior .0) (p .junior .0)
+unfolding falls
+falls-is p = refl
+
 -- a role is itself
 role-itself : (s : Role) → same-role s s ≡ true
 unfolding same-role

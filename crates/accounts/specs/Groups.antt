@@ -4,7 +4,7 @@
 -- other two mean by it, and every proof above goes by these two.
 use mathlib.Core.Path.{_≡_, refl}
 use mathlib.Core.Bool.{Bool, false, _||_}
-use Prim.Native.Nat.{ℕ, zero, suc, _*_, _/_, _%_, _^_}
+use Prim.Native.Nat.{ℕ, zero, suc, _*_, _/_, _%_, _^_, _<_}
 use native.Mathlib.Omega.{arith}
 use native.Mathlib.Nat.{div-one, zero-div, div-eq-of-lt, pow-suc, mul-mod-left, mul-div-mul-right, zero-lt-suc}
 use lib.Dec.{eqb, eqb·zero-suc, eqb·suc-zero, eqb·suc-suc}
@@ -26,6 +26,10 @@ no-groups = record { 0 = 0 }
 
 unfoldable pub with-group : Gid → Groups → Groups
 with-group g s = record { 0 = bitOr (s .0) (2 ^ g .0) }
+
+pub no-groups-is : no-groups ≡ record { 0 = 0 }
+unfolding no-groups
+no-groups-is = refl
 
 -- no group is in the empty set
 pub member-none : (g : Gid) → member g no-groups ≡ false
@@ -49,3 +53,13 @@ or-bit a b = case (eqb (b % 2) 1)
 pub member-with : (g h : Gid) (s : Groups) → member g (with-group h s) ≡ (same-gid g h || member g s)
 unfolding member with-group same-gid
 member-with g h s = rw (or-shr (s .0) (2 ^ h .0) (g .0), or-bit (s .0 / 2 ^ g .0) (2 ^ h .0 / 2 ^ g .0), power-bit (g .0) (h .0))
+
+-- a set whose number is below the group's bit does not have the group
+pub member-high : (g : Gid) (s : Groups) → s .0 < 2 ^ g .0 → member g s ≡ false
+unfolding member
+member-high g s h = rw (div-eq-of-lt {n = s .0} {m = 2 ^ g .0} h)
+
+-- groups are the same by their numbers
+pub same-gid-is : (g h : Gid) → same-gid g h ≡ eqb (g .0) (h .0)
+unfolding same-gid
+same-gid-is g h = refl

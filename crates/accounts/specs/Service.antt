@@ -1,5 +1,5 @@
 -- The service account of a role: 16 + r, in group 24 and in group 16 + q for every role q that r dominates.
-use mathlib.Core.Path.{_≡_, refl}
+use mathlib.Core.Path.{_≡_, refl, ap}
 use mathlib.Core.List.{List}
 use mathlib.Core.Bool.{Bool, true, false, cond, _&&_, _||_, or-true, and-false}
 use Prim.Native.Nat.{ℕ, zero, suc, _+_, _<_, zero-le}
@@ -57,6 +57,29 @@ same-offset r q = case (eqb r q)
 pub same-service : (r q : Role) → same-uid (service-uid r) (service-uid q) ≡ same-role r q
 unfolding same-uid service-uid same-role
 same-service r q = same-offset (r .0) (q .0)
+
+-- and one account is one role's
+pub service-role : (r q : Role) → service-uid r ≡ service-uid q → r ≡ q
+unfolding service-uid
+service-role r q e = same-role-is r q (unfold same-role in eq-eqb (r .0) (q .0) (omega (arith, ap (λ (u : Uid). u .0) e)))
+
+-- the numbers of a role's account and group, and of the group of all service accounts
+pub service-uid-is : (r : Role) → service-uid r ≡ record { 0 = 16 + r .0 }
+unfolding service-uid
+service-uid-is r = refl
+
+pub service-gid-is : (r : Role) → service-gid r ≡ record { 0 = 16 + r .0 }
+unfolding service-gid
+service-gid-is r = refl
+
+pub all-services-is : all-services ≡ record { 0 = 24 }
+unfolding all-services
+all-services-is = refl
+
+-- what is a person's is no service account's
+pub service-foreign : (r : Role) (v : Uid) → v .0 < 16 → same-uid (service-uid r) v ≡ false
+unfolding same-uid service-uid
+service-foreign r v h = ne-eqb (16 + r .0) (v .0) (λ (e : 16 + r .0 ≡ v .0). omega arith)
 
 -- one step of the groups: the group added if the test passes
 member-step : (test : Role → Bool) (g : Gid) (k : ℕ) →

@@ -13,7 +13,7 @@ use Rattle.accounts.specs.declared.Caller.{Caller}
 use Rattle.accounts.specs.declared.Role.{Role}
 use Rattle.accounts.specs.Dominance.{Bounded-role, dominates}
 use Rattle.accounts.specs.Service.{service}
-use Rattle.syntax.specs.Path.{Path, Entry-path, last, is-top, in-rep, entry-location, entry-path}
+use Rattle.syntax.specs.Path.{Path, Entry-path, last, is-top, in-rep, entry-location, entry-path, below-rep}
 use Rattle.setup.specs.Setup.{Setup}
 use Rattle.tree.specs.declared.Cause.{Cause}
 use Rattle.tree.specs.declared.Cause.the-variants.{Full}
@@ -28,7 +28,6 @@ use Rattle.tree.specs.JudgeLaws.{room-by-modes, writable-by-modes}
 use Rattle.tree.specs.WellFormed.{nodes}
 use Rattle.tree.specs.WellFormedLaws.{most-nodes-is}
 use Rattle.tree.specs.TreeBytes.{Encodes, At}
-use Rattle.copying.specs.Copying.{below-rep}
 use Rattle.gaps.specs.declared.Room.{Room}
 use Rattle.gaps.specs.declared.Room.the-variants
 use Rattle.gaps.specs.Gaps.{gap-of, gap-from, gap-told}

@@ -42,8 +42,8 @@ use Rattle.tree.specs.RowAt.{row-count, row-at}
 use Rattle.tree.specs.TreeBytes.{Insertable, At}
 use Rattle.tree.specs.TreeBytesLaws.{encodes, encoded-count, encoded-fits, at-index, at-root, at-used, at-row, at-here}
 use Rattle.edits.specs.declared.Fresh.{Fresh}
-use Rattle.edits.specs.Changes.{rows-put, field-put, tag-field, fresh-node, fresh-row, head-bytes}
-use Rattle.edits.specs.WrittenLaws.{length-fresh, row-written}
+use Rattle.edits.specs.Changes.{rows-put, field-put, tag-field, fresh-row, head-bytes}
+use Rattle.edits.specs.WrittenLaws.{length-fresh, row-written, fresh-node-is}
 use Rattle.edits.specs.EditLaws.{spot-bound, put-law, place-law}
 use Rattle.node_fields.specs.FieldEditLaws.{tag-law}
 use Rattle.copying.specs.CopyRowLaws.{row-held}
@@ -68,10 +68,11 @@ paste-all s r n ls lr =
 
 module _ (k : ℕ) (name content : List ℕ) (f : Fresh) (fits : length name ≤ name-width) (short : length content ≤ content-width) where
   -- the content written into the row of a new node
-  content-filled : paste (row-bytes (fresh-row k name f)) 72 (padded content-width content) 80 ≡ row-bytes (record { depth = k; name = name; here = filled-node f content })
-  unfolding fresh-node
+  content-filled : paste (row-bytes (fresh-row k name f)) 67 (padded content-width content) 80 ≡ row-bytes (record { depth = k; name = name; here = filled-node f content })
   content-filled =
-      let r = fresh-row k name f in
+      let r : Row Node =
+      record { depth = k; name = name; here = record { kind = f .kind; owner = f .owner; group = f .group; mode = f .mode; revision = f .revision; tag = none; content = [] } } in
+      let fresh : row-bytes (fresh-row k name f) ≡ row-bytes r = ap (λ (n : Node). row-bytes (record { depth = k; name = name; here = n })) (fresh-node-is f) in
       let v : Row Node = record { depth = k; name = name; here = filled-node f content } in
       let N = padded name-width name in
       let P = row-head r ++ (N ++ tag-bytes none) in
@@ -79,14 +80,14 @@ module _ (k : ℕ) (name content : List ℕ) (f : Fresh) (fits : length name ≤
       let new = padded content-width content in
       let was : row-bytes r ≡ P ++ (old ++ row-spare) = row-parts r ∙ before-content (row-head r) N (tag-bytes none) (old ++ row-spare) in
       let lo : length old ≡ 80 = length-padded content-width [] (omega arith) in
-      let lP : length P ≡ 72 =
-      omega (arith, length-fresh k name f fits, ap length was, length-append P (old ++ row-spare), length-append old row-spare, length-replicate {A = ℕ} 80 0) in
-      ap (λ (l : List ℕ). paste l 72 new 80) was ∙ paste-piece P row-spare old new 72 80 lP lo (length-padded content-width content short)
+      let lP : length P ≡ 67 =
+      omega (arith, length-fresh k name f fits, ap length (fresh ∙ was), length-append P (old ++ row-spare), length-append old row-spare, length-replicate {A = ℕ} 80 0) in
+      ap (λ (l : List ℕ). paste l 67 new 80) (fresh ∙ was) ∙ paste-piece P row-spare old new 67 80 lP lo (length-padded content-width content short)
       ∙ sym (row-parts v ∙ before-content (row-head v) N (tag-bytes none) (new ++ row-spare))
 
   -- the head, the name, zeros and the content, one after another
   pub entry-written : (s : List ℕ) {s₁ s₂ s₃ s₄ c : List ℕ} → length s ≡ row-width → s₁ ≡ paste s 0 (head-bytes k f) 8
-      → s₂ ≡ paste s₁ 8 (padded name-width name) 8 → s₃ ≡ paste s₂ 16 (replicate 216 0) 216 → c ≡ content → s₄ ≡ paste s₃ 72 (padded content-width c) 80
+      → s₂ ≡ paste s₁ 8 (padded name-width name) 8 → s₃ ≡ paste s₂ 16 (replicate 211 0) 211 → c ≡ content → s₄ ≡ paste s₃ 67 (padded content-width c) 80
       → s₄ ≡ row-bytes (record { depth = k; name = name; here = filled-node f content })
   entry-written s {s₁} {s₂} {s₃} wide h₁ h₂ h₃ e h₄ =
       let r = row-bytes (fresh-row k name f) in

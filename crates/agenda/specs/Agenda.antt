@@ -2,17 +2,17 @@
 -- and whether the program goes on behind it.
 use mathlib.Core.Path.{_≡_}
 use mathlib.Core.List.{List, [], _∷_, _++_}
-use mathlib.Core.Option.{Option, none, some}
 use mathlib.Core.Bool.{Bool, true, false, cond, not}
-use Prim.Native.Nat.{ℕ, suc, _+_, _-_, _≤_}
+use Prim.Native.Nat.{ℕ, suc, _+_, _-_, _≤_, _<_}
 use lib.Dec.{eqb, ltb}
 use lib.ListN.{length, take}
 use Rattle.buffers.specs.Text.{Text}
 use Rattle.syntax.specs.Pieces.{newline}
 use Rattle.tree.specs.declared.Cause.the-variants.{Missing}
 use Rattle.tree.specs.Causes.{number}
-use Rattle.shell.specs.Replies.{Told}
-use Rattle.calls.specs.Program.{text-told, call-line}
+use Rattle.shell.specs.declared.Answer.the-variants.{WrongLine}
+use Rattle.shell.specs.Replies.{Told, told}
+use Rattle.calls.specs.Program.{text-told, refused-line, call-line}
 use Rattle.agenda.specs.declared.NextLine.{NextLine}
 use Rattle.agenda.specs.declared.NextLine.the-variants as found
 use Rattle.agenda.specs.declared.Phase.{Phase}
@@ -22,7 +22,7 @@ use Rattle.agenda.specs.declared.Call.{Call}
 use Rattle.agenda.specs.declared.Call.the-variants as call
 use Rattle.agenda.specs.declared.Next.{Next}
 use Rattle.agenda.specs.declared.Next.the-variants as next
-use Rattle.agenda.specs.InputLines.{setup-length, next-line}
+use Rattle.agenda.specs.InputLines.{next-line}
 
 -- a place lies in a window of so many bytes
 pub record Place-held (at : Place) (n : ℕ) : Type 0 where
@@ -32,17 +32,32 @@ pub record Place-held (at : Place) (n : ℕ) : Type 0 where
 
 -- the bytes that a call is made with lie in it
 abbrev pub Call-held : Call → ℕ → Type 0
-Call-held (call.Setup e) n = e ≤ n
 Call-held (call.Run a e) n = (a ≤ e) × (e ≤ n)
 Call-held (call.List k) n = Unit {0}
 
 -- what is to be done stays in it
 abbrev pub Next-held : Next → ℕ → Type 0
+Next-held (next.Line e kind lines) n = e < n
+Next-held (next.Wrong lines) n = Unit {0}
 Next-held (next.Call c then) n = Call-held c n × Place-held then n
 Next-held (next.On at) n = Place-held at n
 Next-held next.Read n = Unit {0}
 Next-held next.Over n = Unit {0}
-Next-held next.TooLong n = Unit {0}
+
+-- behind the setup
+abbrev pub Set-up : Phase → Type 0
+Set-up (phase.Setup kind lines) = ⊥
+Set-up phase.Lines = Unit {0}
+Set-up (phase.Listing n) = Unit {0}
+
+-- what a turn may rely on, from a place
+abbrev pub Next-leads : Next → Place → Type 0
+Next-leads (next.Line e kind lines) at = (at .phase ≡ phase.Setup kind lines) × ((at .from ≤ e) × (e < at .to))
+Next-leads (next.Wrong lines) at = (kind : ℕ) × (at .phase ≡ phase.Setup kind lines)
+Next-leads (next.Call c then) at = Set-up (then .phase)
+Next-leads (next.On then) at = Set-up (then .phase)
+Next-leads next.Read at = Unit {0}
+Next-leads next.Over at = Unit {0}
 
 -- ---- places
 
@@ -64,21 +79,23 @@ read-place at got = record { from = 0; to = (at .to - at .from) + got; ended = e
 
 -- ---- the setup
 
--- the setup is the window's first bytes, and the command lines follow it
-abbrev pub call-setup : Place → ℕ → Next
-call-setup at end = next.Call (call.Setup end) (lines-from at end)
+-- behind a setup line of a kind, with how many lines there were
+abbrev pub setup-from : Place → ℕ → ℕ → ℕ → Place
+setup-from at p kind lines = record { from = p; to = at .to; ended = at .ended; passing = false; phase = phase.Setup kind lines }
 
--- where its end has not been read, in a window of so many bytes; where the input has ended, all of it is the setup
-unfoldable pub open-setup : ℕ → Place → Next
-open-setup n at = cond (at .ended) (call-setup at (at .to)) (cond (eqb (at .to) n) next.TooLong next.Read)
+-- a line whose end has not been read: no good line fills a window of so many bytes
+unfoldable pub open-line : ℕ → Place → ℕ → Next
+open-line n at lines = cond (ltb (at .to - at .from) n) next.Read (next.Wrong lines)
 
--- by where its first line `end` is over
-unfoldable pub ended-setup : ℕ → Place → Option ℕ → Next
-ended-setup n at (some e) = call-setup at e
-ended-setup n at none = open-setup n at
+-- by what the next line is; one without byte 10 is wrong, and so is none
+unfoldable pub found-setup-line : ℕ → Place → ℕ → ℕ → NextLine → Next
+found-setup-line n at kind lines (found.Line end) = next.Line end kind lines
+found-setup-line n at kind lines found.Last = next.Wrong lines
+found-setup-line n at kind lines found.More = open-line n at lines
+found-setup-line n at kind lines found.Nothing = next.Wrong lines
 
-unfoldable pub setup-next : Text → Place → Next
-setup-next t at = ended-setup (length t) at (setup-length (take (at .to) t))
+unfoldable pub setup-next : Text → Place → ℕ → ℕ → Next
+setup-next t at kind lines = found-setup-line (length t) at kind lines (next-line (take (at .to) t) (at .from) (at .ended))
 
 -- ---- the command lines
 
@@ -109,7 +126,7 @@ list-next at n = cond (ltb n 257) (next.Call (call.List n) (listed-from at (suc 
 -- ---- all phases
 
 unfoldable pub by-phase : Text → Place → Phase → Next
-by-phase t at phase.Setup = setup-next t at
+by-phase t at (phase.Setup kind lines) = setup-next t at kind lines
 by-phase t at phase.Lines = line-next t at
 by-phase t at (phase.Listing n) = list-next at n
 
@@ -118,21 +135,19 @@ next-of t at = by-phase t at (at .phase)
 
 -- ---- what is printed, and whether the program goes on
 
--- of a setup the refusal
-unfoldable pub setup-report : Told → List ℕ → Text
-setup-report t answer = cond (eqb (t .number) 0) [] (call-line t answer ++ (newline ∷ []))
+-- of a setup the number of its first wrong line
+unfoldable pub refusal : ℕ → Text
+refusal n = refused-line (told (WrongLine n)) ++ (newline ∷ [])
 
 -- of the listing a line that is there
 unfoldable pub list-report : Told → List ℕ → Text
 list-report t answer = cond (eqb (number Missing) (t .number)) [] (text-told (t .values) answer ++ (newline ∷ []))
 
 unfoldable pub report-text : Call → Told → List ℕ → Text
-report-text (call.Setup e) t answer = setup-report t answer
 report-text (call.Run a e) t answer = call-line t answer ++ (newline ∷ [])
 report-text (call.List n) t answer = list-report t answer
 
--- behind a setup that is done, every command line, and a line of the listing that is there
+-- behind every command line, and a line of the listing that is there
 unfoldable pub goes-on : Call → Told → Bool
-goes-on (call.Setup e) t = eqb (t .number) 0
 goes-on (call.Run a e) t = true
 goes-on (call.List n) t = not (eqb (number Missing) (t .number))

@@ -1,24 +1,28 @@
 -- The program turn by turn: it asks what is to be done next, makes the call and prints what is printed for it, or reads.
 --
 -- However many bytes each read gives, the program prints `program` of the whole input: `talk-is-program` in ConversationLaws.
-use mathlib.Core.Path.{_≡_}
 use mathlib.Core.List.{List, [], _++_}
-use mathlib.Core.Option.{some}
 use mathlib.Core.Bool.{false, cond}
-use mathlib.Core.Logic.{_⊎_}
-use Prim.Native.Nat.{ℕ, zero, suc, _-_, _<_}
+use Prim.Native.Nat.{ℕ, zero, suc, _-_}
 use lib.ListN.{length, take, drop}
 use Rattle.buffers.specs.Text.{Text}
 use Rattle.syntax.specs.Parts.{part}
-use Rattle.calls.specs.Calls.{Called, setup-call, run-call, listing-call}
+use Rattle.setup.specs.Setup.{Setup, Reading}
+use Rattle.setup.specs.SetupStep.{Line-answer, leads-on, ends-it, is-wrong, setup-step}
+use Rattle.shell.specs.declared.Answer.the-variants.{Done}
+use Rattle.shell.specs.Replies.{told}
+use Rattle.store.specs.HeaderLayout.{header-width}
+use Rattle.store.specs.State.{state-of}
+use Rattle.store.specs.Initial.{no-sessions, initial-store}
+use Rattle.store.specs.StoreBytes.{header-bytes, setup-of, encode}
+use Rattle.calls.specs.Calls.{Called, run-call, listing-call}
 use Rattle.agenda.specs.declared.Phase.the-variants as phase
 use Rattle.agenda.specs.declared.Place.{Place}
 use Rattle.agenda.specs.declared.Call.{Call}
 use Rattle.agenda.specs.declared.Call.the-variants as call
 use Rattle.agenda.specs.declared.Next.{Next}
 use Rattle.agenda.specs.declared.Next.the-variants as next
-use Rattle.agenda.specs.InputLines.{setup-length}
-use Rattle.agenda.specs.Agenda.{read-place, next-of, report-text, goes-on}
+use Rattle.agenda.specs.Agenda.{lines-from, setup-from, read-place, next-of, refusal, report-text, goes-on}
 
 -- how far a run of the program is: its place, its three buffers, the input that has not been read, and how many bytes more than one each
 -- later read gives, where there are as many and room for them
@@ -64,15 +68,28 @@ read-on s = read-to s (given (s .sizes 0) (length (s .window) - (s .at .to - s .
 
 -- a call on the window's bytes and the two buffers
 unfoldable pub made : List ℕ → List ℕ → List ℕ → Call → Called
-made window b answer (call.Setup end) =
-    let called = setup-call b (take end window) in
-    record { tells = called .tells; store = called .store; answer = answer }
 made window b answer (call.Run from end) = run-call b (part window from end) answer
 made window b answer (call.List n) = listing-call b n answer
 
 abbrev pub after-call : Talk → Place → Called → Talk
 after-call s at c =
     record { at = at; window = s .window; store = c .store; answer = c .answer; unread = s .unread; sizes = s .sizes }
+
+-- the setup so far stands in the store's header
+abbrev pub reading-at : ℕ → List ℕ → Reading
+reading-at kind b = record { kind = kind; so-far = setup-of b }
+
+abbrev pub headed : Setup → List ℕ → List ℕ
+headed u b = header-bytes u no-sessions ++ drop header-width b
+
+-- a setup line that ends at a byte: one that leads on stands in the header, `end` makes the store, a wrong one ends the program
+unfoldable pub line-turned : (Talk → Text) → Talk → ℕ → ℕ → Line-answer → Text
+line-turned others s e lines (leads-on d) =
+    others (after-call s (setup-from (s .at) (suc e) (d .kind) (suc lines)) (record { tells = told Done; store = headed (d .so-far) (s .store); answer = s .answer }))
+line-turned others s e lines ends-it =
+    let u = setup-of (s .store) in
+    others (after-call s (lines-from (s .at) (suc e)) (record { tells = told Done; store = encode (state-of u (initial-store u)); answer = s .answer }))
+line-turned others s e lines is-wrong = refusal (suc lines)
 
 -- what a turn prints, and then those behind it
 unfoldable pub turned : (Talk → Text) → Talk → Next → Text
@@ -82,7 +99,8 @@ turned others s (next.Call c then) =
 turned others s (next.On then) = others (moved s then)
 turned others s next.Read = others (read-on s)
 turned others s next.Over = []
-turned others s next.TooLong = []
+turned others s (next.Line e kind lines) = line-turned others s e lines (setup-step (part (s .window) (s .at .from) e) (reading-at kind (s .store)))
+turned others s (next.Wrong lines) = refusal (suc lines)
 
 -- what is printed in so many turns
 unfoldable pub talk : ℕ → Talk → Text
@@ -91,8 +109,4 @@ talk (suc turns) s = turned (talk turns) s (next-of (s .window) (s .at))
 
 -- where the program begins
 abbrev pub first-place : Place
-first-place = record { from = 0; to = 0; ended = false; passing = false; phase = phase.Setup }
-
--- an input whose setup ends within 65,536 bytes, or that is shorter than that
-abbrev pub Setup-fits : Text → Type 0
-Setup-fits input = (length input < 65536) ⊎ ((e : ℕ) × (setup-length (take 65536 input) ≡ some e))
+first-place = record { from = 0; to = 0; ended = false; passing = false; phase = phase.Setup 0 0 }

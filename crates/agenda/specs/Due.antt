@@ -6,13 +6,16 @@ use Prim.Native.Nat.{ℕ, suc, _+_, _-_, _≤_}
 use lib.ListN.{length}
 use Rattle.buffers.specs.Text.{Text}
 use Rattle.syntax.specs.Pieces.{newline, pieces}
+use Rattle.setup.specs.Setup.{is-setup}
+use Rattle.store.specs.StoreBytes.{setup-of}
 use Rattle.calls.specs.Transcript.{command-lines, lines-text}
-use Rattle.calls.specs.Program.{list-lines, run-and-list, program}
+use Rattle.calls.specs.Program.{list-lines, run-and-list}
+use Rattle.calls.specs.ProgramByLines.{program-from}
 use Rattle.agenda.specs.declared.Phase.{Phase}
 use Rattle.agenda.specs.declared.Phase.the-variants.{Setup, Lines, Listing}
 use Rattle.agenda.specs.declared.Place.{Place}
 use Rattle.agenda.specs.Agenda.{Place-held}
-use Rattle.agenda.specs.Conversation.{Talk, ahead, talk, Setup-fits}
+use Rattle.agenda.specs.Conversation.{Talk, ahead}
 
 -- all but the first
 unfoldable pub past-first : List Text → List Text
@@ -25,7 +28,7 @@ lines-due false ps = command-lines ps
 lines-due true ps = command-lines (past-first ps)
 
 unfoldable pub due-in : Talk → Phase → Text
-due-in s Setup = program (s .store) (s .answer) (ahead (s .at) (s .window) (s .unread))
+due-in s (Setup kind lines) = program-from (s .answer) lines (record { kind = kind; so-far = setup-of (s .store) }) (pieces newline (ahead (s .at) (s .window) (s .unread)))
 due-in s Lines = run-and-list (s .store) (s .answer) (lines-due (s .at .passing) (pieces newline (ahead (s .at) (s .window) (s .unread))))
 due-in s (Listing n) = lines-text (list-lines (257 - n) (s .store) (s .answer) n)
 
@@ -38,16 +41,16 @@ busy at unread = unread + unread + (at .to - at .from) + cond (at .ended) 0 1
 
 -- and for what follows them
 unfoldable pub later : Phase → ℕ
-later Setup = 260
+later (Setup kind lines) = 260
 later Lines = 259
 later (Listing n) = suc (257 - n)
 
 abbrev pub turns-due : Place → ℕ → ℕ
 turns-due at unread = busy at unread + later (at .phase)
 
--- in the setup nothing has been handled
+-- in the setup the store's header holds a setup in range
 abbrev pub Ready : Talk → Phase → Type 0
-Ready s Setup = (s .at .from ≡ 0) × Setup-fits (ahead (s .at) (s .window) (s .unread))
+Ready s (Setup kind lines) = is-setup (setup-of (s .store)) ≡ true
 Ready s Lines = Unit {0}
 Ready s (Listing n) = Unit {0}
 
@@ -57,6 +60,6 @@ pub record Talking (s : Talk) : Type 0 where
   pub over : s .at .ended ≡ true → s .unread ≡ []
   pub ready : Ready s (s .at .phase)
 
--- every run prints in so many turns what it has still to print, if they are enough
-abbrev pub Prints : ℕ → Type 0
-Prints m = (s : Talk) → Talking s → turns-due (s .at) (length (s .unread)) ≤ m → talk m s ≡ due s
+-- what is printed at every place is what is due there, if so many turns are enough
+abbrev pub Prints : (Talk → Text) → ℕ → Type 0
+Prints f m = (s : Talk) → Talking s → turns-due (s .at) (length (s .unread)) ≤ m → f s ≡ due s

@@ -1,63 +1,21 @@
 -- What has been read and what follows it are cut as the whole input is: setup and commands, and the next command line.
-use mathlib.Core.Path.{_≡_, refl, sym, _∙_, ap, ap₂}
-use mathlib.Core.List.{List, [], _∷_, _++_, append-assoc}
-use mathlib.Core.Option.{none, some}
+use mathlib.Core.Path.{_≡_, refl, _∙_, ap, ap₂}
+use mathlib.Core.List.{List, [], _∷_, _++_}
 use mathlib.Core.Bool.{Bool, true, false, cond}
 use Prim.Native.Nat.{ℕ, suc, _+_, _-_, _≤_, _<_}
 use native.Mathlib.Omega.{arith}
-use native.Mathlib.Numerals.{add-one}
 use borrow.Author.Tests.{lt-ltb, le-ltb, ltb-true, ltb-false}
 use lib.Dec.{eqb, ltb}
-use lib.ListN.{length, take, drop, length-append, length-drop, drop-of-length-le}
-use lib.Seq.{take-at, drop-at, take-all, drop-drop, length-take-le}
-use Rattle.buffers.specs.Cases.{case, contra}
-use Rattle.buffers.specs.Text.{Text, same-text}
-use Rattle.syntax.specs.Pieces.{bytes, newline, prefix-first, pieces, joined, piece-length}
-use Rattle.syntax.specs.FormLaws.{answered, no-answer}
+use lib.ListN.{length, take, drop, length-drop, drop-of-length-le}
+use lib.Seq.{take-all, drop-drop}
+use Rattle.buffers.specs.Cases.{case}
+use Rattle.buffers.specs.Text.{Text}
+use Rattle.syntax.specs.Pieces.{newline, prefix-first, pieces, piece-length}
 use Rattle.syntax.specs.Parts.{part}
-use Rattle.syntax.specs.PartsLaws.{pieces-some, pieces-first, pieces-first-from, pieces-only-from, piece-end-le, joined-pieces}
-use Rattle.calls.specs.Transcript.{Input, after-end, input-parts, command-lines}
+use Rattle.syntax.specs.PartsLaws.{pieces-some, pieces-only-from, piece-end-le}
+use Rattle.calls.specs.Transcript.{command-lines}
 use Rattle.agenda.specs.declared.NextLine.the-variants.{Line, Last, More, Nothing}
-use Rattle.agenda.specs.InputLines.{end-after, setup-length, next-line}
-
--- ---- the setup's end, found line by line
-
-more-lines : (at : ℕ) (p : Text) (ps : List Text) → 1 ≤ length ps →
-    end-after at (p ∷ ps) ≡ cond (same-text p (bytes "end")) (some (at + suc (length p))) (end-after (at + suc (length p)) ps)
-unfolding end-after
-more-lines at p [] h = let z : ⊥ = omega arith in absurd z
-more-lines at p (q ∷ ps) h = refl
-
-module _ (t : Text) (at end : ℕ) (le : at ≤ length t) (is : end ≡ at + piece-length newline (drop at t)) where
-  -- the last piece ends no setup
-  pub setup-open : end ≡ length t → end-after at (pieces newline (drop at t)) ≡ none
-  unfolding end-after
-  setup-open l = rw (pieces-only-from newline t at end le is l)
-
-  module _ (within : end < length t) where
-    line-over : end-after at (pieces newline (drop at t))
-        ≡ cond (same-text (part t at end) (bytes "end")) (some (end + 1)) (end-after (end + 1) (pieces newline (drop (end + 1) t)))
-    unfolding part
-    line-over =
-        let short : end - at ≤ length (drop at t) = omega (arith, length-drop at t) in
-        let w : at + suc (length (take (end - at) (drop at t))) ≡ end + 1 = omega (arith, length-take-le (end - at) (drop at t) short) in
-        let c = pieces-some newline (drop (suc end) t) in
-        rw (pieces-first-from newline t at end le is within)
-        (more-lines at (part t at end) (pieces newline (drop (suc end) t)) c ∙ rw (w, ← add-one end))
-
-    -- a line `end` ends it
-    pub setup-ends : same-text (part t at end) (bytes "end") ≡ true → end-after at (pieces newline (drop at t)) ≡ some (end + 1)
-    setup-ends e = line-over ∙ rw e
-
-    -- behind another line it is sought further
-    pub setup-goes-on : same-text (part t at end) (bytes "end") ≡ false →
-        end-after (end + 1) (pieces newline (drop (end + 1) t)) ≡ end-after at (pieces newline (drop at t))
-    setup-goes-on e = sym (line-over ∙ rw e)
-
--- from the first byte on
-pub setup-begins : (t : Text) → end-after 0 (pieces newline (drop 0 t)) ≡ setup-length t
-unfolding setup-length
-setup-begins t = refl
+use Rattle.agenda.specs.InputLines.{next-line}
 
 -- ---- the next line, as the code finds it
 
@@ -83,7 +41,7 @@ module _ (t : Text) (at end : ℕ) (ended : Bool) (is : end ≡ at + piece-lengt
     unfolding next-line
     line-goes-on e = rw (← is, le-ltb end (length t) unended, e)
 
--- ---- setup and commands of the input
+-- ---- texts
 
 -- a text with a byte 10, whatever follows it, begins with its first line
 pieces-with-rest : (b : ℕ) (t rest : Text) → piece-length b t < length t →
@@ -93,142 +51,6 @@ pieces-with-rest b [] rest h = let z : ⊥ = omega arith in absurd z
 pieces-with-rest b (c ∷ t) rest h = case (eqb c b)
     (λ e. rw e)
     (λ e. let k : suc (piece-length b t) < suc (length t) = rw e at h in rw (e, pieces-with-rest b t rest (omega arith)))
-
-joined-first : (b : ℕ) (p : Text) (ps : List Text) → 1 ≤ length ps → joined b (p ∷ ps) ≡ p ++ (b ∷ joined b ps)
-unfolding joined
-joined-first b p [] h = let z : ⊥ = omega arith in absurd z
-joined-first b p (q ∷ ps) h = refl
-
--- the first of several lines, with its byte 10, and the text behind it
-record First-line (t p : Text) (ps : List Text) : Type 0 where
-  behind : Text
-  lines : pieces newline behind ≡ ps
-  whole : t ≡ p ++ (newline ∷ behind)
-  before : (rest : Text) → pieces newline (t ++ rest) ≡ p ∷ pieces newline (behind ++ rest)
-
-first-line : (t p q : Text) (ps : List Text) → pieces newline t ≡ p ∷ (q ∷ ps) → First-line t p (q ∷ ps)
-first-line t p q ps w = case (ltb (piece-length newline t) (length t))
-    (λ l.
-    let n = piece-length newline t in
-    let r = drop (suc n) t in
-    let h : n < length t = ltb-true n (length t) l in
-    let s : take n t ∷ pieces newline r ≡ p ∷ (q ∷ ps) = sym (pieces-first newline t h) ∙ w in
-    let f : take n t ≡ p = cc in
-    let g : pieces newline r ≡ q ∷ ps = cc in
-    record {
-      behind = r;
-      lines = g;
-      whole =
-          sym (joined-pieces newline t)
-          ∙ ap (joined newline) (pieces-first newline t h)
-          ∙ joined-first newline (take n t) (pieces newline r) (pieces-some newline r)
-          ∙ ap₂ (λ (x y : Text). x ++ (newline ∷ y)) f (joined-pieces newline r);
-      before = λ rest. pieces-with-rest newline t rest h ∙ ap (λ (x : Text). x ∷ pieces newline (r ++ rest)) f;
-    })
-    (λ l.
-    let h : piece-length newline t ≡ length t = omega (arith, ltb-false (piece-length newline t) (length t) l, piece-end-le newline t 0 (omega arith)) in
-    let k = pieces-only-from newline t 0 (length t) (omega arith) (omega arith) refl in
-    let z : part t 0 (length t) ∷ [] ≡ p ∷ (q ∷ ps) = sym k ∙ w in
-    contra {b = true} refl (cc))
-
--- the input-parts of an input by its first line
-parts-end : (p : Text) (ps : List Text) → same-text p (bytes "end") ≡ true → 1 ≤ length ps →
-    input-parts (p ∷ ps) ≡ record { of-setup = p ∷ ([] ∷ []); of-commands = ps }
-unfolding input-parts after-end
-parts-end p [] e h = let z : ⊥ = omega arith in absurd z
-parts-end p (q ∷ ps) e h = rw e
-
-parts-more : (p : Text) (ps : List Text) → same-text p (bytes "end") ≡ false →
-    input-parts (p ∷ ps) ≡ record { of-setup = p ∷ input-parts ps .of-setup; of-commands = input-parts ps .of-commands }
-unfolding input-parts
-parts-more p ps e = rw e
-
-parts-some : (ps : List Text) → 1 ≤ length ps → 1 ≤ length (input-parts ps .of-setup)
-unfolding input-parts
-parts-some [] h = let z : ⊥ = omega arith in absurd z
-parts-some (p ∷ ps) h = omega arith
-
--- a text in two: the setup, which ends at e where the text begins at a place, and what belongs to the commands
-record Split (t rest : Text) (at e : ℕ) : Type 0 where
-  front : Text
-  back : Text
-  whole : t ≡ front ++ back
-  long : e ≡ at + length front
-  setup-is : joined newline (input-parts (pieces newline (t ++ rest)) .of-setup) ≡ front
-  commands-are : input-parts (pieces newline (t ++ rest)) .of-commands ≡ pieces newline (back ++ rest)
-
-split : (ps : List Text) (t rest : Text) (at e : ℕ) → pieces newline t ≡ ps → end-after at ps ≡ some e → Split t rest at e
-unfolding end-after joined
-split [] t rest at e w h = no-answer h
-split (p ∷ []) t rest at e w h = no-answer h
-split (p ∷ (q ∷ ps)) t rest at e w h =
-    let f = first-line t p q ps w in
-    let R = pieces newline (f .behind ++ rest) in
-    let some-left = pieces-some newline (f .behind ++ rest) in
-    case (same-text p (bytes "end"))
-    (λ s.
-    let n : e ≡ at + suc (length p) = answered (rw s at h) in
-    let i = ap input-parts (f .before rest) ∙ parts-end p R s some-left in
-    record {
-      front = p ++ (newline ∷ []);
-      back = f .behind;
-      whole = f .whole ∙ sym (append-assoc p (newline ∷ []) (f .behind));
-      long = n ∙ ap (λ (k : ℕ). at + k) (sym (length-append p (newline ∷ []) ∙ add-one (length p)));
-      setup-is = ap (λ (x : Input). joined newline (x .of-setup)) i;
-      commands-are = ap (λ (x : Input). x .of-commands) i;
-    })
-    (λ s.
-    let r = split (q ∷ ps) (f .behind) rest (at + suc (length p)) e (f .lines) (rw s at h) in
-    let i = ap input-parts (f .before rest) ∙ parts-more p R s in
-    record {
-      front = p ++ (newline ∷ r .front);
-      back = r .back;
-      whole = f .whole ∙ ap (λ (x : Text). p ++ (newline ∷ x)) (r .whole) ∙ sym (append-assoc p (newline ∷ r .front) (r .back));
-      long = omega (arith, r .long, length-append p (newline ∷ r .front));
-      setup-is =
-          ap (λ (x : Input). joined newline (x .of-setup)) i
-          ∙ joined-first newline p (input-parts R .of-setup) (parts-some R some-left)
-          ∙ ap (λ (x : Text). p ++ (newline ∷ x)) (r .setup-is);
-      commands-are = ap (λ (x : Input). x .of-commands) i ∙ r .commands-are;
-    })
-
--- the setup and the commands of an input of which a text has been read
-pub record Setup-in (t rest : Text) (e : ℕ) : Type 0 where
-  pub within : e ≤ length t
-  pub setup-text : joined newline (input-parts (pieces newline (t ++ rest)) .of-setup) ≡ take e t
-  pub commands : input-parts (pieces newline (t ++ rest)) .of-commands ≡ pieces newline (drop e t ++ rest)
-
--- where the text has the setup's end, that is the end of the whole input's setup
-pub setup-in : (t rest : Text) (e : ℕ) → setup-length t ≡ some e → Setup-in t rest e
-unfolding setup-length
-setup-in t rest e h =
-    let s = split (pieces newline t) t rest 0 e refl h in
-    let n : length (s .front) ≡ e = omega (arith, s .long) in
-    let a : take e t ≡ s .front = ap (take e) (s .whole) ∙ take-at (s .front) (s .back) e n in
-    let b : drop e t ≡ s .back = ap (drop e) (s .whole) ∙ drop-at (s .front) (s .back) e n in
-    record {
-      within = omega (arith, ap length (s .whole), length-append (s .front) (s .back));
-      setup-text = s .setup-is ∙ sym a;
-      commands = s .commands-are ∙ ap (λ (x : Text). pieces newline (x ++ rest)) (sym b);
-    }
-
-all-setup : (at : ℕ) (ps : List Text) → end-after at ps ≡ none → input-parts ps ≡ record { of-setup = ps; of-commands = [] }
-unfolding end-after input-parts after-end
-all-setup at [] h = refl
-all-setup at (p ∷ []) h = case (same-text p (bytes "end")) (λ s. rw s) (λ s. rw s)
-all-setup at (p ∷ (q ∷ ps)) h = case (same-text p (bytes "end"))
-    (λ s. no-answer (sym (rw s at h)))
-    (λ s.
-    parts-more p (q ∷ ps) s
-    ∙ ap (λ (x : Input). record { of-setup = p ∷ x .of-setup; of-commands = x .of-commands }) (all-setup (at + suc (length p)) (q ∷ ps) (rw s at h)))
-
--- where an input has no such end, all of it is the setup and there are no commands
-pub no-setup-end : (t : Text) → setup-length t ≡ none →
-    (joined newline (input-parts (pieces newline t) .of-setup) ≡ t) × (input-parts (pieces newline t) .of-commands ≡ [])
-unfolding setup-length
-no-setup-end t h =
-    let i = all-setup 0 (pieces newline t) h in
-    (ap (λ (x : Input). joined newline (x .of-setup)) i ∙ joined-pieces newline t, ap (λ (x : Input). x .of-commands) i)
 
 -- ---- the command lines of the input
 

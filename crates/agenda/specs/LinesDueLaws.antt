@@ -28,14 +28,14 @@ use Rattle.agenda.specs.InputLines.{next-line}
 use Rattle.agenda.specs.InputLinesLaws.{line-is-piece, next-is-line, next-is-last, next-is-none, next-is-more, pieces-glue, command-first}
 use Rattle.agenda.specs.LongLineLaws.{long-lines-are-alike}
 use Rattle.agenda.specs.Agenda.{Place-held, lines-from, listed-from, passing-from, taken, unended, found-line, line-next, report-text, goes-on}
-use Rattle.agenda.specs.Conversation.{Talk, ahead, moved, made, turned, talk}
+use Rattle.agenda.specs.Conversation.{Talk, ahead, moved, made, turned}
 use Rattle.agenda.specs.Due.{past-first, lines-due, due-in, due, busy, later, turns-due, Ready, Talking, Prints}
 use Rattle.agenda.specs.ReadingOnLaws.{read-prints}
 
 -- ---- texts
 
 -- a part of what has been read is that part of the window
-part-read : (w : Text) (from e to : ℕ) → from ≤ e → e ≤ to → to ≤ length w → part (take to w) from e ≡ part w from e
+pub part-read : (w : Text) (from e to : ℕ) → from ≤ e → e ≤ to → to ≤ length w → part (take to w) from e ≡ part w from e
 unfolding part
 part-read w from e to h k l =
     let n = length-take-le to w l in
@@ -45,7 +45,7 @@ part-read w from e to h k l =
     ∙ take-append-le (e - from) (drop from (take to w)) (drop to w) (omega (arith, n, length-drop from (take to w))))
 
 -- and all of it from a place on is what is kept
-part-kept : (w : Text) (from to : ℕ) → from ≤ to → to ≤ length w → part w from to ≡ drop from (take to w)
+pub part-kept : (w : Text) (from to : ℕ) → from ≤ to → to ≤ length w → part w from to ≡ drop from (take to w)
 unfolding part
 part-kept w from to h l =
     sym (part-read w from to to h (omega arith) l)
@@ -79,7 +79,7 @@ pub either-turned : (others : Talk → Text) (s : Talk) (b : Bool) (x y : Next) 
 either-turned others s true x y = refl
 either-turned others s false x y = refl
 
-module _ (m : ℕ) (others : Prints m) (s : Talk) (h : Talking s) (c : turns-due (s .at) (length (s .unread)) ≤ suc m) (k : s .at .phase ≡ Lines) where
+module _ (f : Talk → Text) (m : ℕ) (others : Prints f m) (s : Talk) (h : Talking s) (c : turns-due (s .at) (length (s .unread)) ≤ suc m) (k : s .at .phase ≡ Lines) where
   abbrev lines-ahead : List Text
   lines-ahead = pieces newline (ahead (s .at) (s .window) (s .unread))
 
@@ -102,14 +102,14 @@ module _ (m : ℕ) (others : Prints m) (s : Talk) (h : Talking s) (c : turns-due
     on b answer =
         record { at = rest; window = s .window; store = b; answer = answer; unread = s .unread; sizes = s .sizes }
 
-    others-print : (b answer : List ℕ) → talk m (on b answer) ≡ run-and-list b answer others-due
+    others-print : (b answer : List ℕ) → f (on b answer) ≡ run-and-list b answer others-due
     unfolding due due-in later
     others-print b answer =
         let t : Talking (on b answer) = record { held = rest-held; over = rest-over; ready = subst (Ready (on b answer)) (sym in-lines) tt } in
         others (on b answer) t (omega (arith, turns-are, fewer, ap later in-lines)) ∙ ap (due-in (on b answer)) in-lines
 
     run-prints : (line : Text) → let c = run-call (s .store) line (s .answer) in
-        (call-line (c .tells) (c .answer) ++ (newline ∷ [])) ++ talk m (on (c .store) (c .answer)) ≡ run-and-list (s .store) (s .answer) (line ∷ others-due)
+        (call-line (c .tells) (c .answer) ++ (newline ∷ [])) ++ f (on (c .store) (c .answer)) ≡ run-and-list (s .store) (s .answer) (line ∷ others-due)
     run-prints line =
         let c = run-call (s .store) line (s .answer) in
         ap (λ (x : Text). (call-line (c .tells) (c .answer) ++ (newline ∷ [])) ++ x) (others-print (c .store) (c .answer))
@@ -118,19 +118,19 @@ module _ (m : ℕ) (others : Prints m) (s : Talk) (h : Talking s) (c : turns-due
     -- a line is run, or has been answered
     module _ (end : ℕ) (line : Text) (alike : run-call (s .store) (part (s .window) (s .at .from) end) (s .answer) ≡ run-call (s .store) line (s .answer))
         (first : command-lines lines-ahead ≡ line ∷ others-due) (then : command-lines (past-first lines-ahead) ≡ others-due) where
-      by-passing : (b : Bool) → cond b (turned (talk m) s (On rest)) (turned (talk m) s (Call (Run (s .at .from) end) rest))
+      by-passing : (b : Bool) → cond b (turned f s (On rest)) (turned f s (Call (Run (s .at .from) end) rest))
           ≡ run-and-list (s .store) (s .answer) (lines-due b lines-ahead)
       unfolding turned made report-text goes-on lines-due
       by-passing true = others-print (s .store) (s .answer) ∙ ap (run-and-list (s .store) (s .answer)) (sym then)
       by-passing false =
-          ap (λ (c : Called). (call-line (c .tells) (c .answer) ++ (newline ∷ [])) ++ talk m (on (c .store) (c .answer))) alike
+          ap (λ (c : Called). (call-line (c .tells) (c .answer) ++ (newline ∷ [])) ++ f (on (c .store) (c .answer))) alike
           ∙ run-prints line
           ∙ ap (run-and-list (s .store) (s .answer)) (sym first)
 
-      taken-prints : turned (talk m) s (taken (s .at) end rest) ≡ due-in s Lines
+      taken-prints : turned f s (taken (s .at) end rest) ≡ due-in s Lines
       unfolding taken due-in
       taken-prints =
-          either-turned (talk m) s (s .at .passing) (On rest) (Call (Run (s .at .from) end) rest) ∙ by-passing (s .at .passing)
+          either-turned f s (s .at .passing) (On rest) (Call (Run (s .at .from) end) rest) ∙ by-passing (s .at .passing)
 
   -- ---- by what the next line is
 
@@ -141,7 +141,7 @@ module _ (m : ℕ) (others : Prints m) (s : Talk) (h : Talking s) (c : turns-due
   read-length = length-take-le (s .at .to) (s .window) (h .held .within)
 
   line-ends : (e : ℕ) → next-line text-read (s .at .from) (s .at .ended) ≡ found.Line e →
-      turned (talk m) s (taken (s .at) e (lines-from (s .at) (suc e))) ≡ due-in s Lines
+      turned f s (taken (s .at) e (lines-from (s .at) (suc e))) ≡ due-in s Lines
   unfolding lines-due past-first busy
   line-ends e q =
       let p = line-is-piece text-read (s .at .from) (s .at .ended) (s .unread) e q in
@@ -163,7 +163,7 @@ module _ (m : ℕ) (others : Prints m) (s : Talk) (h : Talking s) (c : turns-due
       ap₂ (λ (x y : Text). command-lines (pieces newline (x ++ y))) (none-kept (s .window) (s .at .to) (h .held .within)) u
 
   line-is-last : next-line text-read (s .at .from) (s .at .ended) ≡ found.Last →
-      turned (talk m) s (taken (s .at) (s .at .to) (lines-from (s .at) (s .at .to))) ≡ due-in s Lines
+      turned f s (taken (s .at) (s .at .to) (lines-from (s .at) (s .at .to))) ≡ due-in s Lines
   unfolding lines-due past-first busy command-lines
   line-is-last q =
       let n = next-is-last text-read (s .at .from) (s .at .ended) q in
@@ -182,7 +182,7 @@ module _ (m : ℕ) (others : Prints m) (s : Talk) (h : Talking s) (c : turns-due
 
   -- one that fills the window is answered by its first bytes
   line-fills : next-line text-read (s .at .from) (s .at .ended) ≡ found.More → length (s .window) ≤ s .at .to - s .at .from →
-      turned (talk m) s (taken (s .at) (s .at .to) (passing-from (s .at .to))) ≡ due-in s Lines
+      turned f s (taken (s .at) (s .at .to) (passing-from (s .at .to))) ≡ due-in s Lines
   unfolding lines-due past-first busy
   line-fills q full =
       let n = next-is-more text-read (s .at .from) (s .at .ended) (omega (arith, h .held .ordered, read-length)) q in
@@ -207,7 +207,7 @@ module _ (m : ℕ) (others : Prints m) (s : Talk) (h : Talking s) (c : turns-due
       (ap (λ (ps : List Text). command-lines (past-first ps)) whole ∙ sym due-then)
 
   -- behind the last line comes the listing
-  line-is-none : next-line text-read (s .at .from) (s .at .ended) ≡ found.Nothing → turned (talk m) s (On (listed-from (s .at) 0)) ≡ due-in s Lines
+  line-is-none : next-line text-read (s .at .from) (s .at .ended) ≡ found.Nothing → turned f s (On (listed-from (s .at) 0)) ≡ due-in s Lines
   unfolding turned due due-in busy later run-and-list run-lines pieces
   line-is-none q =
       let n = next-is-none text-read (s .at .from) (s .at .ended) q in
@@ -223,7 +223,7 @@ module _ (m : ℕ) (others : Prints m) (s : Talk) (h : Talking s) (c : turns-due
 
   -- and in all
   line-prints : (l : NextLine) → next-line text-read (s .at .from) (s .at .ended) ≡ l →
-      turned (talk m) s (found-line (length (s .window)) (s .at) l) ≡ due-in s Lines
+      turned f s (found-line (length (s .window)) (s .at) l) ≡ due-in s Lines
   unfolding found-line unended
   line-prints (found.Line e) q = line-ends e q
   line-prints found.Last q = line-is-last q
@@ -231,18 +231,18 @@ module _ (m : ℕ) (others : Prints m) (s : Talk) (h : Talking s) (c : turns-due
   line-prints found.More q =
       let more = taken (s .at) (s .at .to) (passing-from (s .at .to)) in
       let full = ltb (s .at .to - s .at .from) (length (s .window)) in
-      either-turned (talk m) s full Read more
+      either-turned f s full Read more
       ∙ case full
       (λ e.
       let n = next-is-more text-read (s .at .from) (s .at .ended) (omega (arith, h .held .ordered, read-length)) q in
       let room = ltb-true (s .at .to - s .at .from) (length (s .window)) e in
-      ap (λ (b : Bool). cond b (turned (talk m) s Read) (turned (talk m) s more)) e
-      ∙ read-prints s h (n .0) (omega (arith, room, h .held .wide)) m others c
+      ap (λ (b : Bool). cond b (turned f s Read) (turned f s more)) e
+      ∙ read-prints s h (n .0) (omega (arith, room, h .held .wide)) f m others c
       ∙ due-is)
       (λ e.
-      ap (λ (b : Bool). cond b (turned (talk m) s Read) (turned (talk m) s more)) e
+      ap (λ (b : Bool). cond b (turned f s Read) (turned f s more)) e
       ∙ line-fills q (ltb-false (s .at .to - s .at .from) (length (s .window)) e))
 
-  pub lines-print : turned (talk m) s (line-next (s .window) (s .at)) ≡ due s
+  pub lines-print : turned f s (line-next (s .window) (s .at)) ≡ due s
   unfolding line-next
   lines-print = line-prints (next-line text-read (s .at .from) (s .at .ended)) refl ∙ sym due-is

@@ -1,5 +1,5 @@
 -- A read changes nothing of what a run of the program has still to print, and takes a turn off those that are due.
-use mathlib.Core.Path.{_≡_, refl, sym, _∙_, ap, subst}
+use mathlib.Core.Path.{_≡_, refl, _∙_, ap}
 use mathlib.Core.List.{[], _∷_, _++_, append-assoc}
 use mathlib.Core.Bool.{Bool, false, cond}
 use Prim.Native.Nat.{ℕ, zero, suc, _+_, _-_, _≤_, _<_}
@@ -14,7 +14,7 @@ use Rattle.agenda.specs.declared.Phase.{Phase}
 use Rattle.agenda.specs.declared.Phase.the-variants.{Setup, Lines, Listing}
 use Rattle.agenda.specs.declared.Next.the-variants.{Read}
 use Rattle.agenda.specs.AgendaLaws.{read-held}
-use Rattle.agenda.specs.Conversation.{Talk, kept, ahead, given, read-to, read-on, turned, talk, Setup-fits}
+use Rattle.agenda.specs.Conversation.{Talk, kept, ahead, given, read-to, read-on, turned}
 use Rattle.agenda.specs.Due.{due-in, due, busy, turns-due, Ready, Talking, Prints}
 
 -- ---- what a read gives
@@ -87,7 +87,7 @@ module _ (s : Talk) (h : Talking s) (unended : s .at .ended ≡ false) (room : s
       omega (arith, length-append f (drop (length f) (s .window)), length-drop (length f) (s .window), front-length, got-fits)
 
   still-ready : (p : Phase) → Ready s p → Ready after p
-  still-ready Setup r = (refl, subst (λ (x : Text). Setup-fits x) (sym same-ahead) (r .1))
+  still-ready (Setup kind lines) r = r
   still-ready Lines r = tt
   still-ready (Listing n) r = tt
 
@@ -100,7 +100,7 @@ module _ (s : Talk) (h : Talking s) (unended : s .at .ended ≡ false) (room : s
 
   same-due-in : (p : Phase) → due-in after p ≡ due-in s p
   unfolding due-in
-  same-due-in Setup = rw same-ahead
+  same-due-in (Setup kind lines) = rw same-ahead
   same-due-in Lines = rw same-ahead
   same-due-in (Listing n) = refl
 
@@ -113,6 +113,6 @@ module _ (s : Talk) (h : Talking s) (unended : s .at .ended ≡ false) (room : s
       omega (arith, l, a, one, at-most (length got))
 
   -- so a turn that reads prints what is due
-  pub read-prints : (m : ℕ) → Prints m → turns-due (s .at) (length (s .unread)) ≤ suc m → turned (talk m) s Read ≡ due s
+  pub read-prints : (f : Talk → Text) (m : ℕ) → Prints f m → turns-due (s .at) (length (s .unread)) ≤ suc m → turned f s Read ≡ due s
   unfolding turned read-on due got
-  read-prints m others c = others after read-talking (omega (arith, fewer)) ∙ same-due-in (s .at .phase)
+  read-prints f m others c = others after read-talking (omega (arith, fewer)) ∙ same-due-in (s .at .phase)

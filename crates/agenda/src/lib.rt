@@ -5,17 +5,14 @@ mod lines_ahead;
 mod reports;
 pub mod steps;
 
+pub use lines_ahead::lines_from;
 pub use reports::goes_on;
+pub use reports::refuse;
 pub use reports::report;
 pub use steps::after_read;
+pub use steps::setup_from;
 
-// Where the setup ends in what has been read: behind the byte 10 of its first line `end`, or not in it.
-pub enum SetupEnd {
-    At(usize),
-    Open,
-}
-
-// The next command line of what has been read.
+// The next line of what has been read.
 pub enum NextLine {
     // It ends at this byte 10.
     Line { end: usize },
@@ -27,9 +24,10 @@ pub enum NextLine {
     Nothing,
 }
 
-// What the program is at: the setup, the command lines, or this line of the listing.
+// What the program is at: the setup, with the kind of its last line and how many there were, the command lines, or this line of the
+// listing.
 pub enum Phase {
-    Setup,
+    Setup { kind: u8, lines: usize },
     Lines,
     Listing(usize),
 }
@@ -46,16 +44,18 @@ pub struct Place {
     pub phase: Phase,
 }
 
-// A call of the library: with the window's first bytes as the setup, with a part of it as a command line, or for a line of the
-// listing.
+// A call of the library: with a part of the window as a command line, or for a line of the listing.
 pub enum Call {
-    Setup { end: usize },
     Run { from: usize, end: usize },
     List { n: usize },
 }
 
 // What is to be done next.
 pub enum Next {
+    // Read the line of the setup that ends at this byte 10, behind so many lines of which the last was of this kind.
+    Line { end: usize, kind: u8, lines: usize },
+    // The setup's next line, behind so many, is wrong: it is longer than any line may be, or the input has ended.
+    Wrong { lines: usize },
     // Make a call and print what it tells; if the program goes on, it is from this place.
     Call { call: Call, then: Place },
     // Nothing is to be called: go on from this place.
@@ -64,6 +64,4 @@ pub enum Next {
     Read,
     // All is done.
     Over,
-    // The setup fills the window and has not ended.
-    TooLong,
 }

@@ -4,23 +4,19 @@ ghost use Prim.Native.Nat.{_+_, _≤_};
 ghost use lib.ListN.{length};
 ghost use Rattle.shell.specs.Replies.{told};
 ghost use Rattle.printing.specs.Printed.{Printed};
-ghost use Rattle.agenda.specs.Agenda.{setup-report, list-report, report-text, goes-on};
+ghost use Rattle.agenda.specs.Agenda.{refusal, list-report, report-text, goes-on};
 use crate::Call;
-use printing::is_done;
 use printing::is_missing;
 use printing::write_listed;
 use printing::write_reply;
 use shell::Answer;
 
-// Writes the refusal of a setup.
-fn report_setup(r: Answer, answer: &[u8], out: &mut [u8]) -> usize
+// Writes the refusal of a setup whose line of this number is wrong.
+pub fn refuse(line: usize, answer: &[u8], out: &mut [u8]) -> usize
     requires { ⌜ length (now answer) + 32 ≤ length (now out) ⌝ }
-    ensures { λ n. ⌜ Printed (setup-report (told r) (now (answer .entry))) (now (out .entry)) (now (out .exit)) n ⌝ }
+    ensures { λ n. ⌜ Printed (refusal line) (now (out .entry)) (now (out .exit)) n ⌝ }
 {
-    if is_done(r) {
-        return 0;
-    }
-    write_reply(r, answer, out)
+    write_reply(Answer::WrongLine(line), answer, out)
 }
 
 // Writes a line of the listing, where there is one.
@@ -40,18 +36,16 @@ pub fn report(call: Call, r: Answer, answer: &[u8], out: &mut [u8]) -> usize
     ensures { λ n. ⌜ Printed (report-text call (told r) (now (answer .entry))) (now (out .entry)) (now (out .exit)) n ⌝ }
 {
     match call {
-        Call::Setup { end: _ } => report_setup(r, answer, out),
         Call::Run { from: _, end: _ } => write_reply(r, answer, out),
         Call::List { n: _ } => report_listed(r, answer, out),
     }
 }
 
-// Whether the program goes on behind a call: a refused setup ends it, and a line of the listing that is missing.
+// Whether the program goes on behind a call: a line of the listing that is missing ends it.
 pub fn goes_on(call: Call, r: Answer) -> bool
     ensures { λ b. ⌜ b ≡ goes-on call (told r) ⌝ }
 {
     match call {
-        Call::Setup { end: _ } => is_done(r),
         Call::Run { from: _, end: _ } => true,
         Call::List { n: _ } => !is_missing(r),
     }

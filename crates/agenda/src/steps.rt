@@ -2,50 +2,39 @@
 ghost use mathlib.Core.Path.{_≡_};
 ghost use Prim.Native.Nat.{_+_, _-_, _≤_};
 ghost use lib.ListN.{length};
-ghost use Rattle.agenda.specs.Agenda.{Place-held, call-setup, open-setup, setup-next, list-next, next-of, read-place};
+ghost use Rattle.agenda.specs.Agenda.{Place-held, open-line, setup-next, list-next, next-of, setup-from, read-place};
 use crate::Call;
 use crate::Next;
+use crate::NextLine;
 use crate::Phase;
 use crate::Place;
-use crate::SetupEnd;
-use crate::input::setup_end;
+use crate::input::next_line;
 use crate::lines_ahead::line_next;
-use crate::lines_ahead::lines_from;
 use crate::lines_ahead::listed_from;
 
-// The setup is the window's first bytes, and the command lines follow it.
-fn call_setup(at: Place, end: usize) -> Next
-    ensures { λ r. ⌜ r ≡ call-setup at end ⌝ }
+// What to do with a setup line whose end has not been read: no good line fills the window.
+fn open_line(window: &[u8], at: Place, lines: usize) -> Next
+    requires { ⌜ Place-held at (length (now window)) ⌝ }
+    ensures { λ r. ⌜ r ≡ open-line (length (now (window .entry))) at lines ⌝ }
 {
-    Next::Call {
-        call: Call::Setup { end },
-        then: lines_from(at, end),
+    if at.to - at.from < window.len() {
+        return Next::Read;
     }
-}
-
-// What to do with a setup whose end has not been read; where the input has ended, all of it is the setup.
-fn open_setup(window: &[u8], at: Place) -> Next
-    ensures { λ r. ⌜ r ≡ open-setup (length (now (window .entry))) at ⌝ }
-{
-    let to = at.to;
-    if at.ended {
-        return call_setup(at, to);
-    }
-    if to == window.len() {
-        return Next::TooLong;
-    }
-    Next::Read
+    Next::Wrong { lines }
 }
 
 // What to do in the setup.
-fn setup_next(window: &[u8], at: Place) -> Next
+fn setup_next(window: &[u8], at: Place, kind: u8, lines: usize) -> Next
     requires { ⌜ Place-held at (length (now window)) ⌝ }
-    ensures { λ r. ⌜ r ≡ setup-next (now (window .entry)) at ⌝ }
+    ensures { λ r. ⌜ r ≡ setup-next (now (window .entry)) at kind lines ⌝ }
 {
+    let from = at.from;
     let to = at.to;
-    match setup_end(&window[..to]) {
-        SetupEnd::At(end) => call_setup(at, end),
-        SetupEnd::Open => open_setup(window, at),
+    match next_line(&window[..to], from, at.ended) {
+        NextLine::Line { end } => Next::Line { end, kind, lines },
+        NextLine::Last => Next::Wrong { lines },
+        NextLine::More => open_line(window, at, lines),
+        NextLine::Nothing => Next::Wrong { lines },
     }
 }
 
@@ -69,9 +58,22 @@ pub fn next(window: &[u8], at: Place) -> Next
 {
     let phase = at.phase;
     match phase {
-        Phase::Setup => setup_next(window, at),
+        Phase::Setup { kind, lines } => setup_next(window, at, kind, lines),
         Phase::Lines => line_next(window, at),
         Phase::Listing(n) => list_next(at, n),
+    }
+}
+
+// The place behind a setup line of a kind, with how many lines there were.
+pub fn setup_from(at: Place, from: usize, kind: u8, lines: usize) -> Place
+    ensures { λ r. ⌜ r ≡ setup-from at from kind lines ⌝ }
+{
+    Place {
+        from,
+        to: at.to,
+        ended: at.ended,
+        passing: false,
+        phase: Phase::Setup { kind, lines },
     }
 }
 

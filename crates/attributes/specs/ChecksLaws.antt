@@ -45,7 +45,7 @@ use Rattle.walks.specs.RowWalk.{Spot, spot, outcome, walk-in}
 use Rattle.walks.specs.RowWalkLaws.{outcome-at, outcome-refused}
 use Rattle.walks.specs.NamesWritten.{Answers}
 use Rattle.walks.specs.WalkBytes.{spot-of, Came}
-use Rattle.walks.specs.WalkBytesLaws.{came-to, came-not, walk-to, walk-not}
+use Rattle.walks.specs.WalkBytesLaws.{came-to, came-not, walk-to, walk-not, came-spot}
 use Rattle.shell.specs.declared.Answer.the-variants
 use Rattle.shell.specs.Steps.{text-of, run-read, run-write, run-chmod, run-chgrp, run-chown}
 use Rattle.shell.specs.CommandBytes.{Follows, Follows-silently}
@@ -130,13 +130,11 @@ module _ {b : List ℕ} {t : Place Node} (tree : Encodes b t) (a : Account) (s :
     {w : Walked} (walked : outcome w ≡ walk-in a (all-rows b) s) where
   -- after a walk that came to a row the tests of that row decide
   pub tested : {x : Result Spot} {row above : ℕ} → w ≡ To row above → x ≡ passed (tests a deed (row-at b row .here)) row above → x ≡ may-do-at a deed t p
-  unfolding spot-of
   tested {x} {row} {above} e q =
       let c = walk-to tree a s reads walked e in
-      let same : spot row above ≡ spot-of t p = λ i. record { row = c .at .row i; above = c .over-at .row i } in
       q
       ∙ ap (λ (n : Node). passed (tests a deed n) row above) (at-here (c .at))
-      ∙ ap (λ (z : Spot). tests a deed (c .place .here) >> done z) same
+      ∙ ap (λ (z : Spot). tests a deed (c .place .here) >> done z) (came-spot c)
       ∙ sym (done-bind (c .place) (λ d. tests a deed (d .here) >> done (spot-of t p)))
       ∙ sym (ap (λ (r : Result (Place Node)). r >>= λ d. tests a deed (d .here) >> done (spot-of t p)) (c .walked))
       ∙ after-tests a deed t p (λ d. done (spot-of t p))

@@ -46,7 +46,7 @@ no-store-set-up = refl
 -- ---- bytes
 
 -- without persons, pairs, grants and sessions the header is zero
-empty-header : header-bytes no-setup no-sessions ≡ replicate 6142 0
+empty-header : header-bytes no-setup no-sessions ≡ replicate 7422 0
 unfolding compute compute-calls
 empty-header = refl
 

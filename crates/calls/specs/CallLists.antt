@@ -12,9 +12,9 @@ use Rattle.setup.specs.Setup.{Setup, accepted, setup as setup-of}
 use Rattle.shell.specs.Replies.{Reply, Told, told, answer-of, written}
 use Rattle.store.specs.State.{Store, state-of}
 use Rattle.store.specs.StoreBytes.{decode}
-use Rattle.machine.specs.AbstractMachine.{Abstract, abstract, initial-abstract}
+use Rattle.machine.specs.AbstractMachine.{Abstract, abstract-runs, initial-abstract}
 use Rattle.machine.specs.Embedding.{stored}
-use Rattle.machine.specs.Runs.{Call, runs, root's}
+use Rattle.machine.specs.Runs.{Call, root's}
 use Rattle.machine.specs.Observed.{workspace-of, filed-in}
 use Rattle.calls.specs.Calls.{run-call}
 
@@ -74,6 +74,6 @@ all-sound rs = every (λ r. not (eqb (r .tells .number) 18)) rs
 pub record Calls-compared (text : Text) (requests : List Request) (responded : Responded) : Type 0 where
   pub setup : Setup
   pub taken : setup-of text ≡ accepted setup
-  pub responses : responded .responses ≡ responses-to requests (runs abstract setup (initial-abstract setup) (map call-for requests) .replies)
-  pub store : Stands-for setup (runs abstract setup (initial-abstract setup) (map call-for requests) .state) (responded .store)
+  pub responses : responded .responses ≡ responses-to requests (abstract-runs setup (initial-abstract setup) (map call-for requests) .replies)
+  pub store : Stands-for setup (abstract-runs setup (initial-abstract setup) (map call-for requests) .state) (responded .store)
   pub sound : all-sound (responded .responses) ≡ true

@@ -9,22 +9,21 @@ use Rattle.syntax.specs.Pieces.{bytes, pieces, newline, joined}
 use Rattle.setup.specs.Setup.{Setup, Setup-answer, accepted, wrong-line, setup}
 use Rattle.shell.specs.Replies.{ok}
 use Rattle.store.specs.Initial.{initial-store}
-use Rattle.machine.specs.Machine.{Machine}
 use Rattle.machine.specs.StoreMachine.{store}
-use Rattle.machine.specs.AbstractMachine.{abstract, initial-abstract}
-use Rattle.machine.specs.Runs.{runs}
+use Rattle.machine.specs.AbstractMachine.{abstract-runs, initial-abstract}
+use Rattle.machine.specs.Runs.{Call, Ran, runs}
 use Rattle.calls.specs.Transcript.{input-parts, command-lines, reply-line, call-of, transcript}
 use Rattle.calls.specs.Compute.{compute}
 
 -- the answers of a machine to the commands of the program's input
-answers : {S A : Type 0} → Machine S A → (Setup → S) → Setup-answer → List Text → List Text
-answers M initial (wrong-line n) commands = []
-answers M initial (accepted u) commands = map reply-line (runs M u (initial u) (map call-of commands) .replies)
+answers : {S : Type 0} → (Setup → S → List Call → Ran S) → (Setup → S) → Setup-answer → List Text → List Text
+answers run initial (wrong-line n) commands = []
+answers run initial (accepted u) commands = map reply-line (run u (initial u) (map call-of commands) .replies)
 
-answers-to : {S A : Type 0} → Machine S A → (Setup → S) → Text → List Text
-answers-to M initial text =
+answers-to : {S : Type 0} → (Setup → S → List Call → Ran S) → (Setup → S) → Text → List Text
+answers-to run initial text =
     let i = input-parts (pieces newline text) in
-    answers M initial (setup (joined newline (i .of-setup))) (command-lines (i .of-commands))
+    answers run initial (setup (joined newline (i .of-setup))) (command-lines (i .of-commands))
 
 input : Text
 input = bytes "p,1,1\np,2,2\nr,0,1\nl,1,0,oak\nl,2,1,elm\nend\n1,login,0,oak\n1,mkdir,/u1/d,0700\n1,add,/u1/d,/rep/cut,1\n1,create,/u1/a,0600\n1,add,/u1/a,/rep/cut/a,1\n2,mv,/rep/cut/a,/u2/a\n2,login,1,elm\n2,co,/rep/cut,/u2/w\n2,write,/u2/w/a,51 32\n2,commit,/u2/w/a\n1,commit,/u1/a\n"
@@ -40,19 +39,6 @@ worked-example = refl
 eleven : List Text
 eleven = pieces 32 (bytes "ok ok ok ok ok no,5 ok ok ok ok no,14")
 
-eleven-answers : (answers-to store initial-store input ≡ eleven) × (answers-to abstract initial-abstract input ≡ eleven)
+eleven-answers : (answers-to (runs store) initial-store input ≡ eleven) × (answers-to abstract-runs initial-abstract input ≡ eleven)
 unfolding compute input eleven answers-to answers
 eleven-answers = (refl, refl)
-
--- An owner whom the owner's digit refuses does not fall through to the group's. A missing entry behind a directory that may
--- not be passed is 5, not 3. A commit wants the account's r on the entry and its w on the entry's directory: `/rep/d/a` may
--- not be read by role 1, `/rep/b` stands in `/rep`, where role 0 alone writes. Role 0 dominates 3 by a chain.
-turns : Text
-turns = bytes "p,1,1\np,2,2\nr,0,1\nr,0,2\nr,2,3\nl,1,0,oak\nl,1,1,ash\nl,2,1,elm\nend\n1,login,0,oak\n1,create,/u1/o,0040\n1,read,/u1/o\n2,read,/rep/none\n1,mkdir,/u1/d,0700\n1,add,/u1/d,/rep/d,1\n1,create,/u1/a,0600\n1,add,/u1/a,/rep/d/a,3\n1,create,/u1/b,0600\n1,add,/u1/b,/rep/b,1\n1,add,/u1/d,/rep/s,2\n1,login,1,ash\n1,commit,/u1/a\n1,commit,/u1/b\n1,co,/rep/s/none,/u1/c\n1,login,0,oak\n1,commit,/u1/a\n1,commit,/u1/b\n"
-
-turns-answers : List Text
-turns-answers = pieces 32 (bytes "ok ok no,5 no,5 ok ok ok ok ok ok ok ok no,5 no,5 no,5 ok ok ok")
-
-wrong-turns : (answers-to store initial-store turns ≡ turns-answers) × (answers-to abstract initial-abstract turns ≡ turns-answers)
-unfolding compute turns turns-answers answers-to answers
-wrong-turns = (refl, refl)

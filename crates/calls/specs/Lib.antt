@@ -6,6 +6,8 @@ pub mod CallLists
 pub mod CallListsLaws
 pub mod Program
 pub mod ProgramLaws
+pub mod ProgramByLines
+pub mod ProgramByLinesLaws
 pub mod CallTheorems
 pub mod Compute
 pub mod CallCases

@@ -26,8 +26,8 @@ use Rattle.walks.specs.declared.Walked.{Walked}
 use Rattle.walks.specs.declared.Walked.the-variants as Walks
 use Rattle.walks.specs.RowWalk.{walk-in, outcome}
 use Rattle.walks.specs.RowWalkLaws.{outcome-refused, outcome-at}
-use Rattle.walks.specs.WalkBytes.{spot-of, Came}
-use Rattle.walks.specs.WalkBytesLaws.{came-to, came-not, walk-to, walk-not}
+use Rattle.walks.specs.WalkBytes.{Came}
+use Rattle.walks.specs.WalkBytesLaws.{came-to, came-not, walk-to, walk-not, came-spot}
 use Rattle.gaps.specs.GapsLaws.{Standing}
 use Rattle.copying.specs.declared.Copier.{Copier}
 use Rattle.copying.specs.Copying.{copy}
@@ -95,8 +95,8 @@ module _ {b : List ℕ} {t : Place Node} (tree : Encodes b t) (a : Account) (s :
 
       -- and of one that may
       pub entry-told-open : v ≡ true → outcome (Walks.To row above) ≡ entry-spot a t e
-      unfolding entry-spot spot-of
-      entry-told-open f = rw (entry-readable a t e (came .walked) (at-entry ∙ f), done-bind, ← came .at .row, ← came .over-at .row) (outcome-at row above)
+      unfolding entry-spot
+      entry-told-open f = rw (entry-readable a t e (came .walked) (at-entry ∙ f), done-bind, ← came-spot came) (outcome-at row above)
 
 module _ {b : List ℕ} {t : Place Node} (tree : Encodes b t) (a : Account) (e : Entry-path) {r : Walked} (same : outcome r ≡ entry-spot a t e) where
   -- an answer that tells a row came to the entry

@@ -6,7 +6,7 @@ use Rattle.accounts.specs.declared.Account.{Account}
 use Rattle.accounts.specs.declared.Caller.{Caller}
 use Rattle.accounts.specs.Dominance.{Bounded-role}
 use Rattle.accounts.specs.Service.{service}
-use Rattle.syntax.specs.Path.{Path, Entry-path, in-rep, entry-location}
+use Rattle.syntax.specs.Path.{Path, Entry-path, in-rep, entry-location, below-rep}
 use Rattle.setup.specs.Setup.{Setup}
 use Rattle.tree.specs.declared.Cause.the-variants.{Access, Full, TooDeep}
 use Rattle.tree.specs.Result.{Result, done, _>>=_, _>>_, Outcome}
@@ -15,7 +15,6 @@ use Rattle.tree.specs.Outcomes.{gives, Ensures}
 use Rattle.tree.specs.GivesLaws.{done-with, then-check, then-do}
 use Rattle.tree.specs.Forest.{Place}
 use Rattle.tree.specs.Node.{Node}
-use Rattle.copying.specs.Copying.{below-rep}
 use Rattle.shell.specs.declared.Answer.{Answer}
 use Rattle.shell.specs.CommandBytes.{Follows-silently}
 use Rattle.store.specs.State.{Store}

@@ -23,13 +23,13 @@ use tree::TREE;
 use tree::subtree_end;
 
 // The bytes of the arrays for copies: the two that stand before the rows, and the rows.
-const FEW_WIDTH: usize = 930;
+const FEW_WIDTH: usize = 910;
 
-const SOME_WIDTH: usize = 3714;
+const SOME_WIDTH: usize = 3634;
 
-const MANY_WIDTH: usize = 14850;
+const MANY_WIDTH: usize = 14530;
 
-const HALF_WIDTH: usize = 29698;
+const HALF_WIDTH: usize = 29058;
 
 // What is left of the command behind its first checks, by an array for the copies of few rows.
 fn co_few(tree: &mut [u8], who: Copier, site: Site, entry: &[u8], to: &[u8]) -> Answer

@@ -14,7 +14,7 @@ use Rattle.buffers.specs.Fields.{two-bytes, padded, text-at}
 use Rattle.buffers.specs.FieldsLaws.{length-padded, text-at-padded, length-two-bytes}
 use Rattle.accounts.specs.declared.Uid.{Uid}
 use Rattle.accounts.specs.declared.Gid.{Gid}
-use Rattle.syntax.specs.Path.{Name, _▹_, Entry-path, depth, in-rep, entry-location, is-name, is-entry-path, names-text, path-text, entry-text}
+use Rattle.syntax.specs.Path.{Name, _▹_, Entry-path, depth, in-rep, entry-location, is-name, is-entry-path, names-text, path-text, entry-text, below-rep}
 use Rattle.syntax.specs.PathLaws.{path-more, entry-text-fits}
 use Rattle.syntax.specs.FieldLaws.{content-fits}
 use Rattle.tree.specs.Layout.{row-width, row-start, name-width, tag-offset, tag-width, whole-tag-width, content-width}
@@ -30,7 +30,7 @@ use Rattle.edits.specs.Changes.{field-put, head-bytes}
 use Rattle.node_fields.specs.FieldsWrittenLaws.{piece-put}
 use Rattle.edits.specs.EncodedRowsLaws.{field-pieces}
 use Rattle.copying.specs.declared.Copier.{Copier}
-use Rattle.copying.specs.Copying.{below-rep, copy-mode}
+use Rattle.copying.specs.Copying.{copy-mode}
 use Rattle.copying.specs.CopyRows.{most-levels, Holds-row, row-put, child-entry, handed-over, handed-row, tagged-row, Spelled}
 
 -- ---- the entry path of a child
@@ -77,7 +77,7 @@ pub record Fitting (r : Row Node) : Type 0 where
   pub tag : length (tag-bytes (r .here .tag)) ≡ whole-tag-width
   pub content : length (r .here .content) ≤ content-width
 
-length-row : (H N T C : List ℕ) → length H ≡ 8 → length N ≡ 8 → length T ≡ 56 → length C ≡ 80 → length (H ++ (N ++ (T ++ (C ++ row-spare)))) ≡ row-width
+length-row : (H N T C : List ℕ) → length H ≡ 8 → length N ≡ 8 → length T ≡ 51 → length C ≡ 80 → length (H ++ (N ++ (T ++ (C ++ row-spare)))) ≡ row-width
 length-row H N T C h n t c =
     length-append H (N ++ (T ++ (C ++ row-spare)))
     ∙ omega (arith, length-append N (T ++ (C ++ row-spare)), length-append T (C ++ row-spare), length-append C row-spare, length-replicate {A = ℕ} 80 0)
@@ -211,7 +211,7 @@ module _ (w : Copier) (k : ℕ) (n : Name) (g : Gid) (e : Entry-path) (x : Node)
       let R = padded content-width (x .content) ++ row-spare in
       let fit = entry-text-fits e valid in
       let l : length (H ++ N) ≡ 16 = length-append H N ∙ omega (arith, length-row-head r, length-padded name-width n ln) in
-      ap (text-at tag-offset tag-width) (row-parts r ∙ before-number H N P L R) ∙ text-at-padded (H ++ N) (L ++ R) 16 54 (entry-text e) l (fit .0) (fit .1)
+      ap (text-at tag-offset tag-width) (row-parts r ∙ before-number H N P L R) ∙ text-at-padded (H ++ N) (L ++ R) 16 49 (entry-text e) l (fit .0) (fit .1)
 
   module _ (o : List ℕ) (to : ℕ) (ln : length n ≤ name-width) (lc : length (x .content) ≤ content-width) (valid : is-entry-path e ≡ true) (room : row-start to ≤ length o) where
     -- and where it was written

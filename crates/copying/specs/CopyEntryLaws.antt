@@ -8,7 +8,7 @@ use native.Mathlib.Omega.{arith}
 use lib.ListN.{length, drop}
 use Rattle.buffers.specs.Text.{Text}
 use Rattle.accounts.specs.declared.Gid.{Gid}
-use Rattle.syntax.specs.Path.{Name, Entry-path, depth, last, entry-location, entry-path}
+use Rattle.syntax.specs.Path.{Name, Entry-path, depth, last, entry-location, entry-path, below-rep}
 use Rattle.syntax.specs.PathLaws.{entry-is-entry, entry-text-fits}
 use Rattle.syntax.specs.ParentLaws.{text-of-entry}
 use Rattle.syntax.specs.FieldLaws.{content-fits}
@@ -27,7 +27,7 @@ use Rattle.tree.specs.TreeBytes.{Has-row, Used, At}
 use Rattle.tree.specs.RowAtLaws.{all-rows-of-tree}
 use Rattle.tree.specs.TreeBytesLaws.{at-used, at-within, at-row, at-end}
 use Rattle.copying.specs.declared.Copier.{Copier}
-use Rattle.copying.specs.Copying.{below-rep, copy-mode, copied, copy}
+use Rattle.copying.specs.Copying.{copy-mode, copied, copy}
 use Rattle.copying.specs.CopyRows.{deepest, most-levels, Holds-row, row-put, Stands, read-by, tagged-row, children, Job, job-rows, Written, Entry-job, subtree-rows, entry-copy, first-row, entry-rows}
 use Rattle.copying.specs.CopyRowLaws.{row-held, copies-few}
 use Rattle.copying.specs.CopyJobLaws.{Fits, below-copy, place-written}

@@ -9,19 +9,20 @@ use Rattle.accounts.specs.declared.Caller.{Caller}
 use Rattle.accounts.specs.declared.Account.{Account}
 use Rattle.accounts.specs.Caller.{is-caller}
 use Rattle.syntax.specs.Number.{set-gid, is-mode}
-use Rattle.syntax.specs.Path.{Name, Path, _▹_, Entry-path, parent, depth, in-rep, entry-location, is-path, is-entry-path}
+use Rattle.syntax.specs.Path.{Name, Path, _▹_, Entry-path, parent, depth, in-rep, entry-location, is-path, is-entry-path, below-rep}
 use Rattle.syntax.specs.PathLaws.{path-more}
 use Rattle.tree.specs.declared.Kind.{Kind}
 use Rattle.tree.specs.declared.Kind.the-variants.{File, Directory}
-use Rattle.tree.specs.Forest.{Forest, nil, node, Place, is-empty, height}
+use Rattle.tree.specs.Forest.{Forest, nil, node, Place, is-empty, height, map-forest, map-place}
 use Rattle.tree.specs.ForestLaws.{empty-is-nil, height-node}
+use Rattle.tree.specs.MapLaws.{map-nil, map-node, map-here, map-below}
 use Rattle.tree.specs.Node.{is-directory, Tag, Node, set-tag, new-node}
 use Rattle.tree.specs.Walk.{by-modes}
 use Rattle.tree.specs.WellFormed.{is-node, leads, is-forest, is-place}
 use Rattle.tree.specs.JudgeLaws.{kind-by-modes}
 use Rattle.tree.specs.NodeLaws.{node-ranges, node-of-tag, node-of-any-content, kind-of-set-tag, kind-of-set-content, new-node-fits}
 use Rattle.tree.specs.WellFormedLaws.{place-parts, place-of-parts, forest-parts, forest-of-parts, leads-node, leads-before}
-use Rattle.copying.specs.Copying.{below-rep, nodes-by, copy-mode, copy-node, copied, copy-children, copy}
+use Rattle.copying.specs.Copying.{Source, nodes-by, copy-mode, copy-node, copied, copy-children, copy}
 
 -- a copy's mode is one, and without set-gid
 pub copy-mode-fits : (k : Kind) → (is-mode (copy-mode k) ≡ true) × (set-gid (copy-mode k) ≡ false)
@@ -118,3 +119,25 @@ module _ (c : Caller) (o : is-caller c ≡ true) where
         let v = place-parts d w in
         copied-place parent e d h k w
         (copies-fit (copied c (nodes-by (by-modes a)) parent e (d .here)) (below-rep e) (d .below) (copied-fits parent e (d .here) h (v .own) k) k l (v .forest))
+
+-- ---- copies of payloads that are told alike
+
+module _ {A B : Type 0} (c : Caller) (s : Source A) (t : Source B) (f : B → A)
+    (kinds : (b : B) → s .kind (f b) ≡ t .kind b) (reads : (b : B) → s .readable (f b) ≡ t .readable b)
+    (revisions : (b : B) → s .revision (f b) ≡ t .revision b) (contents : (b : B) → s .content (f b) ≡ t .content b) where
+  copied-map : (parent : Node) (e : Entry-path) (b : B) → copied c s parent e (f b) ≡ copied c t parent e b
+  unfolding copied
+  copied-map parent e b = rw (kinds b, contents b, revisions b)
+
+  children-map : (parent : Node) (folder : Path) (F : Forest B) → copy-children c s parent folder (map-forest f F) ≡ copy-children c t parent folder F
+  unfolding copy-children
+  children-map parent folder nil = rw (map-nil f)
+  children-map parent folder (node n b cs rest) =
+      let e : Entry-path = record { folder = folder; name = n } in
+      rw (map-node f n b cs rest) (
+      rw (reads b, copied-map parent e b, children-map (copied c t parent e b) (folder ▹ n) cs, children-map parent folder rest))
+
+  -- the copies of a place whose payloads are mapped are those of the place
+  pub copy-map : (parent : Node) (e : Entry-path) (d : Place B) → copy c s parent e (map-place f d) ≡ copy c t parent e d
+  unfolding copy
+  copy-map parent e d = rw (map-here f d, map-below f d) (rw (copied-map parent e (d .here)) (rw (children-map _ (below-rep e) (d .below))))

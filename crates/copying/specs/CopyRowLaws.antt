@@ -12,7 +12,7 @@ use Rattle.buffers.specs.Cases.{case}
 use Rattle.accounts.specs.declared.Caller.{Caller}
 use Rattle.accounts.specs.declared.Gid.{Gid}
 use Rattle.syntax.specs.Number.{set-gid}
-use Rattle.syntax.specs.Path.{Name, Path, _▹_, Entry-path, depth}
+use Rattle.syntax.specs.Path.{Name, Path, _▹_, Entry-path, depth, below-rep}
 use Rattle.tree.specs.Forest.{Forest, nil, node, Place, size}
 use Rattle.tree.specs.Node.{Node, set-tag, set-content, new-group, new-node}
 use Rattle.tree.specs.Walk.{by-modes}
@@ -28,7 +28,7 @@ use Rattle.tree.specs.RowAtLaws.{row-in-rows}
 use Rattle.tree.specs.TreeBytes.{Encodes}
 use Rattle.tree.specs.TreeBytesLaws.{used-row, encoded-fits, encoded-row-bytes}
 use Rattle.copying.specs.declared.Copier.{Copier}
-use Rattle.copying.specs.Copying.{below-rep, copy-mode, copy-node, copied, copy-children, copy}
+use Rattle.copying.specs.Copying.{copy-mode, copy-node, copied, copy-children, copy}
 use Rattle.copying.specs.CopyLaws.{copy-mode-fits}
 use Rattle.copying.specs.CopyRows.{Holds-row, Stands, child-entry, read-by, copy-rows, handed-over, tagged-row, alone}
 

@@ -12,7 +12,7 @@ use Rattle.buffers.specs.Fields.{all-bytes}
 use Rattle.accounts.specs.declared.Uid.{Uid}
 use Rattle.accounts.specs.declared.Gid.{Gid}
 use Rattle.syntax.specs.Number.{set-gid}
-use Rattle.syntax.specs.Path.{Name, Path, Entry-path, depth, entry-location, is-entry-path, entry-text}
+use Rattle.syntax.specs.Path.{Name, Path, Entry-path, depth, entry-location, is-entry-path, entry-text, below-rep}
 use Rattle.tree.specs.Layout.{row-width, row-start}
 use Rattle.tree.specs.Forest.{Forest, nil, node, Place, size, larger, height}
 use Rattle.tree.specs.Node.{Node, set-tag, new-node}
@@ -25,7 +25,7 @@ use Rattle.tree.specs.Encoding.{row-bytes}
 use Rattle.tree.specs.RowAt.{row-bytes-at, row-at, all-rows, tag-text-at}
 use Rattle.tree.specs.TreeBytes.{Has-row, Used, Encodes, At}
 use Rattle.copying.specs.declared.Copier.{Copier}
-use Rattle.copying.specs.Copying.{below-rep, Source, nodes-by, copy-mode, copy-children, copy}
+use Rattle.copying.specs.Copying.{Source, nodes-by, copy-mode, copy-children, copy}
 
 -- a depth is a byte
 abbrev pub deepest : ℕ

@@ -4,16 +4,12 @@ use Prim.Native.Nat.{ℕ}
 use Rattle.buffers.specs.Text.{Text}
 use Rattle.accounts.specs.declared.Caller.{Caller}
 use Rattle.syntax.specs.Number.{octal}
-use Rattle.syntax.specs.Path.{Path, _▹_, Entry-path}
+use Rattle.syntax.specs.Path.{Path, _▹_, Entry-path, below-rep}
 use Rattle.tree.specs.declared.Kind.{Kind}
 use Rattle.tree.specs.declared.Kind.the-variants.{File, Directory}
 use Rattle.tree.specs.Forest.{Forest, nil, node, Place}
 use Rattle.tree.specs.Node.{Tag, Node, set-tag, set-content, new-node}
 use Rattle.tree.specs.Walk.{Judge}
-
--- the path of an entry below `/rep`
-unfoldable pub below-rep : Entry-path → Path
-below-rep e = e .folder ▹ e .name
 
 -- what is copied of a payload, and whether it may be read
 pub record Source (A : Type 0) : Type 0 where

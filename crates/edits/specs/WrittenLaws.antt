@@ -1,6 +1,7 @@
 -- What the code's pastes are in the words of the contracts: a field of a row, the row of a new node, rows put in and taken out.
 use mathlib.Core.Path.{_≡_, refl, ap, sym, _∙_}
 use mathlib.Core.List.{List, [], _∷_, _++_, append-assoc, append-nil}
+use mathlib.Core.Option.{none}
 use Prim.Native.Nat.{ℕ, zero, suc, _+_, _-_, _*_, _≤_}
 use native.Mathlib.Omega.{arith}
 use native.Mathlib.Nat.{zero-add, suc-add}
@@ -31,13 +32,19 @@ head-written b at depth f h =
     ap (λ (l : List ℕ). paste l (at + 6) (two-bytes (f .revision)) 2) (paste-join b K M at 4 2 refl refl (omega arith))
     ∙ paste-join b (K ++ M) (two-bytes (f .revision)) at 6 2 refl refl (omega arith)
 
+-- a new node, field by field
+pub fresh-node-is : (f : Fresh) → fresh-node f
+    ≡ record { kind = f .kind; owner = f .owner; group = f .group; mode = f .mode; revision = f .revision; tag = none; content = [] }
+unfolding fresh-node
+fresh-node-is f = refl
+
 module _ (depth : ℕ) (name : List ℕ) (f : Fresh) where
   length-head : length (head-bytes depth f) ≡ 8
   unfolding head-bytes two-bytes
   length-head = refl
 
   -- behind the name there are only zeros
-  fresh-parts : row-bytes (fresh-row depth name f) ≡ head-bytes depth f ++ padded name-width name ++ replicate 216 0
+  fresh-parts : row-bytes (fresh-row depth name f) ≡ head-bytes depth f ++ padded name-width name ++ replicate 211 0
   unfolding row-bytes head-bytes two-bytes fresh-node tag-bytes padded
   fresh-parts = refl
 
@@ -45,22 +52,22 @@ module _ (depth : ℕ) (name : List ℕ) (f : Fresh) where
   length-fresh h =
       let H = head-bytes depth f in
       let N = padded name-width name in
-      let Z : List ℕ = replicate 216 0 in
+      let Z : List ℕ = replicate 211 0 in
       let l = length-padded name-width name h in
-      let z = length-replicate {A = ℕ} 216 0 in
+      let z = length-replicate {A = ℕ} 211 0 in
       ap length fresh-parts ∙ length-append (H ++ N) Z ∙ omega (arith, length-append H N, length-head)
 
   -- what is written piece by piece is the row
   pub row-written : (b : List ℕ) (at : ℕ) → at + row-width ≤ length b → length name ≤ 8
-      → paste (paste (paste b at (head-bytes depth f) 8) (at + 8) (padded name-width name) 8) (at + 16) (replicate 216 0) 216 ≡ paste b at (row-bytes (fresh-row depth name f)) row-width
+      → paste (paste (paste b at (head-bytes depth f) 8) (at + 8) (padded name-width name) 8) (at + 16) (replicate 211 0) 211 ≡ paste b at (row-bytes (fresh-row depth name f)) row-width
   row-written b at fits h =
       let H = head-bytes depth f in
       let N = padded name-width name in
-      let Z : List ℕ = replicate 216 0 in
+      let Z : List ℕ = replicate 211 0 in
       let l = length-padded name-width name h in
-      let z = length-replicate {A = ℕ} 216 0 in
-      ap (λ (s : List ℕ). paste s (at + 16) Z 216) (paste-join b H N at 8 8 length-head l (omega arith))
-      ∙ paste-join b (H ++ N) Z at 16 216 (length-append H N ∙ omega (arith, length-head)) z (omega arith)
+      let z = length-replicate {A = ℕ} 211 0 in
+      ap (λ (s : List ℕ). paste s (at + 16) Z 211) (paste-join b H N at 8 8 length-head l (omega arith))
+      ∙ paste-join b (H ++ N) Z at 16 211 (length-append H N ∙ omega (arith, length-head)) z (omega arith)
       ∙ ap (λ (s : List ℕ). paste b at s row-width) (sym fresh-parts)
 
 -- ---- rows put in and taken out
@@ -143,5 +150,5 @@ pub planted-tree : (b : List ℕ) (f : Fresh) → length b ≡ tree-width
 unfolding encode-tree encode-rows all-bytes rows leaf flatten most-nodes
 planted-tree b f e =
     let r = row-bytes (fresh-row 0 [] f) in
-    planted b r row-width 59160 e (length-fresh 0 [] f (omega arith))
-    ∙ ap (λ (l : List ℕ). two-bytes 1 ++ (l ++ replicate 59160 0)) (sym (append-nil r))
+    planted b r row-width 57885 e (length-fresh 0 [] f (omega arith))
+    ∙ ap (λ (l : List ℕ). two-bytes 1 ++ (l ++ replicate 57885 0)) (sym (append-nil r))

@@ -12,7 +12,7 @@ use Rattle.accounts.specs.declared.Right.{Right}
 use Rattle.accounts.specs.declared.Right.the-variants.{R, W}
 use Rattle.accounts.specs.Dominance.{Bounded-role}
 use Rattle.accounts.specs.Service.{service}
-use Rattle.syntax.specs.Path.{Path, _▹_, Entry-path, in-rep, entry-location}
+use Rattle.syntax.specs.Path.{Path, _▹_, Entry-path, in-rep, entry-location, below-rep}
 use Rattle.setup.specs.Setup.{Setup}
 use Rattle.tree.specs.declared.Cause.{Cause}
 use Rattle.tree.specs.declared.Cause.the-variants.{Access, NotEmpty, Stale, Untagged, RevisionsSpent}
@@ -25,7 +25,6 @@ use Rattle.tree.specs.StepLaws.{walked}
 use Rattle.tree.specs.JudgeLaws.{kind-by-modes, readable-by-modes, writable-by-modes}
 use Rattle.tree.specs.UpdateLaws.{by-option}
 use Rattle.tree.specs.WellFormed.{last-revision}
-use Rattle.copying.specs.Copying.{below-rep}
 use Rattle.walks.specs.WalkBytesLaws.{by-result}
 use Rattle.shell.specs.declared.Answer.{Answer}
 use Rattle.shell.specs.CommandBytes.{Follows-silently}

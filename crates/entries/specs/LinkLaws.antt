@@ -38,7 +38,6 @@ use Rattle.tree.specs.WellFormed.{last-revision, is-node}
 use Rattle.tree.specs.WellFormedLaws.{place-node, place-below, tree-parts}
 use Rattle.tree.specs.UpdateLaws.{by-option, walked-at}
 use Rattle.tree.specs.AlterLaws.{alter-twice, alter-alike, altered-at, kept-part}
-use Rattle.tree.specs.RowPlaces.{index-of}
 use Rattle.tree.specs.Encoding.{encode-tree}
 use Rattle.tree.specs.RowAt.{row-at, tag-text-at, tag-number-at}
 use Rattle.tree.specs.TreeBytes.{Has-row, Encodes, At, Path-text}
@@ -51,7 +50,7 @@ use Rattle.walks.specs.declared.Walked.{Walked}
 use Rattle.walks.specs.declared.Walked.the-variants
 use Rattle.walks.specs.RowWalk.{Spot, spot, outcome}
 use Rattle.walks.specs.WalkBytes.{spot-of, Came, spot-from}
-use Rattle.walks.specs.WalkBytesLaws.{by-result, came-to, came-not}
+use Rattle.walks.specs.WalkBytesLaws.{by-result, came-to, came-not, came-spot}
 use Rattle.machine.specs.Machine.{tagged}
 use Rattle.machine.specs.StoreMachine.{next-node}
 use Rattle.entries.specs.declared.Links.{Links}
@@ -88,10 +87,10 @@ module _ (a : Account) (tests : Node → Result (Unit {0})) (t : Place Node) (p 
   -- the tests at the row that a walk came to are those of the judged walk
   pub judged-came : {b : List ℕ} {row above : ℕ} {x : Result Spot} → Came b t p (walk (by-modes a) t p) row above
       → x ≡ passing (tests (row-at b row .here)) (spot row above) → x ≡ spot-from t p (judged-walk a tests t p)
-  unfolding judged-walk spot-of
+  unfolding judged-walk
   judged-came c o =
-      o ∙ rw (at-here (c .at), c .at .row, c .over-at .row, c .walked, done-bind (c .place) (λ (d : Place Node). tests (d .here) >> done d))
-      (tests-then (tests (c .place .here)) (c .place) (λ d. spot (index-of t p) (index-of t (parent p))))
+      o ∙ rw (at-here (c .at), came-spot c, c .walked, done-bind (c .place) (λ (d : Place Node). tests (d .here) >> done d))
+      (tests-then (tests (c .place .here)) (c .place) (λ d. spot-of t p))
 
   pub judged-refused : {k : Cause} → walk (by-modes a) t p ≡ refused k → refused k ≡ spot-from t p (judged-walk a tests t p)
   unfolding judged-walk

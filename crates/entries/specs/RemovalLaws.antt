@@ -20,7 +20,6 @@ use Rattle.tree.specs.Node.{Node, allows}
 use Rattle.tree.specs.Walk.{by-modes, walk}
 use Rattle.tree.specs.StepLaws.{walked}
 use Rattle.tree.specs.UpdateLaws.{walked-at}
-use Rattle.tree.specs.RowPlaces.{index-of}
 use Rattle.tree.specs.Encoding.{encode-tree}
 use Rattle.tree.specs.RowAt.{row-at, all-rows}
 use Rattle.tree.specs.TreeBytes.{Stretch, Encodes}
@@ -33,7 +32,7 @@ use Rattle.walks.specs.RowBelow.{has-children-in}
 use Rattle.walks.specs.RowBelowLaws.{at-has-children}
 use Rattle.walks.specs.RowWalk.{Spot, spot, outcome}
 use Rattle.walks.specs.WalkBytes.{spot-of, Came, spot-from}
-use Rattle.walks.specs.WalkBytesLaws.{came-to, came-not}
+use Rattle.walks.specs.WalkBytesLaws.{came-to, came-not, came-spot}
 use Rattle.entries.specs.EntrySteps.{del-tests, del-walk, after-del, passing}
 use Rattle.entries.specs.LinkLaws.{tests-then}
 
@@ -58,14 +57,14 @@ module _ (a : Account) (t : Place Node) (e : Entry-path) where
   pub del-came : {b : List ℕ} {row above : ℕ} {x : Result Spot} (c : Came b t (entry-location e) (walk (by-modes a) t (entry-location e)) row above)
       → x ≡ passing (del-tests a (row-at b row .here) (row-at b above .here) (not (has-children-in (all-rows b) row))) (spot row above)
       → x ≡ spot-from t (entry-location e) (del-walk a t e)
-  unfolding del-walk spot-of
+  unfolding del-walk
   del-came c o =
       let q = entry-location e in
       let d = c .place in
       let tests = del-tests a (d .here) (c .over .here) (is-empty (d .below)) in
       let goes : del-walk a t e ≡ (tests >> done d) = rw (c .walked, done-bind, folder-walked c, done-bind) in
-      o ∙ rw (at-has-children (c .at), not-not (is-empty (d .below)), at-here (c .at), at-here (c .over-at), c .at .row, c .over-at .row)
-      (tests-then tests d (λ x. spot (index-of t q) (index-of t (parent q))) ∙ ap (λ (x : Result (Place Node)). x >>= λ y. done (spot-of t q)) (sym goes))
+      o ∙ rw (at-has-children (c .at), not-not (is-empty (d .below)), at-here (c .at), at-here (c .over-at), came-spot c)
+      (tests-then tests d (λ x. spot-of t q) ∙ ap (λ (x : Result (Place Node)). x >>= λ y. done (spot-of t q)) (sym goes))
 
   pub del-refused : {k : Cause} → walk (by-modes a) t (entry-location e) ≡ refused k → refused k ≡ spot-from t (entry-location e) (del-walk a t e)
   unfolding del-walk

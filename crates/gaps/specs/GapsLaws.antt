@@ -6,14 +6,15 @@ use mathlib.Core.Path.{_≡_, refl, sym, _∙_, ap}
 use mathlib.Core.List.{List, _++_}
 use mathlib.Core.Option.{some}
 use mathlib.Core.Bool.{true, false}
-use Prim.Native.Nat.{ℕ, suc, _+_, _≤_}
+use Prim.Native.Nat.{ℕ, suc, _+_, _≤_, _<_}
 use native.Mathlib.Omega.{arith}
-use lib.ListN.{length}
+use lib.ListN.{length, length-drop}
 use Rattle.buffers.specs.Text.{Text}
 use Rattle.buffers.specs.Fields.{all-bytes}
 use Rattle.accounts.specs.declared.Account.{Account}
 use Rattle.accounts.specs.declared.Right.the-variants.{W}
 use Rattle.syntax.specs.Path.{Name, Path, parent, last, depth, is-top, is-name, path}
+use Rattle.syntax.specs.Parts.{last-slash}
 use Rattle.syntax.specs.PathLaws.{name-fits, path-is-path, path-depth, last-is-name, parent-depth}
 use Rattle.syntax.specs.ParentLaws.{last-name}
 use Rattle.tree.specs.declared.Cause.{Cause}
@@ -59,6 +60,11 @@ module _ (s : Text) {p : Path} (reads : path s ≡ some p) where
   -- and fits a row
   pub last-fits : is-top p ≡ false → length (behind-slash s) ≤ name-width
   last-fits below = omega (arith, ap length last-in-text, name-fits (last p) (last-named below) .0)
+
+-- a text with something behind its last `/` is not empty
+pub slash-inside : (s : Text) → 0 < length (behind-slash s) → 0 < length s
+unfolding behind-slash
+slash-inside s h = omega (arith, length-drop (suc (last-slash s)) s)
 
 -- ---- the checks in a directory
 

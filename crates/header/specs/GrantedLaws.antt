@@ -11,8 +11,8 @@ use borrow.Author.Tests.{eq-eqb, ne-eqb}
 use Rattle.buffers.specs.Text.{Text, same-text}
 use Rattle.accounts.specs.declared.Uid.{Uid}
 use Rattle.accounts.specs.declared.Role.{Role}
-use Rattle.accounts.specs.Access.{same-uid}
-use Rattle.accounts.specs.Dominance.{Bounded-role, same-role}
+use Rattle.accounts.specs.Access.{same-uid-is}
+use Rattle.accounts.specs.Dominance.{Bounded-role, same-role-number}
 use Rattle.setup.specs.Setup.{Grant, Setup}
 use Rattle.setup.specs.SetupLaws.{apart}
 use Rattle.store.specs.HeaderLayout.{grants-offset}
@@ -25,16 +25,16 @@ use Rattle.header.specs.HeaderBytesLaws.{grants-counted, grant-stands}
 
 module _ (g : Grant) (uid : Uid) (role : Role) (password : Text) where
   pub uid-differs : (g .uid .0 ≡ uid .0 → ⊥) → false ≡ grant-has g uid role password
-  unfolding grant-has same-uid
-  uid-differs n = rw (ne-eqb (g .uid .0) (uid .0) n)
+  unfolding grant-has
+  uid-differs n = rw (same-uid-is (g .uid) uid, ne-eqb (g .uid .0) (uid .0) n)
 
   pub role-differs : g .uid .0 ≡ uid .0 → (g .role .0 ≡ role .0 → ⊥) → false ≡ grant-has g uid role password
-  unfolding grant-has same-uid same-role
-  role-differs e n = rw (eq-eqb (g .uid .0) (uid .0) e, ne-eqb (g .role .0) (role .0) n)
+  unfolding grant-has
+  role-differs e n = rw (same-uid-is (g .uid) uid, same-role-number (g .role) role, eq-eqb (g .uid .0) (uid .0) e, ne-eqb (g .role .0) (role .0) n)
 
   pub password-decides : g .uid .0 ≡ uid .0 → g .role .0 ≡ role .0 → same-text (g .password) password ≡ grant-has g uid role password
-  unfolding grant-has same-uid same-role
-  password-decides e f = rw (eq-eqb (g .uid .0) (uid .0) e, eq-eqb (g .role .0) (role .0) f)
+  unfolding grant-has
+  password-decides e f = rw (same-uid-is (g .uid) uid, same-role-number (g .role) role, eq-eqb (g .uid .0) (uid .0) e, eq-eqb (g .role .0) (role .0) f)
 
 -- ---- all grants
 

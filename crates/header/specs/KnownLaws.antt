@@ -10,9 +10,9 @@ use Rattle.accounts.specs.declared.Caller.{Caller}
 use Rattle.accounts.specs.declared.Gid.{Gid}
 use Rattle.accounts.specs.declared.Groups.{Groups}
 use Rattle.accounts.specs.declared.Uid.{Uid}
-use Rattle.accounts.specs.Access.{is-root}
+use Rattle.accounts.specs.Access.{is-root-is}
 use Rattle.accounts.specs.Groups.{no-groups, with-group}
-use Rattle.accounts.specs.Caller.{root-caller}
+use Rattle.accounts.specs.Caller.{root-caller-is}
 use Rattle.setup.specs.Setup.{Person, Setup, person}
 use Rattle.tree.specs.declared.Cause.the-variants.{UnknownCaller}
 use Rattle.tree.specs.Result.{done}
@@ -32,20 +32,20 @@ calls-as v groups primary = record { account = record { uid = v; groups = groups
 module _ (u : Setup) (v : Uid) where
   -- root is in group 0 alone
   pub root-known : (g : Groups) → v .0 ≡ 0 → g ≡ with-group (record { 0 = 0 }) no-groups → known (As (calls-as v g (record { 0 = 0 }))) ≡ caller u v
-  unfolding known caller root-caller is-root
-  root-known g e q = rw (eq-eqb (v .0) 0 e) (λ i. done (calls-as (record { 0 = e i }) (q i) (record { 0 = 0 })))
+  unfolding known caller
+  root-known g e q = rw (is-root-is v, eq-eqb (v .0) 0 e, root-caller-is) (λ i. done (calls-as (record { 0 = e i }) (q i) (record { 0 = 0 })))
 
   -- who is no person is nobody
   pub nobody-known : (v .0 ≡ 0 → ⊥) → person u v ≡ none → known Nobody ≡ caller u v
-  unfolding known caller known-caller is-root
-  nobody-known n e = rw (ne-eqb (v .0) 0 n, e, present-none {A = Person} UnknownCaller, refused-bind UnknownCaller (λ w. done (person-caller v w)))
+  unfolding known caller known-caller
+  nobody-known n e = rw (is-root-is v, ne-eqb (v .0) 0 n, e, present-none {A = Person} UnknownCaller, refused-bind UnknownCaller (λ w. done (person-caller v w)))
 
   -- a person is in the primary and the further groups
   pub person-known : (p : Person) (g : Groups) → (v .0 ≡ 0 → ⊥) → person u v ≡ some p → g ≡ with-group (p .primary) (p .further)
       → known (As (calls-as v g (p .primary))) ≡ caller u v
-  unfolding known caller known-caller person-caller is-root
+  unfolding known caller known-caller person-caller
   person-known p g n e q =
-      rw (ne-eqb (v .0) 0 n, e, present-of p UnknownCaller, done-bind p (λ w. done (person-caller v w)))
+      rw (is-root-is v, ne-eqb (v .0) 0 n, e, present-of p UnknownCaller, done-bind p (λ w. done (person-caller v w)))
       (λ i. done (calls-as v (q i) (p .primary)))
 
 -- a primary group is one that a set of groups has room for

@@ -1,5 +1,5 @@
 -- The role pairs in a header's bytes are at most 28 and fall; the rows closed from them tell who dominates.
-use mathlib.Core.Path.{_≡_}
+use mathlib.Core.Path.{_≡_, _∙_}
 use mathlib.Core.List.{List}
 use mathlib.Core.Option.{some}
 use mathlib.Core.Bool.{true}
@@ -10,7 +10,7 @@ use Rattle.accounts.specs.declared.Pair.{Pair}
 use Rattle.accounts.specs.Dominance.{Bounded-role, dominates, all-fall}
 use Rattle.accounts.specs.Service.{service}
 use Rattle.accounts.specs.Closure.{rows-of, row-dominates, row-account, session-dominates}
-use Rattle.accounts.specs.ClosureLaws.{row-dominates-is, row-account-is}
+use Rattle.accounts.specs.ClosureLaws.{row-dominates-is, row-account-is, session-as}
 use Rattle.dominance.specs.PairsIn.{pairs-in}
 use Rattle.setup.specs.SetupLaws.{apart, pairs-fall}
 use Rattle.store.specs.HeaderLayout.{pairs-offset}
@@ -34,8 +34,8 @@ module _ (ps : List Pair) (rows : List ℕ) (e : rows ≡ rows-of ps) where
 
   -- also by a session
   pub rows-tell-session : (s r : Bounded-role) → session-dominates (session-held (some s)) rows (r .role) ≡ dominates ps (s .role) (r .role)
-  unfolding session-dominates session-held
-  rows-tell-session s r = rows-tell-dominance s r
+  unfolding session-held
+  rows-tell-session s r = session-as rows (s .role) (r .role) ∙ rows-tell-dominance s r
 
   -- and the service account of a role
   pub rows-tell-account : (s : Bounded-role) → row-account rows (s .role) ≡ service ps s

@@ -86,9 +86,9 @@ module _ (b a : List ℕ) where
 -- a command that was carried out on the store
 pub carried-call : (u : Setup) (b a : List ℕ) (steps : Result (Outcome Store)) {r : Answer} {b′ a′ : List ℕ} → Carries (bytes-with u) steps b a r b′ a′
     → called-as r b′ a′ ≡ called b a (steps >>= λ o. done (encoded u o))
-unfolding called reply after answer-of written bytes-after encoded _>>=_
-carried-call u b a (refused k) f = λ i. called-as (f .tells i) (f .bytes i) (f .text i)
-carried-call u b a (done o) f = λ i. called-as (f .tells i) (f .bytes i) (f .text i)
+unfolding called reply after answer-of written bytes-after encoded
+carried-call u b a (refused k) f = rw refused-bind (λ i. called-as (f .tells i) (f .bytes i) (f .text i))
+carried-call u b a (done o) f = rw done-bind (λ i. called-as (f .tells i) (f .bytes i) (f .text i))
 
 module _ (b a : List ℕ) (n : ℕ) (s : State) where
   -- a line of the listing in front of the answer buffer

@@ -4,7 +4,7 @@ use mathlib.Core.List.{List, [], _∷_, _++_}
 use mathlib.Core.Bool.{cond}
 use Prim.Native.Nat.{ℕ, zero, suc, _+_, _≤_, _<_}
 use lib.Dec.{eqb}
-use lib.ListN.{length, getD, take}
+use lib.ListN.{length, getD, set, take, replicate}
 use Rattle.buffers.specs.Text.{Text}
 use Rattle.buffers.specs.Over.{Wrote}
 use Rattle.syntax.specs.Pieces.{bytes, comma}
@@ -70,7 +70,12 @@ pub record Told-rows (b last : List ℕ) : Type 0 where
 abbrev pub names-told : List ℕ → List ℕ → Names-seen
 names-told b last k = row-at b (getD last k 0) .name
 
--- they are the rows last seen among the first n, where there is one
+-- the row last seen at each depth up to 6 among the first n; that of `/` where there is none
+unfoldable pub last-among : List ℕ → ℕ → List ℕ
+last-among b zero = replicate 7 0
+last-among b (suc i) = set (last-among b i) (row-at b i .depth) i
+
+-- rows whose names are those last seen among the first n
 pub record Last-rows (b : List ℕ) (n : ℕ) (last : List ℕ) : Type 0 where
   pub told : Told-rows b last
   pub same : (k : ℕ) → k < 7 → names-told b last k ≡ names-among b n k

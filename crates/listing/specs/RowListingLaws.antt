@@ -3,7 +3,7 @@
 --
 -- In order:
 --   the lines of a tree's rows are its listing: path-same to listing-is, line-of-row;
---   the rows last seen at each depth: last-none, last-more, told-path;
+--   the rows last seen at each depth: last-none, last-more, told-path, last-told, last-next;
 --   their names written: names-none, names-more, path-of-names;
 --   the fields behind the path, and the whole line: writes-both to line-wrote.
 use mathlib.Core.Path.{_≡_, refl, sym, _∙_, ap, ap₂}
@@ -33,9 +33,9 @@ use Rattle.tree.specs.Encoding.{Tag-told, told-none, told-tag}
 use Rattle.tree.specs.RowAt.{row-count, row-at, all-rows, tag-text-at, tag-number-at}
 use Rattle.tree.specs.RowAtLaws.{length-all-rows, row-in-rows}
 use Rattle.tree.specs.TreeBytes.{Has-row, Encodes, Whole}
-use Rattle.tree.specs.TreeBytesLaws.{has-row, used-row, encoded-rows, encoded-tag, at-root, at-row}
+use Rattle.tree.specs.TreeBytesLaws.{has-row, used-row, encoded-rows, encoded-tag, at-root, at-row, encoded-depth}
 use Rattle.listing.specs.Listing.{kind-text, tag-fields, node-line, forest-lines, listing, Line-written}
-use Rattle.listing.specs.RowListing.{Names-seen, none-seen, row-seen, rows-seen, path-seen, lines-behind, lines-in, names-among, row-path, names-told, Last-rows, Wrote-most, or-dash, owner-fields, number-fields, tag-fields-at, fields-at}
+use Rattle.listing.specs.RowListing.{Names-seen, none-seen, row-seen, rows-seen, path-seen, lines-behind, lines-in, names-among, row-path, names-told, Last-rows, Wrote-most, or-dash, owner-fields, number-fields, tag-fields-at, fields-at, last-among}
 
 -- ---- the lines of a tree's rows
 
@@ -122,7 +122,7 @@ line-of-row {b} {t} e n h =
 -- ---- the rows last seen
 
 -- before the first row that of `/` stands for all: it has no name
-pub last-none : {b : List ℕ} {t : Place Node} → Encodes b t → Last-rows b 0 (replicate 7 0)
+last-none : {b : List ℕ} {t : Place Node} → Encodes b t → Last-rows b 0 (replicate 7 0)
 unfolding names-among rows-seen last
 last-none {b} e = record {
   told = record { size = refl; there = λ k h. rw (getD-replicate {A = ℕ} 7 k 0 0 h) (has-row (e .sized .wide) (omega arith)) };
@@ -140,7 +140,7 @@ names-next b n h =
 
 module _ {b : List ℕ} {n : ℕ} {rs : List ℕ} (v : Last-rows b n rs) (d : ℕ) where
   -- a row more stands for its depth
-  pub last-more : n < row-count b → Has-row b n → d ≡ row-at b n .depth → d < 7 → Last-rows b (n + 1) (set rs d n)
+  last-more : n < row-count b → Has-row b n → d ≡ row-at b n .depth → d < 7 → Last-rows b (n + 1) (set rs d n)
   unfolding row-seen
   last-more h u e l =
       let s = v .told .size in
@@ -180,6 +180,23 @@ top-path b n e = rw e
 -- a row of a tree has room
 pub whole-row : {b : List ℕ} (n : ℕ) → Whole b → n < row-count b → Has-row b n
 whole-row n w h = used-row (record { sized = w .1 .sized; used = h })
+
+-- the rows last seen are such
+last-rows-are : {b : List ℕ} → Whole b → (n : ℕ) → n ≤ row-count b → Last-rows b n (last-among b n)
+unfolding last-among
+last-rows-are w zero h = last-none (w .1)
+last-rows-are {b} w (suc n) h =
+    let low = encoded-depth (w .1) {i = n} (omega arith) in
+    let v = last-more (last-rows-are w n (omega arith)) (row-at b n .depth) (omega arith) (whole-row n w (omega arith)) refl (omega arith) in
+    rw add-one at v
+
+pub last-told : {b rs : List ℕ} → Whole b → (n : ℕ) → n < row-count b → rs ≡ last-among b (n + 1) → Last-rows b (n + 1) rs
+last-told w n h e = rw e (last-rows-are w (n + 1) (omega arith))
+
+-- each takes the place of the one last seen at its depth
+pub last-next : (b : List ℕ) (n d : ℕ) {rs : List ℕ} → rs ≡ last-among b n → d ≡ row-at b n .depth → set rs d n ≡ last-among b (n + 1)
+unfolding last-among
+last-next b n d e q = rw (e, q, add-one n)
 
 -- ---- names written
 

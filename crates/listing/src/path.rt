@@ -1,11 +1,12 @@
 // The path of a row: the names of the rows last seen at each depth up to its own, each behind `/`.
+ghost use mathlib.Core.Path.{_≡_};
 ghost use mathlib.Core.List.{_∷_};
 ghost use Prim.Native.Nat.{_+_, _≤_, _<_};
 ghost use lib.ListN.{length};
 ghost use Rattle.syntax.specs.Path.{names-text, path-text};
 ghost use Rattle.tree.specs.RowAt.{row-count, row-at};
 ghost use Rattle.tree.specs.TreeBytes.{Has-row, Whole};
-ghost use Rattle.listing.specs.RowListing.{path-seen, row-path, Wrote-most, Told-rows, names-told, Last-rows};
+ghost use Rattle.listing.specs.RowListing.{path-seen, row-path, Wrote-most, Told-rows, names-told, last-among};
 use crate::fields::write_behind;
 use tree::depth_at;
 use tree::name_at;
@@ -14,7 +15,7 @@ use tree::name_at;
 fn last_rows(tree: &[u8], n: usize) -> [usize; 7]
     requires { ⌜ Whole (now tree) ⌝ }
     requires { ⌜ n < row-count (now tree) ⌝ }
-    ensures { λ r. ⌜ Last-rows (now (tree .entry)) (n + 1) r ⌝ }
+    ensures { λ r. ⌜ r ≡ last-among (now (tree .entry)) (n + 1) ⌝ }
 {
     let mut last: [usize; 7] = [0; 7];
     let mut i: usize = 0;

@@ -1,19 +1,39 @@
--- The abstract machine (document 01's shelf machine): the people's tree, sessions, and the entries apart, each with a role
--- and with no owner, group or mode.
-use mathlib.Core.List.{[]}
-use mathlib.Core.Bool.{Bool, true, _&&_}
-use Prim.Native.Nat.{ℕ, suc}
+-- The abstract machine (document 01's shelf machine), whole: the people's tree, sessions, and the entries apart, each with a role
+-- and with no owner, group or mode; its commands, and its calls.
+--
+-- A person's part is done in the people's tree by the access test, the account's part among the entries by dominance. As in
+-- `Machine`, w is the path of a working file or directory, e an entry path, d the path of a copy to be made, z the session's role
+-- and r an entry's.
+use mathlib.Core.List.{List, [], _∷_}
+use mathlib.Core.Option.{Option, none, some}
+use mathlib.Core.Bool.{Bool, true, not, _&&_}
+use Prim.Native.Nat.{ℕ, suc, _+_}
+use lib.Dec.{eqb, leb}
+use lib.ListN.{getD, set}
 use Rattle.buffers.specs.Text.{Text}
+use Rattle.accounts.specs.declared.Caller.{Caller}
+use Rattle.accounts.specs.declared.Right.{Right}
+use Rattle.accounts.specs.declared.Right.the-variants.{R, W}
 use Rattle.accounts.specs.Dominance.{same-role, Bounded-role, dominates}
+use Rattle.syntax.specs.Path.{Path, Entry-path, parent, last, depth, most-names, below-rep}
+use Rattle.commands.specs.Command.{Repository-command, login, logout, add, co, commit, up, del, Command, shell, repository, line}
 use Rattle.setup.specs.Setup.{Setup}
 use Rattle.tree.specs.declared.Kind.{Kind}
 use Rattle.tree.specs.declared.Kind.the-variants.{Directory}
-use Rattle.tree.specs.Forest.{Forest, nil, Place, insert, remove, at, update-forest, alter, leaf, size, rooted}
-use Rattle.tree.specs.Node.{is-directory, Node}
-use Rattle.tree.specs.Walk.{Judge}
+use Rattle.tree.specs.declared.Cause.the-variants.{NoForm, Access, WrongKind, NotEmpty, Reserved, Full, NoSession, NoGrant, Stale, Untagged, RevisionsSpent, TooDeep, ShortAnswer}
+use Rattle.tree.specs.Result.{Result, done, _>>=_, _>>_, require, present, Outcome}
+use Rattle.tree.specs.Forest.{Forest, nil, Place, is-empty, insert, remove, at, update, update-forest, alter, put, leaf, size, height, rooted}
+use Rattle.tree.specs.Node.{is-directory, Tag, Node, allows, set-tag, set-content, owns}
+use Rattle.tree.specs.Walk.{Judge, by-modes, unused, walk, parent-walk, room}
+use Rattle.tree.specs.WellFormed.{most-nodes, last-revision, nodes}
+use Rattle.copying.specs.Copying.{Source, copy}
+use Rattle.shell.specs.Steps.{run-shell}
+use Rattle.shell.specs.Replies.{reply, after}
 use Rattle.store.specs.State.{Sessions}
 use Rattle.store.specs.Initial.{initial-tree, no-sessions}
-use Rattle.machine.specs.Machine.{Machine}
+use Rattle.store.specs.Callers.{caller, granted}
+use Rattle.machine.specs.Machine.{Working, tagged}
+use Rattle.machine.specs.Runs.{Call, least-room, Ran}
 
 pub record Entry : Type 0 where
   pub kind : Kind
@@ -79,25 +99,157 @@ new-entry kind r content = record { kind = kind; role = r; revision = 1; content
 unfoldable pub next-entry : Text → Entry → Entry
 next-entry content x = record { kind = x .kind; role = x .role; revision = suc (x .revision); content = content }
 
+abbrev pub on-people : (Place Node → Place Node) → Abstract → Abstract
+on-people f h = record { workspace = f (h .workspace); entries = h .entries; sessions = h .sessions }
+
 abbrev pub on-entries : (Forest Entry → Forest Entry) → Abstract → Abstract
 on-entries g h = record { workspace = h .workspace; entries = g (h .entries); sessions = h .sessions }
 
-abbrev pub abstract : Machine Abstract Filed
-abstract = record {
-  workspace = λ h. h .workspace;
-  elsewhere = λ h. size (h .entries);
-  entries = λ h. rooted entry top (h .entries);
-  judge = by-dominance;
-  locate = λ p. p;
-  revision = filed-revision;
-  content = filed-content;
-  sessions = λ h. h .sessions;
-  file = λ e kind r content. on-entries (update-forest (e .folder) (insert (e .name) (leaf (new-entry kind r content))));
-  revise = λ e content. on-entries (update-forest (e .folder) (at (e .name) (alter (next-entry content))));
-  remove = λ e. on-entries (update-forest (e .folder) (remove (e .name)));
-  on-workspace = λ f h. record { workspace = f (h .workspace); entries = h .entries; sessions = h .sessions };
-  with-sessions = λ sessions h. record { workspace = h .workspace; entries = h .entries; sessions = sessions };
-}
+abbrev pub with-sessions : Sessions → Abstract → Abstract
+with-sessions sessions h = record { workspace = h .workspace; entries = h .entries; sessions = sessions }
 
+-- One command of the caller c on the state h.
+module _ (setup : Setup) (h : Abstract) (c : Caller) where
+  -- the person walks in the people's tree, the session's role from `/rep`
+  abbrev person-walks : Path → Result (Place Node)
+  person-walks p = walk (by-modes (c .account)) (h .workspace) p
+
+  abbrev role-walks : Bounded-role → Path → Result (Place Filed)
+  role-walks z p = walk (by-dominance setup z) (rooted entry top (h .entries)) p
+
+  abbrev role-parent-walks : Bounded-role → Path → Result (Place Filed)
+  role-parent-walks z p = parent-walk (by-dominance setup z) (rooted entry top (h .entries)) p
+
+  -- nodes count as people's nodes plus entries
+  abbrev fits : ℕ → Bool
+  fits more = leb (nodes (h .workspace) + size (h .entries) + more) most-nodes
+
+  abbrev ok : Abstract → Result (Outcome Abstract)
+  ok t = done (record { text = none; state = t })
+
+  abbrev session-becomes : Option Bounded-role → Abstract
+  session-becomes z = with-sessions (set (h .sessions) (c .account .uid .0) z) h
+
+  unfoldable pub abstract-login : Bounded-role → Text → Result (Outcome Abstract)
+  abstract-login z password = do
+    require (granted (setup .grants) (c .account .uid) z password) NoGrant
+    ok (session-becomes (some z))
+
+  unfoldable pub abstract-logout : Result (Outcome Abstract)
+  abstract-logout = ok (session-becomes none)
+
+  -- the others first need a session
+  unfoldable pub abstract-session : Result Bounded-role
+  abstract-session = present (getD (h .sessions) (c .account .uid .0) none) NoSession
+
+  unfoldable pub abstract-add : Path → Entry-path → Bounded-role → Result (Outcome Abstract)
+  abstract-add w e r = do
+    z ← abstract-session
+    found ← person-walks w
+    require (owns (c .account) (found .here)) Reserved
+    require (by-modes (c .account) .readable (found .here)) Access
+    require (dominated setup z r) Reserved
+    folder ← role-parent-walks z (below-rep e)
+    unused (e .name) (folder .below)
+    require (filed-writable setup z (folder .here)) Access
+    require (fits 1) Full
+    let x = new-entry (found .here .kind) r (found .here .content)
+    ok (on-people (tagged w e 1) (on-entries (update-forest (e .folder) (insert (e .name) (leaf x))) h))
+
+  unfoldable pub abstract-co : Entry-path → Path → Result (Outcome Abstract)
+  abstract-co e d = do
+    z ← abstract-session
+    directory ← room (by-modes (c .account)) (h .workspace) d
+    filed ← role-walks z (below-rep e)
+    require (filed-readable setup z (filed .here)) Access
+    let source : Source Filed = record { kind = filed-kind; readable = filed-readable setup z; revision = filed-revision; content = filed-content }
+    let copies = copy c source (directory .here) e filed
+    require (leb (depth d + height (copies .below)) most-names) TooDeep
+    require (fits (suc (size (copies .below)))) Full
+    ok (on-people (update (parent d) (put (last d) copies)) h)
+
+  -- the person's part of commit and up: walk; directory 7; the right 5; no tag 15
+  unfoldable pub abstract-working : Right → Path → Result Working
+  abstract-working right w = do
+    found ← person-walks w
+    require (not (is-directory (found .here .kind))) WrongKind
+    require (allows (c .account) right (found .here)) Access
+    tag ← present (found .here .tag) Untagged
+    done (record { node = found .here; tag = tag })
+
+  -- the walk to the tag's entry: directory 7; not readable 5
+  unfoldable pub abstract-original : Bounded-role → Entry-path → Result (Place Filed)
+  abstract-original z e = do
+    filed ← role-walks z (below-rep e)
+    require (not (is-directory (filed-kind (filed .here)))) WrongKind
+    require (filed-readable setup z (filed .here)) Access
+    done filed
+
+  unfoldable pub abstract-commit : Path → Result (Outcome Abstract)
+  abstract-commit w = do
+    z ← abstract-session
+    file ← abstract-working R w
+    let e = file .tag .path
+    filed ← abstract-original z e
+    above ← role-walks z (e .folder)
+    require (filed-writable setup z (above .here)) Access
+    let revision = filed-revision (filed .here)
+    require (eqb (file .tag .revision) revision) Stale
+    require (not (eqb revision last-revision)) RevisionsSpent
+    let revised = at (e .name) (alter (next-entry (file .node .content)))
+    ok (on-people (tagged w e (suc revision)) (on-entries (update-forest (e .folder) revised) h))
+
+  unfoldable pub abstract-up : Path → Result (Outcome Abstract)
+  abstract-up w = do
+    z ← abstract-session
+    file ← abstract-working W w
+    let e = file .tag .path
+    filed ← abstract-original z e
+    let tag : Tag = record { path = e; revision = filed-revision (filed .here) }
+    ok (on-people (update w (alter (λ n. set-content (filed-content (filed .here)) (set-tag tag n)))) h)
+
+  unfoldable pub abstract-del : Entry-path → Result (Outcome Abstract)
+  abstract-del e = do
+    z ← abstract-session
+    filed ← role-walks z (below-rep e)
+    require (filed-readable setup z (filed .here)) Access
+    folder ← role-walks z (e .folder)
+    require (filed-writable setup z (folder .here)) Access
+    require (is-empty (filed .below)) NotEmpty
+    ok (on-entries (update-forest (e .folder) (remove (e .name))) h)
+
+  unfoldable pub abstract-repository : Repository-command → Result (Outcome Abstract)
+  abstract-repository (login z password) = abstract-login z password
+  abstract-repository logout = abstract-logout
+  abstract-repository (add w e r) = abstract-add w e r
+  abstract-repository (co e d) = abstract-co e d
+  abstract-repository (commit w) = abstract-commit w
+  abstract-repository (up w) = abstract-up w
+  abstract-repository (del e) = abstract-del e
+
+  -- shell commands run on the people's tree
+  unfoldable pub abstract-run : Command → Result (Outcome Abstract)
+  abstract-run (shell command) = do
+    o ← run-shell c (size (h .entries)) (h .workspace) command
+    done (record { text = o .text; state = on-people (λ t. o .state) h })
+  abstract-run (repository command) = abstract-repository command
+
+-- a library call: 20, 1 and 2 come first
+unfoldable pub abstract-step : Setup → Abstract → Call → Result (Outcome Abstract)
+abstract-step setup h call = do
+  require (leb least-room (call .room)) ShortAnswer
+  l ← present (line (call .line)) NoForm
+  c ← caller setup (l .caller)
+  abstract-run setup h c (l .command)
+
+-- a list of them, each on what the one before left
+unfoldable pub abstract-runs : Setup → Abstract → List Call → Ran Abstract
+abstract-runs setup h [] = record { replies = []; state = h }
+abstract-runs setup h (call ∷ calls) =
+    let o = abstract-step setup h call in
+    let rest = abstract-runs setup (after h o) calls in
+    record { replies = reply o ∷ rest .replies; state = rest .state }
+
+-- it starts as the fresh store with an empty map
 unfoldable pub initial-abstract : Setup → Abstract
 initial-abstract setup = record { workspace = initial-tree setup; entries = nil; sessions = no-sessions }

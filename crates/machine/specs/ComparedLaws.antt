@@ -32,7 +32,9 @@ use Rattle.store.specs.State.{Store}
 use Rattle.store.specs.Initial.{rep-node, home-node, home-name, with-home, homes, initial-tree, initial-store}
 use Rattle.store.specs.Callers.{caller}
 use Rattle.machine.specs.StoreMachine.{store}
-use Rattle.machine.specs.AbstractMachine.{Abstract, abstract, initial-abstract}
+use Rattle.machine.specs.AbstractMachine.{Abstract, abstract-runs, initial-abstract}
+use Rattle.machine.specs.AbstractInstance.{abstract}
+use Rattle.machine.specs.AbstractInstanceLaws.{runs-are}
 use Rattle.machine.specs.Embedding.{in-store, stored, embed}
 use Rattle.machine.specs.Runs.{Call, Ran, perform, step, runs, of-root, root's}
 use Rattle.machine.specs.Observed.{workspace-of, filed-in, Compared, without-root, Reached-without-root}
@@ -136,10 +138,10 @@ tie-compared {b} r t = record {
 
 -- demand 3
 pub compared-lists : (text : Text) (u : Setup) → setup text ≡ accepted u → (calls : List Call) → without-root calls ≡ true
-    → Compared (runs store u (initial-store u) calls) (runs abstract u (initial-abstract u) calls)
+    → Compared (runs store u (initial-store u) calls) (abstract-runs u (initial-abstract u) calls)
 compared-lists text u e calls r =
     let t = runs-agree u (accepted-is-setup text u e) calls r (initial-store u) (initial-abstract u) (initial-tie u) in
-    tie-compared (t .0) (t .1)
+    rw (← runs-are u (initial-abstract u) calls) (tie-compared (t .0) (t .1))
 
 -- a store reached without root holds what the abstract machine holds after the same calls
 pub reached-tie : (u : Setup) (s : Store) (r : Reached-without-root u s)

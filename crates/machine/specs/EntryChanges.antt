@@ -7,17 +7,18 @@ use lib.ListN.{getD}
 use Rattle.buffers.specs.Text.{Text}
 use Rattle.accounts.specs.declared.Caller.{Caller}
 use Rattle.accounts.specs.Dominance.{Bounded-role}
-use Rattle.syntax.specs.Path.{Path, Entry-path, entry-location}
+use Rattle.syntax.specs.Path.{Path, Entry-path, in-rep, entry-location, below-rep}
 use Rattle.commands.specs.Command.{add, commit, del, Command, repository}
 use Rattle.setup.specs.Setup.{Setup}
 use Rattle.tree.specs.declared.Kind.{Kind}
-use Rattle.tree.specs.declared.Kind.the-variants.{File}
+use Rattle.tree.specs.declared.Kind.the-variants.{File, Directory}
 use Rattle.tree.specs.Forest.{Place, place-at, alter}
 use Rattle.tree.specs.Node.{Node, set-tag}
-use Rattle.copying.specs.Copying.{below-rep}
-use Rattle.store.specs.State.{Sessions, Store}
+use Rattle.store.specs.State.{Store}
+use Rattle.store.specs.Initial.{rep-node}
 use Rattle.machine.specs.StoreMachine.{entry-node}
-use Rattle.machine.specs.AbstractMachine.{Abstract, Filed, dominated, abstract}
+use Rattle.machine.specs.AbstractMachine.{Abstract, Filed, dominated}
+use Rattle.machine.specs.AbstractInstance.{abstract}
 
 -- the node of the store at an entry path
 unfoldable pub node-of : Store → Entry-path → Option Node
@@ -31,11 +32,19 @@ Filed-as s e kind r revision content = node-of s e ≡ some (entry-node kind r r
 unfoldable pub entry-of : Abstract → Entry-path → Option Filed
 entry-of h e = Option·map (λ d. d .here) (place-at (abstract .entries h) (below-rep e))
 
--- the caller's session has a role that dominates another
-pub record Rightful (u : Setup) (sessions : Sessions) (c : Caller) (r : Bounded-role) : Type 0 where
+-- a role writes in `/rep` if it is role 0, and in an entry that is a directory of a role that it dominates
+pub data Writes-in (u : Setup) (z : Bounded-role) : Node → Type 0 where
+  in-top : z .role .0 ≡ 0 → Writes-in u z rep-node
+  in-directory : (r : Bounded-role) (revision : ℕ) (content : Text) → dominated u z r ≡ true → Writes-in u z (entry-node Directory r revision content)
+
+-- the caller's session has a role that dominates r and writes in the directory of the entry path e
+pub record Rightful (u : Setup) (s : Store) (c : Caller) (e : Entry-path) (r : Bounded-role) : Type 0 where
   pub role : Bounded-role
-  pub session : getD sessions (c .account .uid .0) none ≡ some role
+  pub session : getD (s .sessions) (c .account .uid .0) none ≡ some role
   pub dominates : dominated u role r ≡ true
+  pub folder : Place Node
+  pub stands : place-at (s .tree) (in-rep (e .folder)) ≡ some folder
+  pub writes : Writes-in u role (folder .here)
 
 -- the entry at e, of that kind, role and revision, before and after a `commit w`
 pub record Committed (before after : Store) (e : Entry-path) (kind : Kind) (r : Bounded-role) (revision : ℕ) (w : Path) : Type 0 where
@@ -66,7 +75,7 @@ pub record Added (before after : Store) (e : Entry-path) (r : Bounded-role) (w :
   -- and has the tag of that revision
   pub is-tagged : place-at (after .tree) w ≡ some (alter (set-tag (record { path = e; revision = 1 })) working)
 
--- the command that makes an entry at e, in a session whose role dominates the new entry's
+-- the command that makes an entry at e, in a session whose role dominates the new entry's and writes in its directory
 pub data Making (u : Setup) (before after : Store) (c : Caller) (e : Entry-path) : Command → Type 0 where
-  by-add : {w : Path} {r : Bounded-role} → Added before after e r w → Rightful u (before .sessions) c r
+  by-add : {w : Path} {r : Bounded-role} → Added before after e r w → Rightful u before c e r
       → Making u before after c e (repository (add w e r))

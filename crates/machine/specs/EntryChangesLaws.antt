@@ -5,17 +5,17 @@ use mathlib.Core.Bool.{true, false, not}
 use mathlib.Core.Logic.{_⊎_, inl, inr}
 use Prim.Native.Nat.{ℕ, suc}
 use native.Mathlib.Omega.{arith}
-use borrow.Author.Tests.{not-true, eqb-true, eq-eqb}
+use borrow.Author.Tests.{not-true, eqb-true}
 use lib.Dec.{eqb}
 use Rattle.buffers.specs.Cases.{case, contra}
 use Rattle.buffers.specs.Text.{Text}
 use Rattle.accounts.specs.declared.Caller.{Caller}
 use Rattle.accounts.specs.declared.Uid.{Uid}
 use Rattle.accounts.specs.declared.Right.the-variants.{R, W}
-use Rattle.accounts.specs.Access.{is-root, same-uid}
-use Rattle.accounts.specs.Dominance.{Bounded-role, same-role-is}
-use Rattle.accounts.specs.Service.{service-uid, same-service}
-use Rattle.syntax.specs.Path.{Path, Entry-path, same-path, in-rep, entry-location}
+use Rattle.accounts.specs.Access.{is-root}
+use Rattle.accounts.specs.Dominance.{Bounded-role}
+use Rattle.accounts.specs.Service.{service-role}
+use Rattle.syntax.specs.Path.{Path, Entry-path, same-path, in-rep, entry-location, below-rep}
 use Rattle.syntax.specs.WithinLaws.{same-path-sound}
 use Rattle.syntax.specs.FormLaws.{answered}
 use Rattle.commands.specs.Command.{login, logout, add, co, commit, up, del, Command, shell, repository}
@@ -35,20 +35,20 @@ use Rattle.tree.specs.WellFormed.{is-tree}
 use Rattle.tree.specs.JudgeLaws.{directory-is-one, set-revision-is, set-content-is}
 use Rattle.tree.specs.OtherPathLaws.{drop-gone}
 use Rattle.tree.specs.HoldsLaws.{holds-altered, holds-alter, holds-put, holds-drop}
-use Rattle.copying.specs.Copying.{below-rep}
 use Rattle.shell.specs.Steps.{run-shell}
 use Rattle.store.specs.State.{Store}
 use Rattle.store.specs.Initial.{directory-of, rep-node}
 use Rattle.store.specs.Callers.{caller}
 use Rattle.machine.specs.Machine.{Working, tagged, run-login, run-logout, session, run-add, run-co, working-file, original, run-commit, run-up, run-del, run-repository, run}
 use Rattle.machine.specs.StoreMachine.{entry-mode, entry-node, next-node, store}
-use Rattle.machine.specs.AbstractMachine.{Entry, Abstract, Filed, top, entry, filed-kind, filed-readable, by-dominance, filed-revision, next-entry, abstract}
+use Rattle.machine.specs.AbstractMachine.{Entry, Abstract, Filed, top, entry, filed-kind, filed-readable, by-dominance, filed-revision, next-entry}
+use Rattle.machine.specs.AbstractInstance.{abstract}
 use Rattle.machine.specs.Embedding.{in-store, met, embed}
 use Rattle.machine.specs.Observed.{Reached-without-root}
 use Rattle.machine.specs.EntryJudgeLaws.{next-law}
 use Rattle.machine.specs.SimulationLaws.{remove-tie}
 use Rattle.machine.specs.EntryChanges.{node-of, Filed-as, entry-of, Rightful, Change, by-commit, by-del}
-use Rattle.machine.specs.EntryPlacesLaws.{same-entry, holds-of, of-holds, free, next-filed, filed-after, revised-after, removed-after, by-session, node-tied, tagged-tied, rightful-tied, In-both, in-both}
+use Rattle.machine.specs.EntryPlacesLaws.{same-entry, holds-of, of-holds, free, next-filed, filed-after, revised-after, removed-after, Rightful-apart, by-session, node-tied, tagged-tied, rightful-tied, In-both, in-both}
 
 -- ---- one command of the abstract machine
 
@@ -99,7 +99,7 @@ data Changed (h : Abstract) (c : Caller) (e : Entry-path) (x : Entry) (h′ : Ab
 module _ (u : Setup) (h : Abstract) (c : Caller) (e : Entry-path) (x : Entry) (same : entry-of h e ≡ some (entry x)) where
   -- the entry stays, or is changed in a session whose role dominates its own
   Guarded : Command → Outcome Abstract → Type 0
-  Guarded command o = (entry-of (o .state) e ≡ some (entry x)) ⊎ (Changed h c e x (o .state) command × Rightful u (h .sessions) c (x .role))
+  Guarded command o = (entry-of (o .state) e ≡ some (entry x)) ⊎ (Changed h c e x (o .state) command × Rightful-apart u h c e (x .role))
 
   -- the place where it stands
   there : Holds (abstract .entries h) (below-rep e) (entry x)
@@ -112,9 +112,12 @@ module _ (u : Setup) (h : Abstract) (c : Caller) (e : Entry-path) (x : Entry) (s
   -- where the session's role reads the entry, it dominates the entry's
   rightful : (z : Bounded-role) → session abstract u h c ≡ done z → (a : Place Filed)
       → walk (by-dominance u z) (abstract .entries h) (below-rep e) ≡ done a
-      → by-dominance u z .readable (a .here) ≡ true → Rightful u (h .sessions) c (x .role)
+      → by-dominance u z .readable (a .here) ≡ true
+      → (f : Place Filed) → walk (by-dominance u z) (abstract .entries h) (e .folder) ≡ done f
+      → by-dominance u z .writable (f .here) ≡ true → Rightful-apart u h c e (x .role)
   unfolding by-dominance filed-readable
-  rightful z i a w b = by-session u h c z i (x .role) (ap (filed-readable u z) (sym (its-entry z a w)) ∙ b)
+  rightful z i a w b f v m =
+      by-session u h c z i e f (walked-at (abstract .entries h) (by-dominance u z) (e .folder) f v) m (x .role) (ap (filed-readable u z) (sym (its-entry z a w)) ∙ b)
 
   add-guarded : (w : Path) (e′ : Entry-path) (role′ : Bounded-role)
       → Ensures (Guarded (repository (add w e′ role′))) (run-add abstract u h c w e′ role′)
@@ -145,13 +148,15 @@ module _ (u : Setup) (h : Abstract) (c : Caller) (e : Entry-path) (x : Entry) (s
 
   -- a commit of a working file of the entry, with what it was done after
   own-commit : (w : Path) (k : Working) → Worked h c w k → (z : Bounded-role) → session abstract u h c ≡ done z
-      → (a : Place Filed) → Original u h z (k .tag .path) a → eqb (k .tag .revision) (filed-revision (a .here)) ≡ true
+      → (a : Place Filed) → Original u h z (k .tag .path) a
+      → (d : Place Filed) → walk (by-dominance u z) (abstract .entries h) (k .tag .path .folder) ≡ done d → by-dominance u z .writable (d .here) ≡ true
+      → eqb (k .tag .revision) (filed-revision (a .here)) ≡ true
       → below-rep e ≡ below-rep (k .tag .path)
       → (t : Abstract)
       → t ≡ abstract .on-workspace (tagged w (k .tag .path) (suc (filed-revision (a .here)))) (abstract .revise (k .tag .path) (k .node .content) h)
-      → Changed h c e x t (repository (commit w)) × Rightful u (h .sessions) c (x .role)
+      → Changed h c e x t (repository (commit w)) × Rightful-apart u h c e (x .role)
   unfolding by-dominance filed-kind filed-revision next-filed
-  own-commit w k g z j a f fresh q t made =
+  own-commit w k g z j a f d led may fresh q t made =
       let s : k .tag .path ≡ e = sym (same-entry e (k .tag .path) q) in
       let v : walk (by-dominance u z) (abstract .entries h) (below-rep e) ≡ done a = rw q (f .walked) in
       let y = its-entry z a v in
@@ -161,7 +166,7 @@ module _ (u : Setup) (h : Abstract) (c : Caller) (e : Entry-path) (x : Entry) (s
             (file-kind (x .kind) (ap (λ n. not (is-directory (filed-kind n))) (sym y) ∙ f .a-file))
             (rw (made, s) (of-holds _ e _ (rw (revised-after e (k .node .content) h) (holds-altered (below-rep e) there (next-filed (k .node .content))))))
             (rw (made, s, r)),
-        rightful z j a v (f .readable),
+        rightful z j a v (f .readable) d (rw (← s) led) may,
       )
 
   commit-guarded : (w : Path) → Ensures (Guarded (repository (commit w))) (run-commit abstract u h c w)
@@ -170,12 +175,12 @@ module _ (u : Setup) (h : Abstract) (c : Caller) (e : Entry-path) (x : Entry) (s
       then-do (session abstract u h c) λ z j.
       then-step (worked u h c w) λ k g.
       then-step (original-found u h c z (k .tag .path)) λ a f.
-      then-do (walk (by-dominance u z) (abstract .entries h) (k .tag .path .folder)) λ d _.
-      then-check Access tt _ λ _.
+      then-do (walk (by-dominance u z) (abstract .entries h) (k .tag .path .folder)) λ d led.
+      then-check Access tt _ λ may.
       then-check Stale tt _ λ fresh.
       then-check RevisionsSpent tt _ λ _.
       gives (case (same-path (below-rep e) (below-rep (k .tag .path)))
-      (λ s. inr (own-commit w k g z j a f fresh (same-path-sound (below-rep e) (below-rep (k .tag .path)) s) _ refl))
+      (λ s. inr (own-commit w k g z j a f d led may fresh (same-path-sound (below-rep e) (below-rep (k .tag .path)) s) _ refl))
       (λ s. inl (of-holds _ e (entry x) (rw (revised-after (k .tag .path) (k .node .content) h) (holds-alter (below-rep e) (below-rep (k .tag .path)) there _ s)))))
 
   up-guarded : (w : Path) → Ensures (Guarded (repository (up w))) (run-up abstract u h c w)
@@ -192,13 +197,13 @@ module _ (u : Setup) (h : Abstract) (c : Caller) (e : Entry-path) (x : Entry) (s
       then-do (session abstract u h c) λ z i.
       then-do (walk (by-dominance u z) (abstract .entries h) (below-rep e′)) λ a w.
       then-check Access tt _ λ b.
-      then-do (walk (by-dominance u z) (abstract .entries h) (e′ .folder)) λ f _.
-      then-check Access tt _ λ _.
+      then-do (walk (by-dominance u z) (abstract .entries h) (e′ .folder)) λ f v.
+      then-check Access tt _ λ m.
       then-check NotEmpty tt _ λ alone.
       gives (case (same-path (below-rep e) (below-rep e′))
       (λ s.
       let q = same-path-sound (below-rep e) (below-rep e′) s in
-      inr (rw (← same-entry e e′ q) (deletes refl), rightful z i a (rw q w) b))
+      inr (rw (← same-entry e e′ q) (deletes refl), rightful z i a (rw q w) b f (rw (same-entry e e′ q) v) m))
       (λ s. inl (of-holds _ e (entry x) (rw (removed-after e′ h)
       (holds-drop (below-rep e) (e′ .folder) there (e′ .name) a (walked-at (abstract .entries h) (by-dominance u z) (below-rep e′) a w) alone s)))))
 
@@ -217,7 +222,7 @@ module _ (u : Setup) (h : Abstract) (c : Caller) (e : Entry-path) (x : Entry) (s
 -- an entry stays under a done command, or is changed by right
 entry-changed : (u : Setup) (h : Abstract) (c : Caller) (command : Command) (o : Outcome Abstract) → run abstract u h c command ≡ done o
     → (e : Entry-path) (x : Entry) → entry-of h e ≡ some (entry x)
-    → (entry-of (o .state) e ≡ some (entry x)) ⊎ (Changed h c e x (o .state) command × Rightful u (h .sessions) c (x .role))
+    → (entry-of (o .state) e ≡ some (entry x)) ⊎ (Changed h c e x (o .state) command × Rightful-apart u h c e (x .role))
 unfolding Guarded
 entry-changed u h c command o i e x same = done-with (run-guarded u h c e x same command) i
 
@@ -237,13 +242,10 @@ rep-mode Directory i = let z : ⊥ = omega arith in absurd z
 module _ (kind : Kind) (r : Bounded-role) (revision : ℕ) (content : Text) where
   -- what stands as an entry's node is an entry of that role
   met-role : (x : Filed) → met x ≡ entry-node kind r revision content → (y : Entry) × (x ≡ entry y) × (y .role .role ≡ r .role)
-  unfolding met in-store entry-node same-uid
+  unfolding met in-store entry-node
   met-role top i = rep-mode kind (ap (λ a. a .mode) i)
   met-role (entry y) i =
-      let q = y .role in
-      let s : service-uid (q .role) ≡ service-uid (r .role) = ap (λ a. a .owner) i in
-      let t : same-uid (service-uid (q .role)) (service-uid (r .role)) ≡ true = eq-eqb _ _ (ap (λ v. v .0) s) in
-      (y, refl, same-role-is (q .role) (r .role) (sym (same-service (q .role) (r .role)) ∙ t))
+      (y, refl, service-role (y .role .role) (r .role) (ap (λ a. a .owner) i))
 
   -- with new content it has the next revision
   next-entry-node : (content′ : Text) → next-node content′ (entry-node kind r revision content) ≡ entry-node kind r (suc revision) content′
@@ -285,16 +287,16 @@ module _ (kind : Kind) (r : Bounded-role) (revision : ℕ) (content : Text) wher
 
     -- or left in both
     either-tied : (y : Entry) → met (entry y) ≡ entry-node kind r revision content → y .role .role ≡ r .role
-        → (entry-of h′ e ≡ some (entry y)) ⊎ (Changed h c e y h′ command × Rightful u (h .sessions) c (y .role))
-        → Filed-as s′ e kind r revision content ⊎ (Change s s′ e kind r revision command × Rightful u (s .sessions) c r)
+        → (entry-of h′ e ≡ some (entry y)) ⊎ (Changed h c e y h′ command × Rightful-apart u h c e (y .role))
+        → Filed-as s′ e kind r revision content ⊎ (Change s s′ e kind r revision command × Rightful u s c e r)
     either-tied y i same (inl k) = inl (node-tied (b .tie-after) e ∙ ap (Option·map met) k ∙ ap some i)
-    either-tied y i same (inr k) = inr (change-tied y i (k .0), rightful-tied u (b .tie) c (y .role) r same (k .1))
+    either-tied y i same (inr k) = inr (change-tied y i (k .0), rightful-tied u (b .tie) c e (y .role) r same (k .1))
 
 -- an entry's node stays under a person's done command, or is changed by right
 pub stored-entry-changed : (u : Setup) (s : Store) → Reached-without-root u s → (v : Uid) (c : Caller) → is-root v ≡ false → caller u v ≡ done c
     → (command : Command) (o : Outcome Store) → run store u s c command ≡ done o
     → (e : Entry-path) (kind : Kind) (r : Bounded-role) (revision : ℕ) (content : Text) → Filed-as s e kind r revision content
-    → Filed-as (o .state) e kind r revision content ⊎ (Change s (o .state) e kind r revision command × Rightful u (s .sessions) c r)
+    → Filed-as (o .state) e kind r revision content ⊎ (Change s (o .state) e kind r revision command × Rightful u s c e r)
 stored-entry-changed u s reached v c n i command o ran e kind r revision content stood =
     let b = in-both u s reached v c n i command o ran in
     let x = map-eq-some-iff met (entry-of (b .apart) e) .0 (sym (node-tied (b .tie) e) ∙ stood) in

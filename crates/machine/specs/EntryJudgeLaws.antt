@@ -1,5 +1,5 @@
 -- An entry judged in the store by its owner, group and mode is judged as the abstract machine judges it, by its role.
-use mathlib.Core.Path.{_≡_, refl, ap}
+use mathlib.Core.Path.{_≡_, refl, ap, _∙_}
 use mathlib.Core.Bool.{Bool, true, false, _&&_, _||_, not, cond, and-true, and-false, or-true, and-self}
 use Prim.Native.Nat.{ℕ, suc, _/_, _%_}
 use Rattle.buffers.specs.Cases.{case}
@@ -11,9 +11,9 @@ use Rattle.accounts.specs.declared.Gid.{Gid}
 use Rattle.accounts.specs.declared.Role.{Role}
 use Rattle.accounts.specs.Groups.{member}
 use Rattle.accounts.specs.declared.Account.{Account}
-use Rattle.accounts.specs.Access.{is-root, same-uid, grants, may-owner, may-group, may-other, grants-none}
+use Rattle.accounts.specs.Access.{is-root, same-uid, grants, may-owner, may-group, may-other, grants-none, grants-7, grants-5, grants-4, same-as-root}
 use Rattle.accounts.specs.Dominance.{same-role, same-role-is, Bounded-role, dominates, dominates-self}
-use Rattle.accounts.specs.Service.{service-uid, service-gid, all-services, service, service-not-root, service-own, same-service, member-service, member-all}
+use Rattle.accounts.specs.Service.{service-uid, service-gid, service, service-not-root, service-own, same-service, member-service, member-all, service-uid-is, all-services-is}
 use Rattle.syntax.specs.Number.{octal}
 use Rattle.setup.specs.Setup.{Setup}
 use Rattle.tree.specs.declared.Kind.{Kind}
@@ -28,10 +28,10 @@ use Rattle.machine.specs.Embedding.{in-store, met}
 
 -- who is not root has r and x in `/`, by the group's digit or the others'
 pub top-allows : (a : Account) → is-root (a .uid) ≡ false → (t : Right) → allows a t top-node ≡ grants 5 t
-unfolding top-node directory-of is-root same-uid
-top-allows a e t = rw (allows-is a top-node t) (case (member (record { 0 = 0 }) (a .groups))
-    (λ i. may-group a t (record { 0 = 0 }) (record { 0 = 0 }) (octal 0 7 5 5) e e i)
-    (λ i. may-other a t (record { 0 = 0 }) (record { 0 = 0 }) (octal 0 7 5 5) e e i))
+unfolding top-node directory-of
+top-allows a e t = rw (allows-is a top-node t) (let o = same-as-root (a .uid) ∙ e in case (member (record { 0 = 0 }) (a .groups))
+    (λ i. may-group a t (record { 0 = 0 }) (record { 0 = 0 }) (octal 0 7 5 5) e o i)
+    (λ i. may-other a t (record { 0 = 0 }) (record { 0 = 0 }) (octal 0 7 5 5) e o i))
 
 -- the digit that an entry's mode has for the owner and for the group
 entry-digit : Kind → ℕ
@@ -80,14 +80,14 @@ module _ (u : Setup) (z : Bounded-role) where
 
   -- in `/rep` it has the owner's digit as role 0's, and else the digit of the group of all service accounts
   rep-allows : (t : Right) → allows account t rep-node ≡ grants (cond (same-role (z .role) (record { 0 = 0 })) 7 5) t
-  unfolding rep-node directory-of service-uid all-services
+  unfolding rep-node directory-of
   rep-allows t =
       let o : Uid = record { 0 = 16 } in
       let g : Gid = record { 0 = 24 } in
       let i : is-root (account .uid) ≡ false = service-not-root (u .pairs) z in
-      rw (allows-is account rep-node t, ← own-role (record { 0 = 0 })) (case (same-uid (account .uid) o)
+      rw (allows-is account rep-node t, ← own-role (record { 0 = 0 }), service-uid-is (record { 0 = 0 })) (case (same-uid (account .uid) o)
       (λ e. rw (e, may-owner account t o g (octal 0 7 5 0) i e))
-      (λ e. rw (e, may-group account t o g (octal 0 7 5 0) i e (member-all (u .pairs) z))))
+      (λ e. rw (e, may-group account t o g (octal 0 7 5 0) i e (rw all-services-is at (member-all (u .pairs) z)))))
 
   -- where both have the digit for a right, `/rep` grants it to every account
   rep-grants : (t : Right) → grants 7 t ≡ true → grants 5 t ≡ true → allows account t rep-node ≡ true
@@ -108,24 +108,24 @@ module _ (u : Setup) (z : Bounded-role) where
   directory-right t a b Directory v n c = rw (entry-allows t Directory v n c, directory-is-one, b)
 
   met-passes : (x : Filed) → allows account X (met x) ≡ filed-passes u z x
-  unfolding met filed-passes in-store grants
-  met-passes top = rep-grants X refl refl
-  met-passes (entry x) = directory-right X refl refl (x .kind) (x .role) (x .revision) (x .content)
+  unfolding met filed-passes in-store
+  met-passes top = rep-grants X (grants-7 X) (grants-5 .2)
+  met-passes (entry x) = directory-right X (grants-4 .2) (grants-7 X) (x .kind) (x .role) (x .revision) (x .content)
 
   met-writable : (x : Filed) → allows account W (met x) ≡ filed-writable u z x
-  unfolding met filed-writable in-store grants
-  met-writable top = rw (rep-allows W) (case (same-role (z .role) (record { 0 = 0 })) (λ t. rw t) (λ t. rw t))
-  met-writable (entry x) = directory-right W refl refl (x .kind) (x .role) (x .revision) (x .content)
+  unfolding met filed-writable in-store
+  met-writable top = rw (rep-allows W) (case (same-role (z .role) (record { 0 = 0 })) (λ t. rw t (grants-7 W)) (λ t. rw t (grants-5 .1)))
+  met-writable (entry x) = directory-right W (grants-4 .1) (grants-7 W) (x .kind) (x .role) (x .revision) (x .content)
 
   -- r alone
   r-of-kind : (k : Kind) (v : Bounded-role) (n : ℕ) (c : Text) → allows account R (entry-node k v n c) ≡ dominated u z v
-  unfolding grants entry-digit
-  r-of-kind File v n c = entry-allows R File v n c
-  r-of-kind Directory v n c = entry-allows R Directory v n c
+  unfolding entry-digit
+  r-of-kind File v n c = rw (entry-allows R File v n c, grants-4 .0)
+  r-of-kind Directory v n c = rw (entry-allows R Directory v n c, grants-7 R)
 
   met-r : (x : Filed) → allows account R (met x) ≡ filed-readable u z x
-  unfolding met filed-readable in-store grants
-  met-r top = rep-grants R refl refl
+  unfolding met filed-readable in-store
+  met-r top = rep-grants R (grants-7 R) (grants-5 .0)
   met-r (entry x) = r-of-kind (x .kind) (x .role) (x .revision) (x .content)
 
   -- what is readable by its role is passed by it too, where it is a directory
@@ -163,8 +163,8 @@ module _ (u : Setup) (z : Bounded-role) where
 
   -- `/` is a directory that the account passes
   pub top-passed : (is-directory (top-node .kind) ≡ true) × (allows (service (u .pairs) z) X top-node ≡ true)
-  unfolding top-node directory-of grants
-  top-passed = (directory-is-one, top-allows account (service-not-root (u .pairs) z) X)
+  unfolding top-node directory-of
+  top-passed = (directory-is-one, top-allows account (service-not-root (u .pairs) z) X ∙ grants-5 .2)
 
 -- what is met keeps its revision in the store
 pub revision-law : (x : Filed) → met x .revision ≡ filed-revision x

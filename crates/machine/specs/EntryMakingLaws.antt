@@ -9,7 +9,7 @@ use Rattle.accounts.specs.declared.Uid.{Uid}
 use Rattle.accounts.specs.declared.Right.the-variants.{R, W}
 use Rattle.accounts.specs.Access.{is-root}
 use Rattle.accounts.specs.Dominance.{Bounded-role}
-use Rattle.syntax.specs.Path.{Path, _▹_, Entry-path, parent, same-path, in-rep, entry-location}
+use Rattle.syntax.specs.Path.{Path, _▹_, Entry-path, parent, same-path, in-rep, entry-location, below-rep}
 use Rattle.syntax.specs.WithinLaws.{same-path-sound}
 use Rattle.commands.specs.Command.{login, logout, add, co, commit, up, del, Command, shell, repository}
 use Rattle.setup.specs.Setup.{Setup}
@@ -26,18 +26,18 @@ use Rattle.tree.specs.UpdateLaws.{walked-at}
 use Rattle.tree.specs.PlaceLaws.{leaf-here}
 use Rattle.tree.specs.OtherPathLaws.{put-stands, alter-none}
 use Rattle.tree.specs.HoldsLaws.{put-leaf-none, drop-still-none}
-use Rattle.copying.specs.Copying.{below-rep}
 use Rattle.shell.specs.Steps.{run-shell}
 use Rattle.store.specs.State.{Store}
 use Rattle.store.specs.Callers.{caller}
 use Rattle.machine.specs.Machine.{tagged, run-login, run-logout, session, run-add, run-co, working-file, original, run-commit, run-up, run-del, run-repository, run}
 use Rattle.machine.specs.StoreMachine.{store}
-use Rattle.machine.specs.AbstractMachine.{Abstract, Filed, entry, dominated, by-dominance, new-entry, abstract}
+use Rattle.machine.specs.AbstractMachine.{Abstract, Filed, entry, dominated, by-dominance, new-entry}
+use Rattle.machine.specs.AbstractInstance.{abstract}
 use Rattle.machine.specs.Embedding.{in-store, met}
 use Rattle.machine.specs.Observed.{Reached-without-root}
 use Rattle.machine.specs.SimulationLaws.{remove-tie}
-use Rattle.machine.specs.EntryChanges.{node-of, entry-of, Rightful, Making, by-add}
-use Rattle.machine.specs.EntryPlacesLaws.{same-entry, of-holds, of-none, no-entry-place, free, filed-after, revised-after, by-session, node-tied, no-node, none-tied, tagged-tied, rightful-tied, In-both, in-both}
+use Rattle.machine.specs.EntryChanges.{node-of, entry-of, Making, by-add}
+use Rattle.machine.specs.EntryPlacesLaws.{same-entry, of-holds, of-none, no-entry-place, free, filed-after, revised-after, Rightful-apart, by-session, node-tied, no-node, none-tied, tagged-tied, rightful-tied, In-both, in-both}
 
 -- ---- one command of the abstract machine
 
@@ -45,7 +45,7 @@ use Rattle.machine.specs.EntryPlacesLaws.{same-entry, of-holds, of-none,
 data Made (u : Setup) (h : Abstract) (c : Caller) (e : Entry-path) (h′ : Abstract) : Command → Type 0 where
   adds : {w : Path} {r : Bounded-role} (d : Place Node) → walk (by-modes (c .account)) (h .workspace) w ≡ done d → owns (c .account) (d .here) ≡ true
       → entry-of h′ e ≡ some (entry (new-entry (d .here .kind) r (d .here .content))) → h′ .workspace ≡ tagged w e 1 (h .workspace)
-      → Rightful u (h .sessions) c r → Made u h c e h′ (repository (add w e r))
+      → Rightful-apart u h c e r → Made u h c e h′ (repository (add w e r))
 
 module _ (u : Setup) (h : Abstract) (c : Caller) (e : Entry-path) (missing : entry-of h e ≡ none)
     (still : (e′ : Entry-path) → entry-of (abstract .remove e′ h) e ≡ none) where
@@ -74,12 +74,12 @@ module _ (u : Setup) (h : Abstract) (c : Caller) (e : Entry-path) (missing : ent
 
   own-add : (w : Path) (e′ : Entry-path) (r : Bounded-role) (d : Place Node)
       → walk (by-modes (c .account)) (h .workspace) w ≡ done d → owns (c .account) (d .here) ≡ true
-      → Rightful u (h .sessions) c r → (h′ : Abstract) → h′ .workspace ≡ tagged w e′ 1 (h .workspace)
+      → Rightful-apart u h c e′ r → (h′ : Abstract) → h′ .workspace ≡ tagged w e′ 1 (h .workspace)
       → (entry-of h′ e ≡ none) ⊎ ((e ≡ e′) × (entry-of h′ e ≡ some (entry (new-entry (d .here .kind) r (d .here .content)))))
       → (entry-of h′ e ≡ none) ⊎ Made u h c e h′ (repository (add w e′ r))
   own-add w e′ r d led owned right h′ workspace (inl k) = inl k
   own-add w e′ r d led owned right h′ workspace (inr k) =
-      inr (rw (← k .0) (adds d led owned (k .1) (workspace ∙ ap (λ p. tagged w p 1 (h .workspace)) (sym (k .0))) right))
+      inr (rw (← k .0) (adds d led owned (k .1) (workspace ∙ ap (λ p. tagged w p 1 (h .workspace)) (sym (k .0))) (rw (k .0) right)))
 
   add-unmade : (w : Path) (e′ : Entry-path) (r : Bounded-role) → Ensures (Unmade (repository (add w e′ r))) (run-add abstract u h c w e′ r)
   unfolding run-add Unmade dominated below-rep parent
@@ -91,11 +91,11 @@ module _ (u : Setup) (h : Abstract) (c : Caller) (e : Entry-path) (missing : ent
       then-check Reserved tt _ λ right.
       then-do (parent-walk (by-dominance u z) (abstract .entries h) (below-rep e′)) λ f j.
       then-guard (any-outcome (unused (e′ .name) (f .below))) λ k.
-      then-check Access tt _ λ _.
+      then-check Access tt _ λ may.
       then-check Full tt _ λ _.
       let t = abstract .entries h in
       let folder = walked-at t (by-dominance u z) (e′ .folder) f (parent-walked (by-dominance u z) t (e′ .folder ▹ e′ .name) j .0) in
-      gives (own-add w e′ r d led owned (by-session u h c z i r right) _ refl
+      gives (own-add w e′ r d led owned (by-session u h c z i e′ f folder may r right) _ refl
       (filed-there e′ f folder (free (by-dominance u z) t e′ f j k) (entry (new-entry (d .here .kind) r (d .here .content))) _ (filed-after e′ (d .here .kind) r (d .here .content) h)))
 
   co-unmade : (e′ : Entry-path) (d : Path) → Ensures (Unmade (repository (co e′ d))) (run-co abstract u h c e′ d)
@@ -177,7 +177,7 @@ module _ (u : Setup) {s s′ : Store} {c : Caller} {command : Command} (b : In-b
       let h = b .apart in
       let t = tagged-tied (b .tie) (b .tie-after) (b .owned-outside w d led owned) e 1 workspace d (walked-at (h .workspace) (by-modes (c .account)) w d led) in
       by-add (record { working = d; stood = t .0; made = node-tied (b .tie-after) e ∙ ap (Option·map met) made; is-tagged = t .1 })
-      (rightful-tied u (b .tie) c r r refl right)
+      (rightful-tied u (b .tie) c e r r refl right)
 
   -- or in neither
   either-tied : (entry-of (b .outcome .state) e ≡ none) ⊎ Made u (b .apart) c e (b .outcome .state) command

@@ -4,17 +4,19 @@ use mathlib.Core.Option.{Option, none, some, Option·map, map-eq-some-iff}
 use mathlib.Core.Bool.{true, false, not}
 use Prim.Native.Nat.{ℕ}
 use lib.ListN.{getD}
+use Rattle.buffers.specs.Cases.{and-both, contra}
 use Rattle.buffers.specs.Text.{Text}
 use Rattle.accounts.specs.declared.Caller.{Caller}
 use Rattle.accounts.specs.declared.Uid.{Uid}
 use Rattle.accounts.specs.Access.{is-root}
-use Rattle.accounts.specs.Dominance.{Bounded-role, dominates}
-use Rattle.syntax.specs.Path.{Path, _▹_, Entry-path, parent, last, in-rep, entry-location}
+use Rattle.accounts.specs.Dominance.{Bounded-role, dominates, same-role-is}
+use Rattle.syntax.specs.Path.{Path, _▹_, Entry-path, parent, last, in-rep, entry-location, below-rep}
 use Rattle.syntax.specs.FormLaws.{no-answer}
 use Rattle.commands.specs.Command.{Command}
 use Rattle.setup.specs.Setup.{Setup}
 use Rattle.setup.specs.SetupLaws.{accepted-is-setup}
 use Rattle.tree.specs.declared.Kind.{Kind}
+use Rattle.tree.specs.declared.Kind.the-variants.{File, Directory}
 use Rattle.tree.specs.declared.Cause.the-variants.{NoSession}
 use Rattle.tree.specs.Result.{done, Outcome}
 use Rattle.tree.specs.ResultLaws.{present-some}
@@ -24,6 +26,7 @@ use Rattle.tree.specs.ForestLaws.{leaf-map}
 use Rattle.tree.specs.RootedLaws.{rooted-put, rooted-drop, rooted-alter}
 use Rattle.tree.specs.Node.{is-directory, Node, set-tag, owns}
 use Rattle.tree.specs.Walk.{Judge, by-modes, walk, parent-walk, unused}
+use Rattle.tree.specs.JudgeLaws.{file-is-none}
 use Rattle.tree.specs.StepLaws.{was-unused, parent-walked}
 use Rattle.tree.specs.UpdateLaws.{place-at-child, walked-at}
 use Rattle.tree.specs.OtherPathLaws.{changed-at}
@@ -31,20 +34,20 @@ use Rattle.tree.specs.MapLaws.{map-here}
 use Rattle.tree.specs.WellFormed.{is-tree}
 use Rattle.tree.specs.Graft.{Outside}
 use Rattle.tree.specs.HoldsLaws.{place-map, place-inside, place-outside}
-use Rattle.copying.specs.Copying.{below-rep}
 use Rattle.store.specs.State.{Store, state-of}
 use Rattle.store.specs.StateLaws.{parts}
 use Rattle.store.specs.Callers.{caller}
 use Rattle.machine.specs.Machine.{tagged, session, run}
 use Rattle.machine.specs.StoreMachine.{store}
-use Rattle.machine.specs.AbstractMachine.{Abstract, Filed, top, entry, dominated, new-entry, next-entry, abstract}
-use Rattle.machine.specs.Embedding.{stored, met, embed}
+use Rattle.machine.specs.AbstractMachine.{Abstract, Filed, top, entry, dominated, filed-writable, by-dominance, new-entry, next-entry}
+use Rattle.machine.specs.AbstractInstance.{abstract}
+use Rattle.machine.specs.Embedding.{in-store, stored, met, embed}
 use Rattle.machine.specs.Observed.{Reached-without-root}
 use Rattle.machine.specs.MachineKeepingLaws.{reached-well-formed}
-use Rattle.machine.specs.Simulation.{Kept, Tie}
+use Rattle.machine.specs.Simulation.{Tie}
 use Rattle.machine.specs.SimulationLaws.{stored-is-met, run-agrees, file-is-outside, owned-is-outside}
 use Rattle.machine.specs.ComparedLaws.{reached-tie}
-use Rattle.machine.specs.EntryChanges.{node-of, entry-of, Rightful}
+use Rattle.machine.specs.EntryChanges.{node-of, entry-of, Writes-in, in-top, in-directory, Rightful}
 
 -- ---- entries and places
 
@@ -113,11 +116,27 @@ removed-after e h = sym (rooted-drop entry top (e .folder) (e .name) (h .entries
 
 -- ---- rights
 
--- the session's role dominates another
+-- the caller's session has a role that dominates r and writes in the directory of e, as the abstract machine judges it
+pub record Rightful-apart (u : Setup) (h : Abstract) (c : Caller) (e : Entry-path) (r : Bounded-role) : Type 0 where
+  pub role : Bounded-role
+  pub session : getD (h .sessions) (c .account .uid .0) none ≡ some role
+  pub dominates : dominated u role r ≡ true
+  pub folder : Place Filed
+  pub stands : place-at (abstract .entries h) (e .folder) ≡ some folder
+  pub writes : filed-writable u role (folder .here) ≡ true
+
 pub by-session : (u : Setup) (h : Abstract) (c : Caller) (z : Bounded-role) → session abstract u h c ≡ done z
-    → (r : Bounded-role) → dominated u z r ≡ true → Rightful u (h .sessions) c r
-unfolding session
-by-session u h c z i r b = record { role = z; session = present-some (getD (h .sessions) (c .account .uid .0) none) NoSession i; dominates = b }
+    → (e : Entry-path) (f : Place Filed) → place-at (abstract .entries h) (e .folder) ≡ some f → by-dominance u z .writable (f .here) ≡ true
+    → (r : Bounded-role) → dominated u z r ≡ true → Rightful-apart u h c e r
+unfolding session by-dominance
+by-session u h c z i e f there w r b = record {
+  role = z;
+  session = present-some (getD (h .sessions) (c .account .uid .0) none) NoSession i;
+  dominates = b;
+  folder = f;
+  stands = there;
+  writes = w;
+}
 
 -- ---- a store that holds what the abstract machine holds
 
@@ -125,16 +144,19 @@ here-map : (o : Option (Place Filed)) → Option·map (λ d. d .here) (Option·m
 here-map none = refl
 here-map (some d) = ap some (map-here met d)
 
--- the node at an entry path is how the entry stands in the store
-node-embed : (h : Abstract) → Kept h → (e : Entry-path) → node-of (embed h) e ≡ Option·map met (entry-of h e)
-unfolding node-of entry-of embed entry-location below-rep in-rep
-node-embed h k e =
-    let p = e .folder ▹ e .name in
-    rw (place-inside (stored (h .entries)) (h .workspace) (k .there) p, stored-is-met (h .entries), place-map met (abstract .entries h) p) (here-map (place-at (abstract .entries h) p))
+-- below `/rep` stands what a walk from there meets
+met-tied : {s : Store} {h : Abstract} → Tie s h → (p : Path) → place-at (s .tree) (in-rep p) ≡ Option·map (map-place met) (place-at (abstract .entries h) p)
+unfolding embed
+met-tied {h} t p =
+    ap (λ s. place-at (s .tree) (in-rep p)) (t .same)
+    ∙ rw (place-inside (stored (h .entries)) (h .workspace) (t .kept .there) p, stored-is-met (h .entries)) (place-map met (abstract .entries h) p)
 
--- and so in any store that holds what the abstract machine holds
+-- so the node at an entry path is how the entry stands in the store
 pub node-tied : {s : Store} {h : Abstract} → Tie s h → (e : Entry-path) → node-of s e ≡ Option·map met (entry-of h e)
-node-tied {h} t e = ap (λ s. node-of s e) (t .same) ∙ node-embed h (t .kept) e
+unfolding node-of entry-of entry-location below-rep in-rep
+node-tied {h} t e =
+    let p = e .folder ▹ e .name in
+    ap (Option·map (λ d. d .here)) (met-tied t p) ∙ here-map (place-at (abstract .entries h) p)
 
 -- where no node is there is no place
 pub no-node : (s : Store) (e : Entry-path) → node-of s e ≡ none → place-at (s .tree) (entry-location e) ≡ none
@@ -160,14 +182,30 @@ tagged-tied {h} t t′ {w} o e revision made d there = (
   place-tied t′ o ∙ ap (λ b. place-at b w) made ∙ changed-at (h .workspace) w (alter (set-tag (record { path = e; revision = revision }))) d there,
 )
 
+-- what is of a directory's kind
+a-directory : (k : Kind) → is-directory k ≡ true → k ≡ Directory
+a-directory File b = contra b file-is-none
+a-directory Directory b = refl
+
+-- a role writes in the store where the abstract machine says so
+writes-met : (u : Setup) (z : Bounded-role) (x : Filed) → filed-writable u z x ≡ true → Writes-in u z (met x)
+unfolding filed-writable met in-store
+writes-met u z top b = in-top (ap (λ r. r .0) (same-role-is (z .role) (record { 0 = 0 }) b))
+writes-met u z (entry x) b =
+    let k = and-both (is-directory (x .kind)) (dominated u z (x .role)) b in
+    rw (a-directory (x .kind) (k .0)) (in-directory (x .role) (x .revision) (x .content) (k .1))
+
 -- the sessions are the same, and roles of one number dominate alike
-pub rightful-tied : (u : Setup) {s : Store} {h : Abstract} → Tie s h → (c : Caller) (q r : Bounded-role) → q .role ≡ r .role
-    → Rightful u (h .sessions) c q → Rightful u (s .sessions) c r
+pub rightful-tied : (u : Setup) {s : Store} {h : Abstract} → Tie s h → (c : Caller) (e : Entry-path) (q r : Bounded-role) → q .role ≡ r .role
+    → Rightful-apart u h c e q → Rightful u s c e r
 unfolding embed dominated
-rightful-tied u t c q r same k = record {
+rightful-tied u t c e q r same k = record {
   role = k .role;
   session = ap (λ s. getD (s .sessions) (c .account .uid .0) none) (t .same) ∙ k .session;
   dominates = ap (dominates (u .pairs) (k .role .role)) (sym same) ∙ k .dominates;
+  folder = map-place met (k .folder);
+  stands = met-tied t (e .folder) ∙ ap (Option·map (map-place met)) (k .stands);
+  writes = rw (map-here met (k .folder)) (writes-met u (k .role) (k .folder .here) (k .writes));
 }
 
 -- ---- a person's done command

@@ -1,6 +1,8 @@
 pub mod Machine
 pub mod StoreMachine
 pub mod AbstractMachine
+pub mod AbstractInstance
+pub mod AbstractInstanceLaws
 pub mod LoginLaws
 pub mod Embedding
 pub mod Runs
@@ -24,5 +26,6 @@ pub mod ReadingLaws
 pub mod MachinePrivacyLaws
 pub mod Theorems
 pub mod Compute
+pub mod Cases
 pub mod Acting
 pub mod ActingLaws

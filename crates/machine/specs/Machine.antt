@@ -1,8 +1,9 @@
 -- Document 01's commands over any machine that holds a workspace, sessions and a repository.
 --
 -- A person's part is done in the workspace by the access test; the account's part in the repository, by the machine's own
--- judge. The store and the abstract machine are two instances of this one text. Throughout, w is the path of a working file
--- or directory, e an entry path, d the path of a copy to be made, z the session's role and r an entry's.
+-- judge. The store is an instance of this text. The abstract machine stands apart (`AbstractMachine`), and is the text at another
+-- instance (`AbstractInstanceLaws`). Throughout, w is the path of a working file or directory, e an entry path, d the path of a
+-- copy to be made, z the session's role and r an entry's.
 use mathlib.Core.Option.{Option, none, some}
 use mathlib.Core.Bool.{Bool, not}
 use Prim.Native.Nat.{ℕ, suc, _+_}
@@ -13,7 +14,7 @@ use Rattle.accounts.specs.declared.Caller.{Caller}
 use Rattle.accounts.specs.declared.Right.{Right}
 use Rattle.accounts.specs.declared.Right.the-variants.{R, W}
 use Rattle.accounts.specs.Dominance.{Bounded-role, dominates}
-use Rattle.syntax.specs.Path.{Path, Entry-path, parent, last, depth, most-names}
+use Rattle.syntax.specs.Path.{Path, Entry-path, parent, last, depth, most-names, below-rep}
 use Rattle.commands.specs.Command.{Repository-command, login, logout, add, co, commit, up, del, Command, shell, repository}
 use Rattle.setup.specs.Setup.{Setup}
 use Rattle.tree.specs.declared.Kind.{Kind}
@@ -23,7 +24,7 @@ use Rattle.tree.specs.Forest.{Place, is-empty, update, alter, put, size, height
 use Rattle.tree.specs.Node.{is-directory, Tag, Node, allows, set-tag, set-content, owns}
 use Rattle.tree.specs.Walk.{Judge, by-modes, unused, walk, parent-walk, room}
 use Rattle.tree.specs.WellFormed.{last-revision}
-use Rattle.copying.specs.Copying.{below-rep, Source, copy}
+use Rattle.copying.specs.Copying.{Source, copy}
 use Rattle.shell.specs.Steps.{fit, run-shell}
 use Rattle.store.specs.State.{Sessions}
 use Rattle.store.specs.Callers.{granted}

@@ -15,7 +15,7 @@ use Rattle.accounts.specs.declared.Right.{Right}
 use Rattle.accounts.specs.declared.Right.the-variants.{R, W}
 use Rattle.accounts.specs.Access.{is-root}
 use Rattle.accounts.specs.Dominance.{Bounded-role}
-use Rattle.syntax.specs.Path.{Path, Entry-path}
+use Rattle.syntax.specs.Path.{Path, Entry-path, below-rep}
 use Rattle.commands.specs.Command.{line, Repository-command, login, logout, add, co, commit, up, del, Command, shell, repository}
 use Rattle.setup.specs.Setup.{Setup, person}
 use Rattle.tree.specs.declared.Cause.{Cause}
@@ -29,7 +29,6 @@ use Rattle.tree.specs.Node.{Node}
 use Rattle.tree.specs.Walk.{by-modes, walk, parent-walk}
 use Rattle.tree.specs.WalkRefusalLaws.{unused-refuses, walk-refuses, parent-walk-refuses}
 use Rattle.tree.specs.WellFormed.{is-tree}
-use Rattle.copying.specs.Copying.{below-rep}
 use Rattle.shell.specs.Steps.{text-of}
 use Rattle.shell.specs.Answers.{Own, Text-fits}
 use Rattle.shell.specs.ShellAnswerLaws.{none-fits, room-refuses, run-shell-answers, place-text-fits}

@@ -8,17 +8,17 @@ use Prim.Native.Nat.{ℕ, suc, _+_, _≤_}
 use native.Mathlib.Omega.{arith}
 use lib.Dec.{eqb, leb, ltb}
 use lib.ListN.{length, set, length-set}
-use borrow.Author.Tests.{not-true, eqb-false, leb-true, le-leb, ltb-true, lt-ltb}
+use borrow.Author.Tests.{not-true, eqb-false, leb-true, le-leb, ltb-true}
 use Rattle.buffers.specs.Cases.{and-both}
 use Rattle.buffers.specs.Text.{Text}
 use Rattle.accounts.specs.declared.Caller.{Caller}
 use Rattle.accounts.specs.declared.Uid.{Uid}
 use Rattle.accounts.specs.declared.Right.{Right}
 use Rattle.accounts.specs.declared.Right.the-variants.{R, W}
-use Rattle.accounts.specs.Caller.{is-caller}
+use Rattle.accounts.specs.Caller.{is-caller, caller-low}
 use Rattle.accounts.specs.Dominance.{Bounded-role}
 use Rattle.accounts.specs.Service.{service}
-use Rattle.syntax.specs.Path.{Path, _▹_, Entry-path, parent, depth, in-rep, entry-location, is-path, is-entry-path, most-names}
+use Rattle.syntax.specs.Path.{Path, _▹_, Entry-path, parent, depth, in-rep, entry-location, is-path, is-entry-path, most-names, below-rep}
 use Rattle.syntax.specs.PathLaws.{entry-parts}
 use Rattle.commands.specs.Command.{line, Repository-command, login, logout, add, co, commit, up, del, Command, shell, repository, is-repository-command, is-command, is-line}
 use Rattle.commands.specs.CommandLaws.{line-is-line}
@@ -41,7 +41,7 @@ use Rattle.tree.specs.UpdateLaws.{leaf-height}
 use Rattle.tree.specs.NodeLaws.{last-revision-is, node-ranges, node-of-revision, node-of-tag, node-of-content, kind-of-set-revision, kind-of-set-tag, kind-of-set-content}
 use Rattle.tree.specs.WellFormedLaws.{place-node, leaf-place, entered-directory, walked-place, walked-depth}
 use Rattle.tree.specs.ChangeLaws.{keep-alter, keep-alter-all, keep-put, keep-drop}
-use Rattle.copying.specs.Copying.{below-rep, copy}
+use Rattle.copying.specs.Copying.{copy}
 use Rattle.copying.specs.CopyLaws.{copy-is-place}
 use Rattle.shell.specs.ShellKeepingLaws.{fit-most, room-keeps, run-shell-keeps}
 use Rattle.shell.specs.Replies.{after}
@@ -236,10 +236,9 @@ module _ (u : Setup) (g : is-setup u ≡ true) (s : Store) (w : well-formed (sta
 
 -- who calls is in range
 caller-fits : (u : Setup) → is-setup u ≡ true → (v : Uid) (c : Caller) → caller u v ≡ done c → is-caller c ≡ true
-unfolding is-caller
 caller-fits u g v c h =
     let i = caller-in-range u g v c h in
-    rw (lt-ltb (c .account .uid .0) 24 (omega (arith, ltb-true (c .account .uid .0) 16 (i .0)))) (lt-ltb (c .primary .0) 25 (omega (arith, ltb-true (c .primary .0) 16 (i .1))))
+    caller-low c (omega (arith, ltb-true (c .account .uid .0) 16 (i .0))) (omega (arith, ltb-true (c .primary .0) 16 (i .1)))
 
 -- what holds before a call and is gives of it holds after it
 after-keeps : (P : Store → Type 0) {r : Result (Outcome Store)} (s : Store) → P s → Ensures (λ o. P (o .state)) r → P (after s r)

@@ -3,18 +3,15 @@
 use mathlib.Core.Path.{_≡_, refl, _∙_, ap}
 use mathlib.Core.Option.{some}
 use mathlib.Core.Bool.{true, false, not}
-use Prim.Native.Nat.{_+_}
-use native.Mathlib.Omega.{arith}
-use borrow.Author.Tests.{ltb-true, ne-eqb}
+use borrow.Author.Tests.{ltb-true}
 use lib.Dec.{ltb}
 use Rattle.buffers.specs.Cases.{contra}
 use Rattle.accounts.specs.declared.Caller.{Caller}
 use Rattle.accounts.specs.declared.Right.{Right}
 use Rattle.accounts.specs.declared.Right.the-variants.{R, W, X}
-use Rattle.accounts.specs.Access.{same-uid}
 use Rattle.accounts.specs.Dominance.{Bounded-role}
-use Rattle.accounts.specs.Service.{service-uid, service, service-not-root, service-own}
-use Rattle.syntax.specs.Path.{Path, _▹_, Entry-path, parent, last, within, lies-below, in-rep, entry-location}
+use Rattle.accounts.specs.Service.{service, service-not-root, service-own, service-foreign}
+use Rattle.syntax.specs.Path.{Path, _▹_, Entry-path, parent, last, within, lies-below, in-rep, entry-location, below-rep}
 use Rattle.syntax.specs.WithinLaws.{outside-differs}
 use Rattle.commands.specs.Command.{Shell-command, Repository-command, login, logout, add, co, commit, up, del, Command, shell, repository, some-path, some-working-path, some-walked-path}
 use Rattle.setup.specs.Setup.{Setup}
@@ -30,7 +27,6 @@ use Rattle.tree.specs.Walk.{by-modes, unused, walk, parent-walk}
 use Rattle.tree.specs.WellFormed.{is-tree}
 use Rattle.tree.specs.JudgeLaws.{kind-by-modes, readable-by-modes, writable-by-modes}
 use Rattle.tree.specs.OtherPathLaws.{alter-keeps}
-use Rattle.copying.specs.Copying.{below-rep}
 use Rattle.shell.specs.ShutLaws.{never-walked, never-room, never-run}
 use Rattle.shell.specs.Privacy.{Private, Unaltered, in-place, walks-first}
 use Rattle.shell.specs.ShellPrivacyLaws.{private-shut, private-foreign, private-outside, put-private, drop-private, room-private, run-shell-through, run-shell-private}
@@ -75,10 +71,9 @@ module _ (u : Setup) (s : Store) (c : Caller) (p : Path) (d : Place Node) (there
   module _ (small : ltb (d .here .owner .0) 16 ≡ true) where
     -- it is private for every service account too
     service-private : (z : Bounded-role) → Private (service (u .pairs) z) d
-    unfolding same-uid service-uid
     service-private z = record {
       not-root = service-not-root (u .pairs) z;
-      foreign = rw (service-own (u .pairs) z) (ne-eqb (16 + z .role .0) (d .here .owner .0) (λ e. omega (arith, ltb-true (d .here .owner .0) 16 small)));
+      foreign = rw (service-own (u .pairs) z) (service-foreign (z .role) (d .here .owner) (ltb-true (d .here .owner .0) 16 small));
       mode = v .mode;
       directory = v .directory;
     }

@@ -38,7 +38,8 @@ use Rattle.store.specs.StateLaws.{parts, formed}
 use Rattle.store.specs.Initial.{directory-of, rep-node, initial-store}
 use Rattle.store.specs.InitialLaws.{initial-few, initial-well-formed}
 use Rattle.machine.specs.StoreMachine.{entry-node, store}
-use Rattle.machine.specs.AbstractMachine.{Entry, Abstract, Filed, top, entry, dominated, filed-kind, filed-passes, filed-readable, filed-writable, by-dominance, new-entry, abstract, initial-abstract}
+use Rattle.machine.specs.AbstractMachine.{Entry, Abstract, Filed, top, entry, dominated, filed-kind, filed-passes, filed-readable, filed-writable, by-dominance, new-entry, initial-abstract}
+use Rattle.machine.specs.AbstractInstance.{abstract}
 use Rattle.machine.specs.Embedding.{met, embed}
 use Rattle.machine.specs.EntryJudgeLaws.{passes-law, readable-law, writable-law}
 use Rattle.machine.specs.EntryRangeLaws.{entry-fits}

@@ -3,7 +3,7 @@ use mathlib.Core.Path.{_≡_, refl}
 use mathlib.Core.Option.{none, some}
 use mathlib.Core.Bool.{false}
 use lib.Dec.{eqb}
-use Rattle.accounts.specs.Access.{is-root, same-uid}
+use Rattle.accounts.specs.Access.{is-root-is}
 use Rattle.commands.specs.Command.{Line, line}
 use Rattle.machine.specs.Runs.{Call, least-room, of-root, root's}
 
@@ -18,5 +18,5 @@ no-form-not-root's call e = rw e
 
 -- one with a listed form is by its caller
 pub root's-by-caller : (call : Call) (l : Line) → line (call .line) ≡ some l → root's call ≡ eqb (l .caller .0) 0
-unfolding root's of-root is-root same-uid
-root's-by-caller call l e = rw e
+unfolding root's of-root
+root's-by-caller call l e = rw (e, is-root-is (l .caller))

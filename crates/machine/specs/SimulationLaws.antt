@@ -13,7 +13,7 @@ use Rattle.accounts.specs.declared.Right.the-variants.{R, W}
 use Rattle.accounts.specs.Access.{is-root}
 use Rattle.accounts.specs.Dominance.{Bounded-role}
 use Rattle.accounts.specs.Service.{service}
-use Rattle.syntax.specs.Path.{Path, _▹_, Entry-path, parent, in-rep, entry-location}
+use Rattle.syntax.specs.Path.{Path, _▹_, Entry-path, parent, in-rep, entry-location, below-rep}
 use Rattle.commands.specs.Command.{Shell-command, Repository-command, login, logout, add, co, commit, up, del, Command, shell, repository}
 use Rattle.setup.specs.Setup.{Setup, is-setup}
 use Rattle.tree.specs.declared.Kind.{Kind}
@@ -21,7 +21,7 @@ use Rattle.tree.specs.declared.Cause.the-variants.{Access, WrongKind, NotEmpty,
 use Rattle.tree.specs.Result.{Result, done, present}
 use Rattle.tree.specs.Outcomes.{Agree, both}
 use Rattle.tree.specs.AgreeLaws.{done-second, bind, each, check, guard}
-use Rattle.tree.specs.Forest.{Forest, nil, node, Place, insert, remove, at, update, update-forest, alter, put, drop, leaf, size, map-forest, map-place, rooted}
+use Rattle.tree.specs.Forest.{Forest, Place, insert, remove, at, update, update-forest, alter, put, drop, leaf, size, map-place, rooted}
 use Rattle.tree.specs.Node.{is-directory, Node, allows, owns}
 use Rattle.tree.specs.Walk.{by-modes, enter, walk, parent-walk, room}
 use Rattle.tree.specs.WellFormed.{nodes}
@@ -30,10 +30,11 @@ use Rattle.tree.specs.StepLaws.{enters}
 use Rattle.tree.specs.ForestLaws.{empty-map, leaf-map}
 use Rattle.tree.specs.RootedLaws.{rooted-here, rooted-size, rooted-put, rooted-drop, rooted-alter, rooted-map}
 use Rattle.tree.specs.PlaceLaws.{leaf-here, leaf-size}
-use Rattle.tree.specs.MapLaws.{map-nil, map-node, map-here, map-below, unused-map, walk-map, parent-walk-map}
+use Rattle.tree.specs.MapLaws.{map-here, map-below, unused-map, walk-map, parent-walk-map}
 use Rattle.tree.specs.Graft.{graft, Outside, Seen}
 use Rattle.tree.specs.GraftLaws.{nodes-graft, update-inside, walk-inside, parent-walk-inside, seen-here}
-use Rattle.copying.specs.Copying.{below-rep, Source, copied, copy-children, copy}
+use Rattle.copying.specs.Copying.{Source, copy}
+use Rattle.copying.specs.CopyLaws.{copy-map}
 use Rattle.shell.specs.Steps.{fit, run-shell}
 use Rattle.shell.specs.HidingLaws.{Kept-out, Beside, Alike, update-beside, walk-alike, owned-outside, file-outside, room-alike, fit-alike, run-shell-alike}
 use Rattle.store.specs.State.{Sessions, Store}
@@ -41,7 +42,8 @@ use Rattle.store.specs.Initial.{directory-of, top-node, rep-node}
 use Rattle.store.specs.Callers.{caller}
 use Rattle.machine.specs.Machine.{source, run-login, run-logout, session, run-add, run-co, working-file, original, run-commit, run-up, run-del, run-repository, run}
 use Rattle.machine.specs.StoreMachine.{entry-node, next-node, on-tree, store}
-use Rattle.machine.specs.AbstractMachine.{Entry, Abstract, Filed, top, entry, new-entry, next-entry, on-entries, abstract}
+use Rattle.machine.specs.AbstractMachine.{Entry, Abstract, Filed, top, entry, new-entry, next-entry, on-entries}
+use Rattle.machine.specs.AbstractInstance.{abstract}
 use Rattle.machine.specs.Embedding.{in-store, stored, met, embed}
 use Rattle.machine.specs.EntryJudgeLaws.{kind-law, passes-law, readable-law, writable-law, top-passed, revision-law, content-law, next-law}
 use Rattle.machine.specs.CallerLaws.{person-not-root, person-top, person-rep}
@@ -165,25 +167,10 @@ module _ (u : Setup) (z : Bounded-role) where
   apart = source abstract (abstract .judge u z)
 
   module _ (c : Caller) where
-    copied-law : (parent : Node) (e : Entry-path) (a : Filed)
-        → copied c in-tree parent e (met a) ≡ copied c apart parent e a
-    unfolding copied
-    copied-law parent e a = rw (kind-law u z a, content-law a, revision-law a)
-
-    children-law : (parent : Node) (folder : Path) (F : Forest Filed)
-        → copy-children c in-tree parent folder (map-forest met F) ≡ copy-children c apart parent folder F
-    unfolding copy-children
-    children-law parent folder nil = rw (map-nil met)
-    children-law parent folder (node n a cs rest) =
-        let e : Entry-path = record { folder = folder; name = n } in
-        rw (map-node met n a cs rest) (
-        rw (readable-law u z a, copied-law parent e a, children-law (copied c apart parent e a) (folder ▹ n) cs, children-law parent folder rest))
-
     -- what is copied from the store is what is copied apart
     copy-law : (parent : Node) (e : Entry-path) (d : Place Filed)
         → copy c in-tree parent e (map-place met d) ≡ copy c apart parent e d
-    unfolding copy
-    copy-law parent e d = rw (map-here met d, map-below met d) (rw (copied-law parent e (d .here)) (rw (children-law _ (below-rep e) (d .below))))
+    copy-law = copy-map c in-tree apart met (kind-law u z) (readable-law u z) revision-law content-law
 
 -- ---- the commands
 

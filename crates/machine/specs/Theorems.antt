@@ -38,7 +38,9 @@ use Rattle.store.specs.SoundStoreLaws
 use Rattle.store.specs.Callers.{caller}
 use Rattle.machine.specs.Machine.{Machine, run}
 use Rattle.machine.specs.StoreMachine.{store}
-use Rattle.machine.specs.AbstractMachine.{Abstract, Filed, dominated, abstract, initial-abstract}
+use Rattle.machine.specs.AbstractMachine.{Abstract, Filed, dominated, abstract-step, abstract-runs, initial-abstract}
+use Rattle.machine.specs.AbstractInstance.{abstract}
+use Rattle.machine.specs.AbstractInstanceLaws
 use Rattle.machine.specs.Embedding.{met, embed}
 use Rattle.machine.specs.Runs.{Call, step, runs, root's}
 use Rattle.machine.specs.RunsLaws
@@ -58,7 +60,7 @@ use Rattle.machine.specs.MachinePrivacyLaws
 -- Demand 3. For every setup text that is taken and every list of calls, of any bytes and with any answer buffers, none of them
 -- root's, the store and the abstract machine give the same replies, and afterwards hold the same people's tree, sessions and entries.
 pub demand-3 : (text : Text) (u : Setup) → setup text ≡ accepted u → (calls : List Call) → without-root calls ≡ true →
-    Compared (runs store u (initial-store u) calls) (runs abstract u (initial-abstract u) calls)
+    Compared (runs store u (initial-store u) calls) (abstract-runs u (initial-abstract u) calls)
 demand-3 = ComparedLaws.compared-lists
 
 -- A line without a listed form is not root's, one with a listed form is by its caller.
@@ -67,6 +69,10 @@ root-has-a-form = RunsLaws.no-form-not-root's
 
 pub root-is-caller-0 : (call : Call) (l : Line) → line (call .line) ≡ some l → root's call ≡ eqb (l .caller .0) 0
 root-is-caller-0 = RunsLaws.root's-by-caller
+
+-- The abstract machine is an instance of the text that the store is one of, so what is said of any machine is said of it.
+pub abstract-is-a-machine : (u : Setup) (h : Abstract) (call : Call) → step abstract u h call ≡ abstract-step u h call
+abstract-is-a-machine = AbstractInstanceLaws.step-is
 
 -- On either machine no call is refused 18, and 20 only with an answer buffer of less than 4,096 bytes.
 pub no-call-is-18 : {S A : Type 0} (M : Machine S A) (u : Setup) (s : S) (call : Call) → step M u s call ≡ refused Unsound → ⊥
@@ -105,16 +111,17 @@ pub shell-reaches-no-entry : (u : Setup) (s : Store) → Reached-without-root u 
     (command : Shell-command) → names-entry command ≡ true → (why : Cause) × (run store u s c (shell command) ≡ refused why)
 shell-reaches-no-entry = KeptOutLaws.shell-refused
 
--- A person's done command leaves an entry as it is, or the session's role dominates the entry's and the command is a `commit` of a
--- file tagged with its path and revision, which gives it the file's content and the next revision, or the `del` that removes it.
+-- A person's done command leaves an entry as it is, or the session's role dominates the entry's and writes in its directory, and the
+-- command is a `commit` of a file tagged with its path and revision, which gives it the file's content and the next revision, or the
+-- `del` that removes it.
 pub entry-changed-by-right : (u : Setup) (s : Store) → Reached-without-root u s → (v : Uid) (c : Caller) → is-root v ≡ false → caller u v ≡ done c →
     (command : Command) (o : Outcome Store) → run store u s c command ≡ done o →
     (e : Entry-path) (kind : Kind) (r : Bounded-role) (revision : ℕ) (content : Text) → Filed-as s e kind r revision content →
-    Filed-as (o .state) e kind r revision content ⊎ (Change s (o .state) e kind r revision command × Rightful u (s .sessions) c r)
+    Filed-as (o .state) e kind r revision content ⊎ (Change s (o .state) e kind r revision command × Rightful u s c e r)
 entry-changed-by-right = EntryChangesLaws.stored-entry-changed
 
 -- Where nothing stands, a person's done command leaves nothing, or is an `add` there in a session whose role dominates that of the
--- new entry, which has revision 1 and the kind and content of the file or directory added.
+-- new entry and writes in its directory; the entry has revision 1 and the kind and content of the file or directory added.
 pub entry-made-by-right : (u : Setup) (s : Store) → Reached-without-root u s → (v : Uid) (c : Caller) → is-root v ≡ false → caller u v ≡ done c →
     (command : Command) (o : Outcome Store) → run store u s c command ≡ done o →
     (e : Entry-path) → node-of s e ≡ none → (node-of (o .state) e ≡ none) ⊎ Making u s (o .state) c e command

@@ -16,7 +16,7 @@ use Rattle.syntax.specs.Path.{Path, _▹_, parent, last, depth, is-top, within,
 use Rattle.syntax.specs.PathLaws.{name-fits, parent-and-last}
 use Rattle.syntax.specs.WithinLaws.{deeper, lies, lies-outside}
 use Rattle.tree.specs.Layout.{row-width, row-start, most-rows}
-use Rattle.tree.specs.Forest.{Place, get, place-at, size}
+use Rattle.tree.specs.Forest.{Place, get, place-at, update, put, drop, size}
 use Rattle.tree.specs.Node.{Node, is-directory}
 use Rattle.tree.specs.WellFormed.{nodes, is-tree}
 use Rattle.tree.specs.Result.{done}
@@ -191,3 +191,9 @@ module _ {b : List ℕ} {at : ℕ} {to : Text} (m : Movable b at to) where
           ∙ ap (λ (x : ℕ). rows-put u j x rows-there) movable-count
           ∙ stands-place (found-stands (v .encoded) superuser (v .path) (v .found)) to (m .vacant .reads) (m .place)
           (place-below tree (m .from) (m .place) (tree-parts tree whole .whole) (m .stands .there)) remaining-room Q
+
+-- the tree with the place moved: taken out where it stood, then put in
+pub moved-is : {b : List ℕ} {at : ℕ} {to : Text} (m : Movable b at to)
+    → moved m ≡ update (parent (m .vacant .path)) (put (last (m .vacant .path)) (m .place)) (update (parent (m .from)) (drop (last (m .from))) (m .vacant .tree))
+unfolding moved remaining
+moved-is m = refl

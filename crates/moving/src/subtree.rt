@@ -29,15 +29,15 @@ use tree::SOME_ROWS;
 use tree::subtree_end;
 
 // The bytes of the arrays that hold rows on the way.
-const FEW_WIDTH: usize = 928;
+const FEW_WIDTH: usize = 908;
 
-const SOME_WIDTH: usize = 3712;
+const SOME_WIDTH: usize = 3632;
 
-const MANY_WIDTH: usize = 14848;
+const MANY_WIDTH: usize = 14528;
 
-const HALF_WIDTH: usize = 29696;
+const HALF_WIDTH: usize = 29056;
 
-const ALL_WIDTH: usize = 59392;
+const ALL_WIDTH: usize = 58112;
 
 // Takes n rows out into a buffer.
 fn take_held(tree: &mut [u8], at: usize, n: usize, held: &mut [u8])

@@ -154,7 +154,7 @@ module _ (t : Place Node) (p : Path) (d : Place Node) (h : is-tree t ≡ true) (
       let was : row-bytes (row-there p x) ≡ (row-head (row-there p x) ++ (name-of (row-there p (d .here)) ++ T)) ++ (two-bytes (g .revision) ++ Q) =
       row-parts (row-there p x) ∙ ap (λ (o : Option Tag). row-head (row-there p x) ++ (name-of (row-there p (d .here)) ++ (tag-bytes o ++ Q))) e
       ∙ regroup-four (row-head (row-there p x)) (name-of (row-there p (d .here))) T (two-bytes (g .revision)) Q in
-      change-law t p d h there 70 (row-head (row-there p x) ++ (name-of (row-there p (d .here)) ++ T)) (two-bytes (g .revision)) Q (length-so-far x T 54 lT) was (set-tag new) (two-bytes v)
+      change-law t p d h there 65 (row-head (row-there p x) ++ (name-of (row-there p (d .here)) ++ T)) (two-bytes (g .revision)) Q (length-so-far x T 49 lT) was (set-tag new) (two-bytes v)
       (length-two-bytes (g .revision) ∙ sym (length-two-bytes v))
       (row-parts (row-there p (set-tag new x)) ∙ regroup-four (row-head (row-there p x)) (name-of (row-there p (d .here))) T (two-bytes v) Q)
 
@@ -162,8 +162,8 @@ module _ (t : Place Node) (p : Path) (d : Place Node) (h : is-tree t ≡ true) (
   content-parts : (x : Node) → row-bytes (row-there p x) ≡ (row-head (row-there p x) ++ (name-of (row-there p (d .here)) ++ tag-bytes (x .tag))) ++ (padded content-width (x .content) ++ row-spare)
   content-parts x = row-parts (row-there p x) ∙ regroup-three (row-head (row-there p x)) (name-of (row-there p (d .here))) (tag-bytes (x .tag)) (padded content-width (x .content) ++ row-spare)
 
-  length-before-content : length (row-head (row-there p (d .here)) ++ (name-of (row-there p (d .here)) ++ tag-bytes (d .here .tag))) ≡ 72
-  length-before-content = length-so-far (d .here) (tag-bytes (d .here .tag)) 56 (length-tag-bytes (d .here .tag) tag-fits-there)
+  length-before-content : length (row-head (row-there p (d .here)) ++ (name-of (row-there p (d .here)) ++ tag-bytes (d .here .tag))) ≡ 67
+  length-before-content = length-so-far (d .here) (tag-bytes (d .here .tag)) 51 (length-tag-bytes (d .here .tag) tag-fits-there)
 
   length-content : length (padded content-width (d .here .content)) ≡ 80
   length-content = length-padded content-width (d .here .content) content-fits-there
@@ -173,14 +173,14 @@ module _ (t : Place Node) (p : Path) (d : Place Node) (h : is-tree t ≡ true) (
   unfolding set-content
   content-changed c l =
       let x = d .here in
-      change-law t p d h there 72 (row-head (row-there p x) ++ (name-of (row-there p (d .here)) ++ tag-bytes (x .tag))) (padded content-width (x .content)) row-spare length-before-content (content-parts x)
+      change-law t p d h there 67 (row-head (row-there p x) ++ (name-of (row-there p (d .here)) ++ tag-bytes (x .tag))) (padded content-width (x .content)) row-spare length-before-content (content-parts x)
       (set-content c) (padded content-width c) (length-content ∙ sym (length-padded content-width c l)) (content-parts (set-content c x))
 
   content-read : field-bytes (encode-tree t) (index-of t p) content-offset content-width ≡ padded content-width (d .here .content)
   content-read =
       let x = d .here in
-      ap (field-bytes (encode-tree t) (index-of t p) 72) (sym length-content)
-      ∙ field-law t p d h there 72 (row-head (row-there p x) ++ (name-of (row-there p (d .here)) ++ tag-bytes (x .tag))) (padded content-width (x .content)) row-spare length-before-content (content-parts x)
+      ap (field-bytes (encode-tree t) (index-of t p) 67) (sym length-content)
+      ∙ field-law t p d h there 67 (row-head (row-there p x) ++ (name-of (row-there p (d .here)) ++ tag-bytes (x .tag))) (padded content-width (x .content)) row-spare length-before-content (content-parts x)
 
 -- ---- at the row of a place
 

@@ -1,5 +1,5 @@
 -- What the commands' changes of the bytes make of the tree, where their checks have passed.
-use mathlib.Core.Path.{_≡_, refl, sym, _∙_, ap}
+use mathlib.Core.Path.{_≡_, sym, _∙_, ap}
 use mathlib.Core.List.{List}
 use mathlib.Core.Option.{some}
 use mathlib.Core.Bool.{true, false}
@@ -27,9 +27,10 @@ use Rattle.tree.specs.TreeBytes.{Stretch, Encodes, At}
 use Rattle.tree.specs.TreeBytesLaws.{at-within, at-here}
 use Rattle.edits.specs.Changes.{rows-put, rows-taken, fresh-node, fresh-row}
 use Rattle.edits.specs.EditLaws.{take-law}
+use Rattle.edits.specs.WrittenLaws.{fresh-node-is}
 use Rattle.gaps.specs.GapsLaws.{Standing, stands-child}
-use Rattle.moving.specs.Moving.{Movable, remaining, moved}
-use Rattle.moving.specs.MovingLaws.{superuser-room}
+use Rattle.moving.specs.Moving.{Movable, moved}
+use Rattle.moving.specs.MovingLaws.{superuser-room, moved-is}
 use Rattle.nodes.specs.NodeChecksLaws.{Moves}
 
 -- ---- `create`, `mkdir`
@@ -37,8 +38,8 @@ use Rattle.nodes.specs.NodeChecksLaws.{Moves}
 -- what is put in is the caller's new node
 made-is : (c : Caller) (above : Node) (kind : Kind) (mode : ℕ) (group : Gid) → group ≡ new-group c above
     → fresh-node (record { kind = kind; owner = c .account .uid; group = group; mode = mode; revision = 0 }) ≡ new-node c above kind mode
-unfolding fresh-node
-made-is c above kind mode group e = rw (e, new-node-is c above kind mode)
+made-is c above kind mode group e =
+    fresh-node-is (record { kind = kind; owner = c .account .uid; group = group; mode = mode; revision = 0 }) ∙ rw (e, new-node-is c above kind mode)
 
 pub create-law : (c : Caller) (kind : Kind) (mode : ℕ) {b : List ℕ} {t : Place Node} {p : Path} {row at k : ℕ} (g : Standing b t p (c .account) row at k)
     (s : Text) → path s ≡ some p → nodes t + 1 ≤ most-rows → (name : Name) (group : Gid) → name ≡ last p → group ≡ new-group c (row-at b row .here)
@@ -89,5 +90,5 @@ module _ {b : List ℕ} {t : Place Node} {p q : Path} {row : ℕ} {d : Place Nod
 
   -- to the tree of the steps
   pub movable-moves : moved movable ≡ update (parent q) (put (last q) d) (update (parent p) (drop (last p)) t)
-  unfolding movable moved remaining
-  movable-moves = refl
+  unfolding movable
+  movable-moves = moved-is movable

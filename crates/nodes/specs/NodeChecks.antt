@@ -2,13 +2,16 @@
 use mathlib.Core.Path.{_≡_}
 use mathlib.Core.List.{List}
 use mathlib.Core.Option.{some}
-use mathlib.Core.Bool.{_||_, not}
+use mathlib.Core.Bool.{Bool, _||_, not}
 use Prim.Native.Nat.{ℕ, _+_}
-use lib.Dec.{leb}
-use Rattle.buffers.specs.Text.{Text}
+use lib.Dec.{eqb, leb}
+use lib.ListN.{length}
+use Rattle.buffers.specs.Text.{Text, same-text}
 use Rattle.accounts.specs.declared.Account.{Account}
 use Rattle.accounts.specs.declared.Right.the-variants.{W}
+use Rattle.syntax.specs.Pieces.{bytes}
 use Rattle.syntax.specs.Path.{Path, path, parent, last, depth, within, reserved, most-names}
+use Rattle.syntax.specs.PathTextLaws.{text-goes-on-from}
 use Rattle.tree.specs.declared.Kind.{Kind}
 use Rattle.tree.specs.declared.Cause.the-variants.{Access, WrongKind, NotEmpty, Reserved, Full, IntoItself, TooDeep}
 use Rattle.tree.specs.Result.{Result, done, _>>=_, _>>_, require, Outcome}
@@ -16,8 +19,10 @@ use Rattle.tree.specs.Forest.{Place, is-empty, height}
 use Rattle.tree.specs.Node.{same-kind, Node, allows}
 use Rattle.tree.specs.Walk.{by-modes, unused, walk, parent-walk, room}
 use Rattle.tree.specs.WellFormed.{most-nodes, nodes}
-use Rattle.tree.specs.TreeBytes.{Encodes, At}
+use Rattle.tree.specs.RowAt.{row-at, all-rows}
+use Rattle.tree.specs.TreeBytes.{Encodes, Whichever}
 use Rattle.walks.specs.declared.Walked.{Walked}
+use Rattle.walks.specs.RowBelow.{has-children-in, height-in}
 use Rattle.walks.specs.RowWalk.{Spot, spot, outcome}
 use Rattle.shell.specs.declared.Answer.{Answer}
 use Rattle.shell.specs.CommandBytes.{Follows-silently}
@@ -30,9 +35,17 @@ Whichever-two b s u P = (t : Place Node) (p q : Path) → Encodes b t → path s
 abbrev pub Follows-at-two : (Place Node → Path → Path → Result (Outcome (Place Node))) → List ℕ → Text → Text → Answer → List ℕ → Type 0
 Follows-at-two steps b s u r b′ = Whichever-two b s u (λ t p q. Follows-silently (steps t p q) b r b′)
 
--- the rows that were told, after checks that came to a place
-abbrev pub spot-after : ℕ → ℕ → Result (Place Node) → Result Spot
-spot-after row above w = w >>= λ d. done (spot row above)
+-- ---- what the texts of paths tell
+
+-- a text is `/` or `/rep`
+unfoldable pub text-reserved : Text → Bool
+text-reserved s = same-text s (bytes "/") || same-text s (bytes "/rep")
+
+-- a text is another or goes on behind it with a `/`; whatever it is, it lies within a text of one byte, as everything lies below `/`
+unfoldable pub text-within : Text → Text → Bool
+text-within s u = eqb (length s) 1 || text-goes-on-from s u
+
+-- ---- the checks
 
 -- an account's checks in the tree t
 module _ (a : Account) (t : Place Node) where
@@ -68,31 +81,31 @@ module _ (a : Account) (t : Place Node) where
     require (leb (depth q + height (d .below)) most-names) TooDeep
     done d
 
-  -- as the code asks them, of the place d in the directory e that the walk to p came through: the room first
-  unfoldable pub entry-to : Path → Path → Place Node → Place Node → Result (Place Node)
-  entry-to p q d e = do
-    f ← room (by-modes a) t q
-    require (allows a W (e .here)) Access
-    require (not (within p q)) IntoItself
-    require (leb (depth q + height (d .below)) most-names) TooDeep
-    done d
+-- ---- what the code judges at a row and at that of the directory above it
 
--- the checks of `rm` and `rmdir` of the place d in the directory e that the walk came through
-unfoldable pub removal : Account → Kind → Place Node → Place Node → Result (Place Node)
-removal a kind d e = do
-  require (same-kind (d .here .kind) kind) WrongKind
-  require (allows a W (e .here)) Access
-  require (is-empty (d .below)) NotEmpty
-  done d
+-- the checks of `rm` and `rmdir`, of a node and the directory's: whether anything lies below it is told, and the rows
+unfoldable pub row-removal : Account → Kind → Node → Node → Bool → Spot → Result Spot
+row-removal a kind n above full there = do
+  require (same-kind (n .kind) kind) WrongKind
+  require (allows a W above) Access
+  require (not full) NotEmpty
+  done there
 
--- ---- what the code judges at the row of a place and that of the directory above it
+-- those of `mv` to a path, the room first: whether it lies within, and how high what is moved is, are told
+unfoldable pub row-move : Account → Place Node → Path → Node → Bool → ℕ → Spot → Result Spot
+row-move a t q above inside high there = do
+  f ← room (by-modes a) t q
+  require (allows a W above) Access
+  require (not inside) IntoItself
+  require (leb (depth q + high) most-names) TooDeep
+  done there
 
--- whether it may be removed
+-- whether the node of a row may be removed
 abbrev pub Judged-removal : List ℕ → Account → Kind → ℕ → ℕ → Walked → Type 0
 Judged-removal b a kind row above r =
-    (t : Place Node) (p q : Path) (d e : Place Node) → At b t p row d → At b t q above e → outcome r ≡ spot-after row above (removal a kind d e)
+    outcome r ≡ row-removal a kind (row-at b row .here) (row-at b above .here) (has-children-in (all-rows b) row) (spot row above)
 
--- whether it may be moved from one path to another
+-- whether it may be moved to a path
 abbrev pub Judged-move : List ℕ → Account → ℕ → ℕ → Text → Text → Walked → Type 0
 Judged-move b a row above from to r =
-    Whichever-two b from to (λ t p q. (d e : Place Node) → At b t p row d → At b t (parent p) above e → outcome r ≡ spot-after row above (entry-to a t p q d e))
+    Whichever b to (λ t q. outcome r ≡ row-move a t q (row-at b above .here) (text-within from to) (height-in (all-rows b) row) (spot row above))

@@ -1,20 +1,24 @@
 -- The checks of the commands that make, remove and move nodes: the steps are these and then the change, what each comes to, and what
 -- holds where all have passed.
-use mathlib.Core.Path.{_≡_, sym, _∙_, ap}
+use mathlib.Core.Path.{_≡_, refl, sym, _∙_, ap}
 use mathlib.Core.List.{List}
-use mathlib.Core.Option.{none}
-use mathlib.Core.Bool.{true, false, _||_, not}
+use mathlib.Core.Option.{none, some}
+use mathlib.Core.Bool.{Bool, true, false, _||_, not, Bool·not-not}
 use Prim.Native.Nat.{ℕ, _+_, _≤_, _<_}
 use native.Mathlib.Nat.{add-zero}
 use native.Mathlib.Omega.{arith}
-use borrow.Author.Tests.{not-true, leb-true, le-leb, lt-leb}
-use lib.Dec.{leb}
-use Rattle.buffers.specs.Cases.{neither}
+use borrow.Author.Tests.{not-true, leb-true, le-leb, lt-leb, eqb-true, eqb-false}
+use lib.Dec.{eqb, leb}
+use lib.ListN.{length}
+use Rattle.buffers.specs.Cases.{case, contra, neither}
+use Rattle.buffers.specs.Text.{Text}
 use Rattle.accounts.specs.declared.Account.{Account}
 use Rattle.accounts.specs.declared.Caller.{Caller}
 use Rattle.accounts.specs.declared.Right.the-variants.{W}
-use Rattle.syntax.specs.Path.{Path, parent, last, depth, is-top, within, reserved, most-names}
+use Rattle.syntax.specs.Path.{Path, root, _▹_, path, parent, last, depth, is-top, within, reserved, most-names}
 use Rattle.syntax.specs.PathLaws.{not-reserved}
+use Rattle.syntax.specs.PathTextLaws.{reserved-by-text, top-by-length, below-by-length, within-by-text}
+use Rattle.syntax.specs.WithinLaws.{lies-top, lies-within}
 use Rattle.tree.specs.declared.Kind.{Kind}
 use Rattle.tree.specs.declared.Cause.{Cause}
 use Rattle.tree.specs.declared.Cause.the-variants.{Access, WrongKind, NotEmpty, Reserved, Full, IntoItself, TooDeep}
@@ -31,19 +35,40 @@ use Rattle.tree.specs.RoomLaws.{walked-above}
 use Rattle.tree.specs.UpdateLaws.{walked-at}
 use Rattle.tree.specs.WellFormed.{nodes}
 use Rattle.tree.specs.WellFormedLaws.{most-nodes-is, entered-directory}
+use Rattle.tree.specs.RowAt.{row-at, all-rows}
 use Rattle.tree.specs.TreeBytes.{Encodes}
+use Rattle.tree.specs.TreeBytesLaws.{at-here}
 use Rattle.walks.specs.declared.Walked.{Walked}
 use Rattle.walks.specs.declared.Walked.the-variants.{To, Refused}
-use Rattle.walks.specs.RowWalk.{Spot, outcome}
+use Rattle.walks.specs.RowBelow.{has-children-in, height-in}
+use Rattle.walks.specs.RowBelowLaws.{at-has-children, at-height}
+use Rattle.walks.specs.RowWalk.{Spot, spot, outcome}
 use Rattle.walks.specs.RowWalkLaws.{outcome-at, outcome-refused}
 use Rattle.walks.specs.WalkBytes.{spot-of, Came, spot-from}
-use Rattle.walks.specs.WalkBytesLaws.{came-to}
+use Rattle.walks.specs.WalkBytesLaws.{came-to, came-spot}
 use Rattle.gaps.specs.declared.Room.{Room}
 use Rattle.gaps.specs.declared.Room.the-variants
 use Rattle.gaps.specs.Gaps.{gap-of, gap-from, gap-told}
 use Rattle.gaps.specs.GapsLaws.{told-refused, told-gap, Standing, room-to}
 use Rattle.shell.specs.Steps.{fit, run-create, run-rm, run-mv}
-use Rattle.nodes.specs.NodeChecks.{spot-after, may-create, may-remove, may-move, entry-to, removal}
+use Rattle.nodes.specs.NodeChecks.{text-reserved, text-within, may-create, may-remove, may-move, row-removal, row-move}
+
+-- ---- what the text of a path tells of it
+
+pub reserved-told : (s : Text) {r : Bool} → r ≡ text-reserved s → (p : Path) → path s ≡ some p → r ≡ reserved p
+unfolding text-reserved
+reserved-told s e p reads = e ∙ sym (reserved-by-text s p reads)
+
+within-top : (p q : Path) → is-top p ≡ true → within p q ≡ true
+unfolding is-top
+within-top root q e = lies-within (lies-top q)
+within-top (p ▹ n) q e = contra e refl
+
+pub within-told : (s u : Text) (p q : Path) → path s ≡ some p → path u ≡ some q → text-within s u ≡ within p q
+unfolding text-within
+within-told s u p q reads other = case (eqb (length s) 1)
+    (λ t. rw t (sym (within-top p q (top-by-length s p reads (eqb-true (length s) 1 t)))))
+    (λ t. rw t (sym (within-by-text s u p q reads other (below-by-length s p reads (eqb-false (length s) 1 t)))))
 
 -- ---- the steps are the checks, and then the change
 
@@ -131,13 +156,14 @@ module _ (a : Account) (t : Place Node) where
       unfolding may-remove
       removing-stops e = rw (h, require-true, done-then, e, refused-bind)
 
-      -- or came to a place: the checks there
+      -- or came to a place: the checks at its row
       pub removing-there : {b : List ℕ} {row above : ℕ} (w : Came b t p (walk (by-modes a) t p) row above)
-          → spot-after row above (removal a kind (w .place) (w .over)) ≡ spot-from t p (may-remove a t kind p)
-      unfolding may-remove removal spot-of
+          → row-removal a kind (row-at b row .here) (row-at b above .here) (has-children-in (all-rows b) row) (spot row above) ≡ spot-from t p (may-remove a t kind p)
+      unfolding may-remove row-removal
       removing-there w =
           let up = walked-above (by-modes a) t p (w .walked) (w .over-at .there) in
-          rw (w .at .row, w .over-at .row, h, require-true, done-then, w .walked, done-bind, up, done-bind)
+          rw (at-here (w .at), at-here (w .over-at), at-has-children (w .at), Bool·not-not (is-empty (w .place .below)), came-spot w, h, require-true, done-then, w .walked, done-bind, up, done-bind)
+          (simp (then-bind, done-bind))
 
     removing-ensures : Ensures (λ d. (is-top p ≡ false) × ((walk (by-modes a) t p ≡ done d) × (is-empty (d .below) ≡ true))) (may-remove a t kind p)
     unfolding may-remove
@@ -168,50 +194,49 @@ module _ (a : Account) (t : Place Node) where
       unfolding may-move
       moving-stops e = rw (h, k, require-true, done-then, e, refused-bind)
 
-      -- or came to a place: the checks there, of which the two for w come in either order
-      pub moving-there : {b : List ℕ} {row above : ℕ} (w : Came b t p (walk (by-modes a) t p) row above)
-          → spot-after row above (entry-to a t p q (w .place) (w .over)) ≡ spot-from t p (may-move a t p q)
-      unfolding may-move entry-to spot-of
-      moving-there w =
+      -- or came to a place: the checks at its row, of which the two for w come in either order
+      pub moving-there : {b : List ℕ} {row above : ℕ} (w : Came b t p (walk (by-modes a) t p) row above) (from to : Text) → path from ≡ some p → path to ≡ some q
+          → row-move a t q (row-at b above .here) (text-within from to) (height-in (all-rows b) row) (spot row above) ≡ spot-from t p (may-move a t p q)
+      unfolding may-move row-move
+      moving-there w from to reads other =
           let up = walked-above (by-modes a) t p (w .walked) (w .over-at .there) in
           let top = not-reserved q k in
           let rest : Result Spot =
           require (not (within p q)) IntoItself >> (require (leb (depth q + height (w .place .below)) most-names) TooDeep >> done (spot-of t p)) in
-          rw (w .at .row, w .over-at .row, h, k, require-true, done-then, w .walked, done-bind)
+          rw (at-here (w .over-at), within-told from to p q reads other, at-height (w .at), came-spot w, h, k, require-true, done-then, w .walked, done-bind)
           (simp (up, room-by-modes, top, require-true, done-then, bind-bind, then-bind, done-bind)
           (ap (λ (f : Place Node → Result Spot). parent-walk (by-modes a) t q >>= f)
           (λ i f. unused (last q) (f .below) >> checks-swap (allows a W (f .here)) (allows a W (w .over .here)) Access rest i)))
 
-    -- of the place d in the directory e: no room
-    module _ (d e : Place Node) where
-      pub entry-stops : {why : Cause} → room (by-modes a) t q ≡ refused why → entry-to a t p q d e ≡ refused why
-      unfolding entry-to
-      entry-stops i = rw (i, refused-bind)
+  -- ---- the checks of `mv` at a row: no room
 
-      module _ {f : Place Node} (found : room (by-modes a) t q ≡ done f) where
-        -- 5
-        pub entry-shut : allows a W (e .here) ≡ false → entry-to a t p q d e ≡ refused Access
-        unfolding entry-to
-        entry-shut i = rw (found, done-bind, i, require-false, refused-then)
+  module _ (q : Path) (above : Node) (inside : Bool) (high : ℕ) (there : Spot) where
+    pub entry-stops : {why : Cause} → room (by-modes a) t q ≡ refused why → row-move a t q above inside high there ≡ refused why
+    unfolding row-move
+    entry-stops i = rw (i, refused-bind)
 
-        module _ (may : allows a W (e .here) ≡ true) where
-          -- 11
-          pub entry-within : within p q ≡ true → entry-to a t p q d e ≡ refused IntoItself
-          unfolding entry-to
-          entry-within i = rw (found, done-bind, may, require-true, done-then, i, require-false, refused-then)
+    module _ {f : Place Node} (found : room (by-modes a) t q ≡ done f) where
+      -- 5
+      pub entry-shut : allows a W above ≡ false → row-move a t q above inside high there ≡ refused Access
+      unfolding row-move
+      entry-shut i = rw (found, done-bind, i, require-false, refused-then)
 
-          module _ (outside : within p q ≡ false) where
-            -- 19
-            pub entry-deep : 6 < depth q + height (d .below) → entry-to a t p q d e ≡ refused TooDeep
-            unfolding entry-to most-names
-            entry-deep i =
-                rw (found, done-bind, may, require-true, done-then, outside, require-true, done-then, lt-leb (depth q + height (d .below)) 6 i, require-false, refused-then)
+      module _ (may : allows a W above ≡ true) where
+        -- 11
+        pub entry-within : inside ≡ true → row-move a t q above inside high there ≡ refused IntoItself
+        unfolding row-move
+        entry-within i = rw (found, done-bind, may, require-true, done-then, i, require-false, refused-then)
 
-            -- none of these
-            pub entry-done : depth q + height (d .below) ≤ 6 → entry-to a t p q d e ≡ done d
-            unfolding entry-to most-names
-            entry-done i =
-                rw (found, done-bind, may, require-true, done-then, outside, require-true, done-then, le-leb (depth q + height (d .below)) 6 i, require-true, done-then)
+        module _ (outside : inside ≡ false) where
+          -- 19
+          pub entry-deep : 6 < depth q + high → row-move a t q above inside high there ≡ refused TooDeep
+          unfolding row-move most-names
+          entry-deep i = rw (found, done-bind, may, require-true, done-then, outside, require-true, done-then, lt-leb (depth q + high) 6 i, require-false, refused-then)
+
+          -- none of these
+          pub entry-done : depth q + high ≤ 6 → row-move a t q above inside high there ≡ done there
+          unfolding row-move most-names
+          entry-done i = rw (found, done-bind, may, require-true, done-then, outside, require-true, done-then, le-leb (depth q + high) 6 i, require-true, done-then)
 
 -- what has passed: the place d at p, and the directory that it may be moved to
 pub record Moves (a : Account) (t : Place Node) (p q : Path) (d : Place Node) : Type 0 where
@@ -255,44 +280,44 @@ module _ (a : Account) (t : Place Node) (p q : Path) where
   pub moving-passed : {d : Place Node} → may-move a t p q ≡ done d → Moves a t p q d
   moving-passed e = done-with moving-ensures e
 
--- ---- of the place d in the directory e that a walk came through, what `rm` and `rmdir` check
+-- ---- the checks of `rm` and `rmdir` at a row
 
-module _ (a : Account) (kind : Kind) (d e : Place Node) where
+module _ (a : Account) (kind : Kind) (n above : Node) (full : Bool) (there : Spot) where
   -- 7
-  pub removal-kind : same-kind (d .here .kind) kind ≡ false → removal a kind d e ≡ refused WrongKind
-  unfolding removal
+  pub removal-kind : same-kind (n .kind) kind ≡ false → row-removal a kind n above full there ≡ refused WrongKind
+  unfolding row-removal
   removal-kind i = rw (i, require-false, refused-then)
 
-  module _ (same : same-kind (d .here .kind) kind ≡ true) where
+  module _ (same : same-kind (n .kind) kind ≡ true) where
     -- 5
-    pub removal-shut : allows a W (e .here) ≡ false → removal a kind d e ≡ refused Access
-    unfolding removal
+    pub removal-shut : allows a W above ≡ false → row-removal a kind n above full there ≡ refused Access
+    unfolding row-removal
     removal-shut i = rw (same, require-true, done-then, i, require-false, refused-then)
 
-    module _ (may : allows a W (e .here) ≡ true) where
+    module _ (may : allows a W above ≡ true) where
       -- 8
-      pub removal-full : is-empty (d .below) ≡ false → removal a kind d e ≡ refused NotEmpty
-      unfolding removal
+      pub removal-full : full ≡ true → row-removal a kind n above full there ≡ refused NotEmpty
+      unfolding row-removal
       removal-full i = rw (same, require-true, done-then, may, require-true, done-then, i, require-false, refused-then)
 
       -- none of these
-      pub removal-done : is-empty (d .below) ≡ true → removal a kind d e ≡ done d
-      unfolding removal
+      pub removal-done : full ≡ false → row-removal a kind n above full there ≡ done there
+      unfolding row-removal
       removal-done i = rw (same, require-true, done-then, may, require-true, done-then, i, require-true, done-then)
 
--- ---- the code's answer
+-- ---- what the code tells
 
--- checks that are refused, told
-pub refusal-told : (row above : ℕ) (w : Result (Place Node)) {k : Cause} → w ≡ refused k → outcome (Refused k) ≡ spot-after row above w
-refusal-told row above w {k} e = outcome-refused k ∙ sym (rw (e, refused-bind))
+-- a refusal
+pub refusal-told : {w : Result Spot} {k : Cause} → w ≡ refused k → outcome (Refused k) ≡ w
+refusal-told {k = k} e = outcome-refused k ∙ sym e
 
 -- and at the place that a path leads to
 pub refusal-told-at : (t : Place Node) (p : Path) (w : Result (Place Node)) {k : Cause} → w ≡ refused k → outcome (Refused k) ≡ spot-from t p w
 refusal-told-at t p w {k} e = outcome-refused k ∙ sym (rw (e, refused-bind))
 
 -- checks that have passed
-pub spot-told : (row above : ℕ) (w : Result (Place Node)) {d : Place Node} → w ≡ done d → outcome (To row above) ≡ spot-after row above w
-spot-told row above w e = outcome-at row above ∙ sym (rw (e, done-bind))
+pub spot-told : (row above : ℕ) {w : Result Spot} → w ≡ done (spot row above) → outcome (To row above) ≡ w
+spot-told row above e = outcome-at row above ∙ sym e
 
 module _ {b : List ℕ} {t : Place Node} (tree : Encodes b t) (a : Account) where
   -- where the code found what may be removed

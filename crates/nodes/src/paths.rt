@@ -1,14 +1,13 @@
 // What the texts of paths tell.
 ghost use mathlib.Core.Path.{_≡_};
-ghost use mathlib.Core.Option.{some};
 ghost use lib.ListN.{length, take};
 ghost use Rattle.buffers.specs.Text.{same-text};
-ghost use Rattle.syntax.specs.Path.{Path, path, reserved, within};
+ghost use Rattle.nodes.specs.NodeChecks.{text-reserved, text-within};
 use buffers::same;
 
 // Whether a path is `/` or `/rep`.
 pub fn is_reserved(text: &[u8]) -> bool
-    ensures { λ r. ⌜ ((p : Path) → path (now (text .entry)) ≡ some p → r ≡ reserved p) ⌝ }
+    ensures { λ r. ⌜ r ≡ text-reserved (now (text .entry)) ⌝ }
 {
     if same(text, b"/") {
         return true;
@@ -28,7 +27,7 @@ fn begins(text: &[u8], front: &[u8]) -> bool
 
 // Whether a path is another or lies below it: everything lies below `/`, else its text is the other's, or goes on behind it with a `/`.
 pub fn is_within(text: &[u8], above: &[u8]) -> bool
-    ensures { λ r. ⌜ ((p q : Path) → path (now (above .entry)) ≡ some p → path (now (text .entry)) ≡ some q → r ≡ within p q) ⌝ }
+    ensures { λ r. ⌜ r ≡ text-within (now (above .entry)) (now (text .entry)) ⌝ }
 {
     let n = above.len();
     if n == 1 {

@@ -1,2 +1,4 @@
 pub mod Buffers
 pub mod Turns
+pub mod Serving
+pub mod ServingLaws

@@ -3,7 +3,7 @@ use mathlib.Core.Path.{_≡_, sym, _∙_, ap}
 use mathlib.Core.List.{List, _++_}
 use Prim.Native.Nat.{ℕ, suc, _+_, _*_, _≤_, _<_}
 use native.Mathlib.Omega.{arith}
-use lib.ListN.{length, take, drop, length-drop}
+use lib.ListN.{length, take, drop}
 use lib.Seq.{drop-at, length-take-le}
 use Rattle.buffers.specs.Text.{Text}
 use Rattle.buffers.specs.Fields.{all-bytes}
@@ -11,7 +11,6 @@ use Rattle.buffers.specs.Over.{over}
 use Rattle.accounts.specs.declared.Gid.{Gid}
 use Rattle.syntax.specs.Path.{parent, last, depth}
 use Rattle.syntax.specs.PathLaws.{name-length, parent-depth}
-use Rattle.syntax.specs.Parts.{last-slash}
 use Rattle.tree.specs.declared.Cause.the-variants.{Full, TooDeep}
 use Rattle.tree.specs.Layout.{row-width, row-start, most-rows, name-width}
 use Rattle.tree.specs.Forest.{Place, update, put, size, height}
@@ -28,7 +27,7 @@ use Rattle.edits.specs.Changes.{rows-put}
 use Rattle.edits.specs.EncodedRowsLaws.{Rows-wide}
 use Rattle.edits.specs.EditLaws.{rows-law}
 use Rattle.gaps.specs.Gaps.{behind-slash}
-use Rattle.gaps.specs.GapsLaws.{last-in-text, last-named, last-fits, place-row, stands-insertable, stands-low}
+use Rattle.gaps.specs.GapsLaws.{last-in-text, last-named, last-fits, place-row, stands-insertable, stands-low, slash-inside}
 use Rattle.copying.specs.declared.Copier.{Copier}
 use Rattle.copying.specs.Copying.{copy-mode}
 use Rattle.copying.specs.CopyRows.{deepest, most-levels, Written, deepest-from, Entry-job, subtree-rows, entry-rows}
@@ -49,10 +48,9 @@ module _ {w : Copier} {b : List ℕ} {entry to : Text} {site : Site} (j : Checko
 
   -- the path has a last name, and it fits
   pub job-text : 0 < length to
-  unfolding behind-slash
   job-text =
-      let d = j .target in
-      omega (arith, ap length (last-in-text to (j .reads)), name-length (last d) (last-named to (j .reads) (j .stands .roomed .below-top)) .0, length-drop (suc (last-slash to)) to)
+      slash-inside to
+      (omega (arith, ap length (last-in-text to (j .reads)), name-length (last (j .target)) (last-named to (j .reads) (j .stands .roomed .below-top)) .0))
 
   pub job-name : (n : Text) → n ≡ behind-slash to → length n ≤ name-width
   job-name n e = omega (arith, ap length e, last-fits to (j .reads) (j .stands .roomed .below-top))

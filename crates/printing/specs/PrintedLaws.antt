@@ -8,7 +8,7 @@ use native.Mathlib.Nat.{zero-add}
 use borrow.Author.Tests.{eqb-true, eqb-false, eq-eqb, ne-eqb}
 use lib.Dec.{eqb}
 use lib.ListN.{length, take, drop, set, length-append}
-use lib.Seq.{paste, take-all, length-take-le, take-take}
+use lib.Seq.{paste, take-all, take-at, length-take-le, take-take}
 use Rattle.buffers.specs.Cases.{case}
 use Rattle.buffers.specs.Text.{Text}
 use Rattle.buffers.specs.Over.{Wrote}
@@ -47,14 +47,6 @@ module _ (answer : List ℕ) where
   wrong-line-is n = rw wrong-setup-is
 
 -- ---- what an answer says of its call
-
-pub refused-not-done : (why : Cause) → false ≡ eqb (told (Refused why) .number) 0
-unfolding told
-refused-not-done why = sym (number-not-0 why)
-
-pub wrong-line-not-done : (n : ℕ) → false ≡ eqb (told (WrongLine n) .number) 0
-unfolding told
-wrong-line-not-done n = rw wrong-setup-is
 
 pub done-not-missing : false ≡ eqb (number Missing) (told Done .number)
 unfolding told
@@ -126,3 +118,7 @@ printed-line {x} {b} {c} {end} w l h =
 -- what is printed stands in the buffer
 pub printed-fits : {x b c : List ℕ} {n : ℕ} → Printed x b c n → n ≤ length c
 printed-fits {x} {b} p = omega (arith, p .long, ap length (p .holds), length-append x (drop (length x) b))
+
+-- and is its first bytes
+pub printed-text : {x b c : List ℕ} {n : ℕ} → Printed x b c n → take n c ≡ x
+printed-text {x} {b} p = rw (p .holds) (take-at x (drop (length x) b) _ (sym (p .long)))

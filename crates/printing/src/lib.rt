@@ -1,7 +1,6 @@
 // What is printed for an answer, as functions on lent slices.
 mod replies;
 
-pub use replies::is_done;
 pub use replies::is_missing;
 pub use replies::number;
 pub use replies::write_listed;

@@ -45,18 +45,6 @@ pub fn number(cause: Cause) -> u8
     }
 }
 
-// Whether an answer tells that the call is done.
-pub fn is_done(r: Answer) -> bool
-    ensures { λ d. ⌜ d ≡ eqb (told r .number) 0 ⌝ }
-{
-    match r {
-        Answer::Done => true,
-        Answer::Text(_) => true,
-        Answer::Refused(_) => false,
-        Answer::WrongLine(_) => false,
-    }
-}
-
 // Whether an answer tells that a listing has no such line.
 pub fn is_missing(r: Answer) -> bool
     ensures { λ d. ⌜ d ≡ eqb (number-of Missing) (told r .number) ⌝ }

@@ -9,7 +9,7 @@ use Rattle.accounts.specs.declared.Caller.{Caller}
 use Rattle.commands.specs.Command.{Shell-command, shell}
 use Rattle.setup.specs.Setup.{Setup}
 use Rattle.tree.specs.Result.{Result, refused, done, _>>=_, Outcome}
-use Rattle.tree.specs.ResultLaws.{bind-done}
+use Rattle.tree.specs.ResultLaws.{bind-done, refused-bind, done-bind}
 use Rattle.tree.specs.Forest.{Place}
 use Rattle.tree.specs.Node.{Node}
 use Rattle.tree.specs.TreeBytes.{Encodes, Whole}
@@ -57,13 +57,13 @@ module _ {b : List ℕ} {s : State} (h : Stored b s) where
   tree-carries : (steps : Result (Outcome Store)) → ((o : Outcome Store) → steps ≡ done o → o .state .sessions ≡ s .store .sessions)
       → (a a′ : List ℕ) (r : Answer) (T b′ : List ℕ) → Follows (on-tree-steps steps) (drop header-width b) a r T a′ → b′ ≡ take header-width b ++ T
       → Carries (bytes-with (s .setup)) steps b a r b′ a′
-  unfolding reply answer-of written on-tree-steps bytes-after encode _>>=_
-  tree-carries (refused k) keeps a a′ r T b′ f e = record {
+  unfolding reply answer-of written on-tree-steps bytes-after encode
+  tree-carries (refused k) keeps a a′ r T b′ f₀ e = let f = rw refused-bind at f₀ in record {
     tells = f .tells;
     bytes = e ∙ ap with-tree (f .bytes) ∙ take-append-drop header-width b;
     text = f .text;
   }
-  tree-carries (done o) keeps a a′ r T b′ f e = record {
+  tree-carries (done o) keeps a a′ r T b′ f₀ e = let f = rw done-bind at f₀ in record {
     tells = f .tells;
     bytes = e ∙ ap₂ _++_ (h .header .bytes ∙ ap (header-bytes (s .setup)) (sym (keeps o refl))) (f .bytes);
     text = f .text;
@@ -74,9 +74,9 @@ module _ {b : List ℕ} {s : State} (h : Stored b s) where
 -- its outcome put into the store, read as the tree again
 put-and-read : (s : Store) (r : Result (Outcome (Place Node)))
     → on-tree-steps (r >>= λ o. done (record { text = o .text; state = record { tree = o .state; sessions = s .sessions } })) ≡ r
-unfolding on-tree-steps _>>=_
-put-and-read s (refused k) = refl
-put-and-read s (done o) = refl
+unfolding on-tree-steps
+put-and-read s (refused k) = rw (refused-bind, refused-bind)
+put-and-read s (done o) = rw (done-bind, done-bind)
 
 module _ (u : Setup) (s : Store) (c : Caller) (k : Shell-command) where
   -- its steps on the tree

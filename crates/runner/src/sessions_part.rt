@@ -2,7 +2,7 @@
 ghost use Prim.Native.Nat.{_<_};
 ghost use Rattle.meanings.specs.Meaning.{Session-meaning};
 ghost use Rattle.stored_header.specs.Stored.{Some-store};
-ghost use Rattle.runner.specs.Runner.{Role-done, Session-done};
+ghost use Rattle.runner.specs.Runner.{Held-role, Session-done};
 use accounts::Caller;
 use accounts::Role;
 use accounts::Session;
@@ -14,12 +14,13 @@ use stored_header::dominance_in;
 use stored_header::session_in;
 use tree::Cause;
 
-// A command in the session of a role.
+// A command in the caller's session, which is that of a role.
 fn as_role(store: &mut [u8], caller: Caller, role: Role, line: &[u8], command: Command) -> Answer
     requires { ⌜ Some-store (now store) ⌝ }
     requires { ⌜ Session-meaning (now line) command ⌝ }
     requires { ⌜ role .0 < 8 ⌝ }
-    ensures { λ r. ⌜ Role-done caller (now (line .entry)) command role (now (store .entry)) r (now (store .exit)) ⌝ }
+    requires { ⌜ Held-role caller role (now store) ⌝ }
+    ensures { λ r. ⌜ Session-done caller (now (line .entry)) command (now (store .entry)) r (now (store .exit)) ⌝ }
 {
     let dominance = dominance_in(store);
     let account = dominance.account(role);

@@ -1,5 +1,7 @@
 pub mod Setup
 pub mod SetupLaws
+pub mod SetupStep
+pub mod SetupStepLaws
 pub mod SoundSetup
 pub mod SoundSetupLaws
 pub mod Reader

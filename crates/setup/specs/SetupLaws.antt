@@ -31,7 +31,7 @@ use Rattle.lines.specs.SetupLines.{longest-line, Setup-line, p-line, g-line, r-
 use Rattle.setup.specs.Setup.{Person, Grant, Setup, accounts, most-pairs, most-grants, person, Reading, with-person, with-pair, with-grant, joining, accept, no-setup, Setup-answer, accepted, wrong-line, stops, continue, read-lines, setup, is-person, is-slot, is-pair, is-grant, is-setup}
 
 -- a number of a person or a person's group
-one-to-15 : ℕ → Bool
+unfoldable pub one-to-15 : ℕ → Bool
 one-to-15 n = leb 1 n && leb n 15
 
 -- what a line read by its form has
@@ -196,7 +196,7 @@ grant-ranges g s h l r =
     }
 
 -- a person with the primary group alone, and with one group more
-new-person : (g : Gid) → one-to-15 (g .0) ≡ true → is-person (record { primary = g; further = no-groups }) ≡ true
+pub new-person : (g : Gid) → one-to-15 (g .0) ≡ true → is-person (record { primary = g; further = no-groups }) ≡ true
 unfolding is-person no-groups one-to-15
 new-person g h = rw h
 
@@ -204,7 +204,7 @@ power-even : (n : ℕ) → 1 ≤ n → 2 ^ n % 2 ≡ 0
 power-even zero h = omega arith
 power-even (suc n) h = omega (arith, pow-suc 2 n)
 
-joining-person : (g : Gid) (p : Person) → one-to-15 (g .0) ≡ true → is-person p ≡ true → is-person (joining g p) ≡ true
+pub joining-person : (g : Gid) (p : Person) → one-to-15 (g .0) ≡ true → is-person p ≡ true → is-person (joining g p) ≡ true
 unfolding is-person joining with-group one-to-15
 joining-person g p h k =
     let bits : ℕ = p .further .0 in
@@ -280,7 +280,8 @@ read-keeps (t ∷ (u ∷ us)) n d s r e = case (same-text t (bytes "end"))
     let b : _ = both-read (setup-line t) (λ l. accept l d) (a .0) (a .1) in
     read-keeps (u ∷ us) (suc n) (a .0) s (accept-keeps (b .0) d (a .0) (line-gives t (b .0) (b .1)) (b .2) r) (a .2))
 
-nothing : is-setup no-setup ≡ true
+-- before the first line nothing is out of range
+pub nothing : is-setup no-setup ≡ true
 unfolding is-setup no-setup accounts most-pairs most-grants is-slot is-some every
 nothing = refl
 
@@ -300,3 +301,47 @@ pairs-fall u h = falling-pairs (u .pairs) (apart u h .all-pairs)
 pub accepted-is-setup : (t : Text) (s : Setup) → setup t ≡ accepted s → is-setup s ≡ true
 unfolding setup
 accepted-is-setup t s e = together s (read-keeps (pieces newline t) 1 (record { kind = 0; so-far = no-setup }) s (apart no-setup nothing) e)
+
+-- a line that leads on keeps what has been read in range
+pub line-keeps : (t : Text) (d d′ : Reading) → (setup-line t >>= λ l. accept l d) ≡ some d′ → is-setup (d .so-far) ≡ true → is-setup (d′ .so-far) ≡ true
+line-keeps t d d′ e h =
+    let b = both-read (setup-line t) (λ l. accept l d) d′ e in
+    together (d′ .so-far) (accept-keeps (b .0) d d′ (line-gives t (b .0) (b .1)) (b .2) (apart (d .so-far) h))
+
+-- and the password of a grant's line is a name
+pub l-name : (t : Text) (u : Uid) (r : Role) (w : Text) → setup-line t ≡ some (l-line u r w) → is-name w ≡ true
+unfolding in-range
+l-name t u r w e = and-both (ltb (r .0) 8) (is-name w) (and-both (ltb (u .0) 16) _ (line-gives t (l-line u r w) e) .1) .1
+
+-- the kinds are 0 to 3
+accept-kind : (l : Setup-line) (d d′ : Reading) → accept l d ≡ some d′ → d′ .kind ≤ 3
+unfolding accept
+accept-kind (p-line u g) d d′ e =
+    let new : Reading = record { kind = 0; so-far = with-person u (record { primary = g; further = no-groups }) (d .so-far) } in
+    let a : _ = checked (leb (d .kind) 0) (check (not (is-some (person (d .so-far) u))) >> some new) d′ e in
+    let b : _ = checked (not (is-some (person (d .so-far) u))) (some new) d′ (a .1) in
+    rw (answered (b .1)) (omega arith)
+accept-kind (g-line u g) d d′ e =
+    let new : Person → Option Reading = λ p. some (record { kind = 1; so-far = with-person u (joining g p) (d .so-far) }) in
+    let a : _ = checked (leb (d .kind) 1) (person (d .so-far) u >>= new) d′ e in
+    let b : _ = both-read (person (d .so-far) u) new d′ (a .1) in
+    rw (answered (b .2)) (omega arith)
+accept-kind (r-line senior junior) d d′ e =
+    let p : Pair = record { senior = senior; junior = junior } in
+    let new : Option Reading = some (record { kind = 2; so-far = with-pair p (d .so-far) }) in
+    let few : Bool = ltb (length (d .so-far .pairs)) most-pairs in
+    let a : _ = checked (leb (d .kind) 2) (check (falls p) >> (check few >> new)) d′ e in
+    let b : _ = checked (falls p) (check few >> new) d′ (a .1) in
+    let c : _ = checked few new d′ (b .1) in
+    rw (answered (c .1)) (omega arith)
+accept-kind (l-line u role w) d d′ e =
+    let new : Option Reading = some (record { kind = 3; so-far = with-grant (record { uid = u; role = role; password = w }) (d .so-far) }) in
+    let known : Bool = is-root u || is-some (person (d .so-far) u) in
+    let few : Bool = ltb (length (d .so-far .grants)) most-grants in
+    let a : _ = checked (leb (d .kind) 3) (check known >> (check few >> new)) d′ e in
+    let b : _ = checked known (check few >> new) d′ (a .1) in
+    let c : _ = checked few new d′ (b .1) in
+    rw (answered (c .1)) (omega arith)
+
+pub line-kind : (t : Text) (d d′ : Reading) → (setup-line t >>= λ l. accept l d) ≡ some d′ → d′ .kind ≤ 3
+line-kind t d d′ e = let b = both-read (setup-line t) (λ l. accept l d) d′ e in accept-kind (b .0) d d′ (b .2)

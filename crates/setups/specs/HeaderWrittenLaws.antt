@@ -15,7 +15,6 @@ use Rattle.buffers.specs.Text.{Text}
 use Rattle.buffers.specs.Fields.{two-bytes, padded, all-bytes, table-bytes}
 use Rattle.buffers.specs.FieldsLaws.{length-two-bytes, length-padded}
 use Rattle.buffers.specs.PasteLaws.{paste-join, set-paste, set-behind}
-use Rattle.accounts.specs.declared.Pair.{Pair}
 use Rattle.accounts.specs.PairBytes.{pair-bytes}
 use Rattle.syntax.specs.Parts.{span-text}
 use Rattle.setup.specs.declared.Person.{Person as Slot}
@@ -63,10 +62,6 @@ grant-stored b at t g fits short =
 pub slot-wide : (p : Slot) → length (slot-bytes (slot-value p)) ≡ 3
 unfolding slot-value slot-bytes
 slot-wide p = case (eqb (p .primary .0) 0) (λ e. rw e) (λ e. rw e (ap suc (length-two-bytes (p .further .0))))
-
-pub pair-wide : (p : Pair) → length (pair-bytes p) ≡ 2
-unfolding pair-bytes
-pair-wide p = refl
 
 pub grant-wide : (t : Text) (g : Held-grant) → length (span-text t (g .password)) ≤ 8 → length (grant-bytes (grant-value t g)) ≡ 10
 unfolding grant-value grant-bytes

@@ -9,16 +9,29 @@ ghost use Rattle.setups.specs.Writable.{Writable, first-store};
 
 mod header_parts;
 mod header_values;
+mod line;
+mod opening;
 
 use buffers::clear;
 use header_parts::write_grants;
 use header_parts::write_pairs;
 use header_parts::write_slots;
+pub use line::read_line;
+pub use opening::begin_store;
+pub use opening::open_store;
+pub use opening::setup_line;
 use setup::Setup;
 use store::HEADER;
 use store::SESSIONS;
 use store::SPARE;
 use store::write_initial;
+
+// What a line of a setup text comes to: it fits and is of this kind (p, g, r, l: 0 to 3), it is `end`, or it is wrong.
+pub enum LineRead {
+    More(u8),
+    End,
+    Wrong,
+}
 
 // Writes the header of a setup without sessions, whatever stood there.
 pub fn write_header(header: &mut [u8], text: &[u8], setup: Setup)

@@ -27,7 +27,7 @@ use Rattle.tree.specs.Forest.{Place, get, is-empty, update}
 use Rattle.tree.specs.Node.{is-directory, same-kind, Node, allows, owns}
 use Rattle.tree.specs.Walk.{Judge, by-modes, walk, parent-walk, room}
 use Rattle.tree.specs.WellFormed.{nodes}
-use Rattle.tree.specs.JudgeLaws.{passes-by-modes, room-by-modes}
+use Rattle.tree.specs.JudgeLaws.{passes-by-modes, room-by-modes, owns-is}
 use Rattle.tree.specs.Graft.{graft, Outside, Seen, Passed}
 use Rattle.tree.specs.GraftLaws.{update-outside, outside-here, outside-rep, seen-here, seen-alike, seen-names, seen-outside, unused-graft, walk-graft, parent-walk-graft}
 use Rattle.shell.specs.Steps.{text-of, fit, run-create, run-read, run-write, run-rm, run-mv, run-chmod, run-chgrp, run-chown, run-shell}
@@ -197,11 +197,11 @@ module _ (c : Caller) (e f : Place Node) (top : Node) (out : Kept-out c top (f .
         changed-alike (update-beside start p (owned-outside s i) _)
 
     chgrp-alike : (p : Path) (group : Gid) → Agree (Alike e f top) (run-chgrp c m (graft e t) p group) (run-chgrp c m′ t p group)
-    unfolding run-chgrp owns
+    unfolding run-chgrp
     chgrp-alike p group =
         bind (walk-alike p) λ d d′ s.
         check Reserved (test (λ n. is-root (c .account .uid) || (same-uid (c .account .uid) (n .owner) && member group (c .account .groups))) s) λ i.
-        changed-alike (update-beside start p (owned-outside s (weaker (is-root (c .account .uid)) _ _ i)) _)
+        changed-alike (update-beside start p (owned-outside s (owns-is (c .account) (d .here) ∙ weaker (is-root (c .account .uid)) _ _ i)) _)
 
     chown-alike : (p : Path) (owner : Uid) → Agree (Alike e f top) (run-chown c m (graft e t) p owner) (run-chown c m′ t p owner)
     unfolding run-chown

@@ -32,7 +32,7 @@ use Rattle.tree.specs.Node.{same-kind, Node, allows, set-mode, set-group, set-c
 use Rattle.tree.specs.Walk.{by-modes, unused, walk, parent-walk, room}
 use Rattle.tree.specs.WellFormed.{is-tree}
 use Rattle.tree.specs.ResultLaws.{done-then, refused-bind, require-true}
-use Rattle.tree.specs.JudgeLaws.{directory-not-file, allows-is, kind-by-modes, passes-by-modes, room-by-modes}
+use Rattle.tree.specs.JudgeLaws.{directory-not-file, allows-is, kind-by-modes, passes-by-modes, room-by-modes, owns-is}
 use Rattle.tree.specs.StepLaws.{was-unused, parent-walked}
 use Rattle.tree.specs.UpdateLaws.{place-at-child, walked-at}
 use Rattle.tree.specs.OtherPathLaws.{alter-keeps, put-keeps, drop-empty-keeps, drop-gone, move-keeps, move-carries, walk-outside, walk-shut, parent-walk-shut}
@@ -47,8 +47,7 @@ private-shut {a} {d} v t = rw (allows-is a (d .here) t, v .mode) (case (member (
 
 -- nor is the directory the account's
 pub private-foreign : {a : Account} {d : Place Node} → Private a d → owns a (d .here) ≡ false
-unfolding owns
-private-foreign v = rw (v .not-root, v .foreign)
+private-foreign {a} {d} v = rw (owns-is a (d .here), v .not-root, v .foreign)
 
 not-passed : {a : Account} {d : Place Node} → Private a d → by-modes a .passes (d .here) ≡ false
 not-passed {a} {d} v = passes-by-modes a (d .here) ∙ private-shut v X

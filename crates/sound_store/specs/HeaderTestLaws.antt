@@ -18,9 +18,9 @@ use Rattle.buffers.specs.TextLaws.{same-text-refl}
 use Rattle.buffers.specs.Fields.{two-bytes, number-at, padded, unpadded, text-at, all-zero, zeros-at, all-bytes, all-from, table-bytes, table-from}
 use Rattle.buffers.specs.FieldsLaws.{length-two-bytes, length-padded, byte-there}
 use Rattle.buffers.specs.TableLaws.{length-all-from, all-from-at, table-count}
-use Rattle.accounts.specs.Access.{is-root}
-use Rattle.accounts.specs.Dominance.{falls}
-use Rattle.accounts.specs.PairBytes.{pair-bytes, pair-of}
+use Rattle.accounts.specs.Access.{is-root-is}
+use Rattle.accounts.specs.Dominance.{falls-is}
+use Rattle.accounts.specs.PairBytes.{pair-bytes, pair-of, pair-bytes-are, pair-of-two, length-pair}
 use Rattle.syntax.specs.Path.{is-name}
 use Rattle.syntax.specs.Form.{is-some}
 use Rattle.syntax.specs.Field.{bounded, bounded-by}
@@ -61,8 +61,8 @@ session-read (suc n) = and-true _ ∙ bounded-read n (ltb n 8) refl
 
 -- a pair's bytes are
 pair-read : (s j : ℕ) → let x = s ∷ (j ∷ []) in (is-pair (pair-of x) && same-text (pair-bytes (pair-of x)) x) ≡ (ltb s j && ltb j 8)
-unfolding is-pair falls pair-of pair-bytes
-pair-read s j = rw (same-text-refl (s ∷ (j ∷ []))) (and-true _)
+unfolding is-pair
+pair-read s j = rw (pair-of-two s j, pair-bytes-are, falls-is, same-text-refl (s ∷ (j ∷ []))) (and-true _)
 
 -- a grant's are, where its password's text is known
 named-role-password : (n r p f : Bool) → ((n && (r && p)) && f) ≡ (n && (r && (p && f)))
@@ -73,8 +73,8 @@ named-role-password false r p f = refl
 grant-read : (u : Setup) (v r : ℕ) (y t : List ℕ) → text-at 2 8 (v ∷ (r ∷ y)) ≡ t → let x = v ∷ (r ∷ y) in
     (is-grant u (grant-of x) && same-text (grant-bytes (grant-of x)) x)
     ≡ ((eqb v 0 || is-some (person u (record { 0 = v }))) && (ltb r 8 && (is-name t && same-text (padded 8 t) y)))
-unfolding is-grant is-root grant-of grant-bytes same-text
-grant-read u v r y t e = rw (e, eq-eqb v v refl, eq-eqb r r refl) (named-role-password (eqb v 0 || is-some (person u (record { 0 = v }))) (ltb r 8) (is-name t) (same-text (padded 8 t) y))
+unfolding is-grant grant-of grant-bytes same-text
+grant-read u v r y t e = rw (is-root-is, e, eq-eqb v v refl, eq-eqb r r refl) (named-role-password (eqb v 0 || is-some (person u (record { 0 = v }))) (ltb r 8) (is-name t) (same-text (padded 8 t) y))
 
 -- each takes its width, whatever is read
 slot-long : (x : List ℕ) → length x ≡ 3 → length (slot-bytes (slot-of x)) ≡ 3
@@ -85,8 +85,7 @@ session-long : (x : List ℕ) → length x ≡ 1 → length (session-byte (sessi
 session-long x h = refl
 
 pair-long : (x : List ℕ) → length x ≡ 2 → length (pair-bytes (pair-of x)) ≡ 2
-unfolding pair-bytes
-pair-long x h = refl
+pair-long x h = length-pair (pair-of x)
 
 grant-long : (x : List ℕ) → length x ≡ 10 → length (grant-bytes (grant-of x)) ≡ 10
 unfolding grant-bytes grant-of

@@ -111,19 +111,19 @@ empty-by-first i w x =
 
 -- a row's content, by the first 64 bytes of its field and the others
 pub content-by-bytes : (x : List ℕ) → length x ≡ row-width
-    → has-content x ≡ ((neighbours-pass may-stand content-offset 64 x && fits-kind (kind-of (getD x 1 0)) (number-at mode-offset x) (text-at content-offset content-width x)) && zeros-at 136 96 x)
+    → has-content x ≡ ((neighbours-pass may-stand content-offset 64 x && fits-kind (kind-of (getD x 1 0)) (number-at mode-offset x) (text-at content-offset content-width x)) && zeros-at 131 96 x)
 unfolding has-content is-content text-at zeros-at content-limit
 content-by-bytes x h =
-    let l = drop 72 x in
+    let l = drop 67 x in
     let u = unpadded (take 80 l) in
     let n = length u in
-    let f : n ≤ 80 = unfold text-at in field-text-fits x 72 80 in
-    let behind : all-zero (take (160 - n) (drop (72 + n) x)) ≡ all-zero (drop n l) =
-    ap all-zero (take-all (160 - n) (drop (72 + n) x) (omega (arith, length-drop (72 + n) x)) ∙ sym (drop-drop n 72 x)) in
-    let rest : all-zero (take 96 (drop 136 x)) ≡ all-zero (drop 64 l) =
-    ap all-zero (take-all 96 (drop 136 x) (omega (arith, length-drop 136 x)) ∙ sym (drop-drop 64 72 x)) in
-    let stand : neighbours-pass may-stand 72 64 x ≡ neighbours-pass may-stand 0 64 l =
-    pass-alike may-stand 64 72 0 x l (λ k h. let q : 0 + k ≡ k = omega arith in rw q (sym (getD-drop 72 x k 0))) in
+    let f : n ≤ 80 = unfold text-at in field-text-fits x 67 80 in
+    let behind : all-zero (take (160 - n) (drop (67 + n) x)) ≡ all-zero (drop n l) =
+    ap all-zero (take-all (160 - n) (drop (67 + n) x) (omega (arith, length-drop (67 + n) x)) ∙ sym (drop-drop n 67 x)) in
+    let rest : all-zero (take 96 (drop 131 x)) ≡ all-zero (drop 64 l) =
+    ap all-zero (take-all 96 (drop 131 x) (omega (arith, length-drop 131 x)) ∙ sym (drop-drop 64 67 x)) in
+    let stand : neighbours-pass may-stand 67 64 x ≡ neighbours-pass may-stand 0 64 l =
+    pass-alike may-stand 64 67 0 x l (λ k h. let q : 0 + k ≡ k = omega arith in rw q (sym (getD-drop 67 x k 0))) in
     let fits = fits-kind (kind-of (getD x 1 0)) (number-at mode-offset x) u in
     rw (behind, rest, stand)
     (middle-last (every content-byte u && leb n 64) fits (all-zero (drop n l))

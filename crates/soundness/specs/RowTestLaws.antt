@@ -149,7 +149,7 @@ module _ (x : List ℕ) (h : length x ≡ row-width) (small : (k : ℕ) → getD
   -- a tag in range, written as it is read
   tag-part : (o : Option Entry-path) → entry-path (text-at tag-offset tag-width x) ≡ o →
       let T = tag-of (text-at tag-offset tag-width x) (number-at tag-revision-offset x) in
-      (length (tag-bytes T) ≡ 56) × ((is-tag T && same-text (tag-bytes T) (take 56 (drop 16 x))) ≡ has-tag x)
+      (length (tag-bytes T) ≡ 51) × ((is-tag T && same-text (tag-bytes T) (take 51 (drop 16 x))) ≡ has-tag x)
   unfolding tag-of _>>=_ has-tag is-some tag-bytes is-tag
   tag-part none e = rw e (refl, same-zeros-at tag-offset whole-tag-width x (omega arith))
   tag-part (some v) e =
@@ -159,34 +159,34 @@ module _ (x : List ℕ) (h : length x ≡ row-width) (small : (k : ℕ) → getD
       let P = padded tag-width t in
       let N = two-bytes n in
       let y = drop 16 x in
-      let long : length P ≡ 54 = length-padded tag-width t l in
-      let same : same-text (P ++ N) (take 56 y) ≡ (is-filled tag-offset tag-width x && true) =
-      ap (same-text (P ++ N)) (take-add 54 2 y)
-      ∙ same-append P N (take 54 y) (take 2 (drop 54 y)) (long ∙ sym (length-take-le 54 y (omega (arith, length-drop 16 x))))
-      ∙ ap₂ _&&_ (same-filled 16 54 x (omega arith)) (ap (λ (z : List ℕ). same-text N (take 2 z)) (drop-drop 54 16 x) ∙ number-part 70 (omega arith)) in
+      let long : length P ≡ 49 = length-padded tag-width t l in
+      let same : same-text (P ++ N) (take 51 y) ≡ (is-filled tag-offset tag-width x && true) =
+      ap (same-text (P ++ N)) (take-add 49 2 y)
+      ∙ same-append P N (take 49 y) (take 2 (drop 49 y)) (long ∙ sym (length-take-le 49 y (omega (arith, length-drop 16 x))))
+      ∙ ap₂ _&&_ (same-filled 16 49 x (omega arith)) (ap (λ (z : List ℕ). same-text N (take 2 z)) (drop-drop 49 16 x) ∙ number-part 65 (omega arith)) in
       rw (e, ← text-of-entry t v e, entry-is-entry t v e) (
         length-append P N ∙ omega (arith, length-two-bytes n),
         ap (λ (b : Bool). leb n last-revision && b) same ∙ and-swap (leb n last-revision) (is-filled tag-offset tag-width x),
       )
 
   -- zeros behind the content: those of its field and those of the last
-  content-zeros : zeros-at (72 + length (text-at content-offset content-width x)) (160 - length (text-at content-offset content-width x)) x ≡ (is-filled content-offset content-width x && zeros-at 152 80 x)
+  content-zeros : zeros-at (67 + length (text-at content-offset content-width x)) (160 - length (text-at content-offset content-width x)) x ≡ (is-filled content-offset content-width x && zeros-at 147 80 x)
   unfolding zeros-at is-filled all-zero
   content-zeros =
       let n = length (text-at content-offset content-width x) in
       let l = length-text-at content-offset content-width x (omega arith) in
       let q : 160 - n ≡ 80 - n + 80 = omega arith in
-      let p : 72 + n + (80 - n) ≡ 152 = omega arith in
-      let y = drop (72 + n) x in
+      let p : 67 + n + (80 - n) ≡ 147 = omega arith in
+      let y = drop (67 + n) x in
       ap (λ (k : ℕ). all-zero (take k y)) q
       ∙ ap all-zero (take-add (80 - n) 80 y)
       ∙ every-append (λ b. eqb b 0) (take (80 - n) y) (take 80 (drop (80 - n) y))
-      ∙ ap (λ (z : List ℕ). all-zero (take (80 - n) y) && all-zero (take 80 z)) (drop-drop (80 - n) (72 + n) x ∙ ap (λ (k : ℕ). drop k x) p)
+      ∙ ap (λ (z : List ℕ). all-zero (take (80 - n) y) && all-zero (take 80 z)) (drop-drop (80 - n) (67 + n) x ∙ ap (λ (k : ℕ). drop k x) p)
 
   -- the whole row, part by part
   same-row : same-text (row-bytes (read-row x)) x
       ≡ ((eqb (getD x 1 0) 100 || eqb (getD x 1 0) 102)
-      && (is-filled name-offset name-width x && (same-text (tag-bytes (tag-of (text-at tag-offset tag-width x) (number-at tag-revision-offset x))) (take 56 (drop 16 x)) && (is-filled content-offset content-width x && zeros-at 152 80 x))))
+      && (is-filled name-offset name-width x && (same-text (tag-bytes (tag-of (text-at tag-offset tag-width x) (number-at tag-revision-offset x))) (take 51 (drop 16 x)) && (is-filled content-offset content-width x && zeros-at 147 80 x))))
   unfolding row-bytes read-row
   same-row =
       let k = kind-byte (kind-of (getD x 1 0)) in
@@ -197,8 +197,8 @@ module _ (x : List ℕ) (h : length x ≡ row-width) (small : (k : ℕ) → getD
       let T = tag-bytes (tag-of (text-at tag-offset tag-width x) (number-at tag-revision-offset x)) in
       let C = padded content-width (text-at content-offset content-width x) in
       let Z : List ℕ = replicate 80 0 in
-      let last : same-text Z (drop 152 x) ≡ zeros-at 152 80 x =
-      ap (same-text Z) (sym (take-all 80 (drop 152 x) (omega (arith, length-drop 152 x)))) ∙ same-zeros-at 152 80 x (omega arith) in
+      let last : same-text Z (drop 147 x) ≡ zeros-at 147 80 x =
+      ap (same-text Z) (sym (take-all 80 (drop 147 x) (omega (arith, length-drop 147 x)))) ∙ same-zeros-at 147 80 x (omega arith) in
       same-part 0 4 D (M ++ (L ++ (N ++ (T ++ (C ++ Z))))) x refl (omega arith)
       ∙ ap₂ _&&_ (same-first x k (omega arith) ∙ same-kind-byte (getD x 1 0))
       (same-part 4 2 M (L ++ (N ++ (T ++ (C ++ Z)))) x (length-two-bytes (number-at mode-offset x)) (omega arith)
@@ -207,10 +207,10 @@ module _ (x : List ℕ) (h : length x ≡ row-width) (small : (k : ℕ) → getD
       ∙ ap₂ _&&_ (number-part 6 (omega arith))
       (same-part 8 8 N (T ++ (C ++ Z)) x (length-padded name-width (text-at name-offset name-width x) (length-text-at name-offset name-width x (omega arith))) (omega arith)
       ∙ ap₂ _&&_ (same-filled 8 8 x (omega arith))
-      (same-part 16 56 T (C ++ Z) x (tag-part (entry-path (text-at tag-offset tag-width x)) refl .0) (omega arith)
-      ∙ ap (λ (b : Bool). same-text T (take 56 (drop 16 x)) && b)
-      (same-part 72 80 C Z x (length-padded content-width (text-at content-offset content-width x) (length-text-at content-offset content-width x (omega arith))) (omega arith)
-      ∙ ap₂ _&&_ (same-filled 72 80 x (omega arith)) last)))))
+      (same-part 16 51 T (C ++ Z) x (tag-part (entry-path (text-at tag-offset tag-width x)) refl .0) (omega arith)
+      ∙ ap (λ (b : Bool). same-text T (take 51 (drop 16 x)) && b)
+      (same-part 67 80 C Z x (length-padded content-width (text-at content-offset content-width x) (length-text-at content-offset content-width x (omega arith))) (omega arith)
+      ∙ ap₂ _&&_ (same-filled 67 80 x (omega arith)) last)))))
 
   -- the tests of the fields are that of the row
   pub row-test-is : row-test x ≡ is-row x
@@ -221,9 +221,9 @@ module _ (x : List ℕ) (h : length x ≡ row-width) (small : (k : ℕ) → getD
       let a = (ltb (getD x 2 0) 24 && ltb (getD x 3 0) 25) && (is-mode (number-at mode-offset x) && leb (number-at revision-offset x) last-revision) in
       let f = is-filled name-offset name-width x in
       let t = is-tag T in
-      let s = same-text (tag-bytes T) (take 56 (drop 16 x)) in
+      let s = same-text (tag-bytes T) (take 51 (drop 16 x)) in
       let c = is-content (text-at content-offset content-width x) && fits-kind (kind-of (getD x 1 0)) (number-at mode-offset x) (text-at content-offset content-width x) in
-      let z = is-filled content-offset content-width x && zeros-at 152 80 x in
+      let z = is-filled content-offset content-width x && zeros-at 147 80 x in
       ap₂ (λ (t z : Bool). ((k && a) && f) && (t && (c && z))) (sym (tag-part (entry-path (text-at tag-offset tag-width x)) refl .1)) content-zeros
       ∙ shuffled k a f t s c z
       ∙ ap (λ (b : Bool). (a && (t && c)) && b) (sym same-row)

@@ -31,7 +31,7 @@ has-tag x = cond (is-some (entry-path (text-at tag-offset tag-width x))) (is-fil
 unfoldable pub has-content : List ℕ → Bool
 has-content x =
     let c = text-at content-offset content-width x in
-    (is-content c && fits-kind (kind-of (getD x 1 0)) (number-at mode-offset x) c) && zeros-at (72 + length c) (160 - length c) x
+    (is-content c && fits-kind (kind-of (getD x 1 0)) (number-at mode-offset x) c) && zeros-at (67 + length c) (160 - length c) x
 
 -- so many bytes from a place each pass a test with the next
 unfoldable pub neighbours-pass : (ℕ → ℕ → Bool) → ℕ → ℕ → List ℕ → Bool

@@ -15,10 +15,9 @@ use Rattle.buffers.specs.Text.{every, lacks}
 use Rattle.buffers.specs.Fields.{two-bytes, number-at, padded, text-at, all-bytes, all-from, table-bytes, table-from}
 use Rattle.buffers.specs.FieldsLaws.{length-two-bytes, number-at-bytes, length-padded, text-at-padded}
 use Rattle.buffers.specs.TableLaws.{length-all-bytes, length-table, all-from-bytes, table-from-bytes}
-use Rattle.accounts.specs.declared.Pair.{Pair}
 use Rattle.accounts.specs.Access.{is-root}
 use Rattle.accounts.specs.Dominance.{Bounded-role}
-use Rattle.accounts.specs.PairBytes.{pair-bytes, pair-of}
+use Rattle.accounts.specs.PairBytes.{pair-bytes, pair-of, length-pair, pair-back}
 use Rattle.syntax.specs.Path.{is-name}
 use Rattle.syntax.specs.PathLaws.{name-fits}
 use Rattle.syntax.specs.Field.{bounded, bounded-by}
@@ -96,14 +95,6 @@ grant-back u g h =
     rw append-nil at (text-at-padded (g .uid .0 ∷ g .role .0 ∷ []) [] 2 8 (g .password) refl (f .0) (f .1)) in
     λ i. record { uid = g .uid; role = g .role; password = t i }
 
-length-pair : (p : Pair) → is-pair p ≡ true → length (pair-bytes p) ≡ 2
-unfolding pair-bytes
-length-pair p h = refl
-
-pair-back : (p : Pair) → is-pair p ≡ true → pair-of (pair-bytes p) ≡ p
-unfolding pair-bytes pair-of
-pair-back p h = refl
-
 -- ---- the parts of a header
 
 -- what follows the first parts of known lengths
@@ -159,7 +150,7 @@ length-sessions z e = length-all-bytes 1 any-session one-session length-session 
 
 length-pairs : (u : Setup) → is-setup u ≡ true → length (pairs-part u) ≡ pairs-width
 unfolding pairs-part most-pairs
-length-pairs u h = let r = apart u h in length-table 2 is-pair pair-bytes length-pair 28 (u .pairs) (r .all-pairs) (r .few-pairs)
+length-pairs u h = let r = apart u h in length-table 2 is-pair pair-bytes (λ p h. length-pair p) 28 (u .pairs) (r .all-pairs) (r .few-pairs)
 
 length-grants : (u : Setup) → is-setup u ≡ true → length (grants-part u) ≡ grants-width
 unfolding grants-part most-grants
@@ -184,7 +175,7 @@ persons-back u Q h =
 
 pairs-back : (u : Setup) (Q : List ℕ) → is-setup u ≡ true → table-from 2 pair-of (pairs-part u ++ Q) ≡ u .pairs
 unfolding pairs-part
-pairs-back u Q h = table-from-bytes 2 is-pair pair-bytes length-pair pair-of pair-back most-pairs (u .pairs) Q (apart u h .all-pairs)
+pairs-back u Q h = table-from-bytes 2 is-pair pair-bytes (λ p h. length-pair p) pair-of (λ p h. pair-back p) most-pairs (u .pairs) Q (apart u h .all-pairs)
 
 grants-back : (u : Setup) (Q : List ℕ) → is-setup u ≡ true → table-from 10 grant-of (grants-part u ++ Q) ≡ u .grants
 unfolding grants-part

@@ -44,11 +44,11 @@ abbrev pub spare-offset : ℕ
 spare-offset = 442
 
 abbrev pub spare-width : ℕ
-spare-width = 5700
+spare-width = 6980
 
 -- the whole header; the tree begins behind it
 abbrev pub header-width : ℕ
-header-width = 6142
+header-width = 7422
 
 abbrev pub Wide-header : List ℕ → Type 0
 Wide-header b = length b ≡ header-width

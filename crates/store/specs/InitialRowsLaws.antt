@@ -16,6 +16,7 @@ use Rattle.buffers.specs.Text.{Text, every}
 use Rattle.buffers.specs.TextLaws.{every-getD}
 use Rattle.accounts.specs.declared.Uid.{Uid}
 use Rattle.accounts.specs.declared.Account.{Account}
+use Rattle.accounts.specs.declared.Gid.{Gid}
 use Rattle.accounts.specs.Access.{is-root}
 use Rattle.syntax.specs.Pieces.{bytes}
 use Rattle.syntax.specs.Number.{octal, digits-before, decimal-text}
@@ -43,6 +44,7 @@ use Rattle.tree.specs.PlaceLaws.{put-here, put-below, update-root}
 use Rattle.tree.specs.Encoding.{row-bytes, encode-tree}
 use Rattle.edits.specs.declared.Fresh.{Fresh}
 use Rattle.edits.specs.Changes.{rows-put, fresh-node, fresh-row}
+use Rattle.edits.specs.WrittenLaws.{fresh-node-is}
 use Rattle.gaps.specs.declared.Room.{Room}
 use Rattle.gaps.specs.declared.Room.the-variants
 use Rattle.gaps.specs.Gaps.{gap-from, gap-told, behind-slash}
@@ -50,6 +52,7 @@ use Rattle.gaps.specs.GapsLaws.{last-in-text, last-fits, Standing, room-to, roo
 use Rattle.store.specs.Initial.{directory-of, top-node, rep-node, home-node, home-name, with-home, homes, topped, initial-tree}
 use Rattle.store.specs.InitialRows.{slot-in-range, Opens, Opens-at}
 use Rattle.store.specs.InitialLaws.{top-alone, rep-alone, Primaries, setup-primaries, top-whole, rep-open, homes-whole, home-open, initial-by-persons}
+use Rattle.tree.specs.declared.Kind.the-variants.{Directory}
 
 -- ---- a directory put in
 
@@ -105,6 +108,12 @@ module _ (b : List ℕ) (s : Text) (n : Name) (t : Place Node) (h : Opens-at b s
           ∙ ap encode-tree (update-root (put n (leaf (fresh-node f))) t)
 
 -- ---- `/` and `/rep`
+
+-- a new directory
+pub directory-is : (owner : Uid) (group : Gid) (mode : ℕ)
+    → fresh-node (record { kind = Directory; owner = owner; group = group; mode = mode; revision = 0 }) ≡ directory-of owner group mode
+unfolding directory-of
+directory-is owner group mode = fresh-node-is (record { kind = Directory; owner = owner; group = group; mode = mode; revision = 0 })
 
 -- `/` alone is open to `/rep`
 pub planted-opens : (b : List ℕ) → b ≡ encode-tree (leaf top-node) → Opens-at b (bytes "/rep") rep (topped nil)

@@ -6,8 +6,8 @@
 -- | 48 | 16 | the accounts' sessions: role + 1, or 0 for none |
 -- | 64 | 57 | how many role pairs, then 28 of 2: senior, junior |
 -- | 121 | 321 | how many grants, then 32 of 10: uid, role, password in 8 |
--- | 442 | 5700 | zero |
--- | 6142 | 59394 | the tree |
+-- | 442 | 6980 | zero |
+-- | 7422 | 58114 | the tree |
 --
 -- `decode` answers the state whose encoding the bytes are, if it is well-formed; it is the only one (`encode-decode`).
 use mathlib.Core.List.{List, [], _∷_, _++_}

@@ -14,7 +14,7 @@
 pub const STORE: usize = 65536;
 
 // Those of the header; the tree begins behind them.
-pub const HEADER: usize = 6142;
+pub const HEADER: usize = 7422;
 
 // The bytes of an account's slot.
 pub const SLOT: usize = 3;

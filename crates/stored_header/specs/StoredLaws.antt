@@ -11,6 +11,7 @@ use Rattle.accounts.specs.declared.Caller.{Caller}
 use Rattle.accounts.specs.Dominance.{Bounded-role}
 use Rattle.tree.specs.Result.{Result, refused, done, _>>=_}
 use Rattle.tree.specs.Encoding.{encode-tree}
+use Rattle.tree.specs.ResultLaws.{refused-bind, done-bind}
 use Rattle.shell.specs.declared.Answer.{Answer}
 use Rattle.shell.specs.Replies.{reply, answer-of, written}
 use Rattle.shell.specs.CommandBytes.{bytes-after, Carries-silently}
@@ -66,17 +67,17 @@ module _ {b : List ℕ} {s : State} (h : Stored b s) where
   header-carries : (steps : Result Sessions) (r : Answer) (H : List ℕ) → Header-follows (s .setup) steps (take header-width b) r H
       → Carries-silently (bytes-with (s .setup)) (steps >>= λ z. done (record { text = none; state = record { tree = s .store .tree; sessions = z } })) b r
       (H ++ drop header-width b)
-  unfolding reply answer-of written bytes-after encode _>>=_
-  header-carries (refused k) r H f a = record {
-    tells = f a .tells;
-    bytes = ap (λ (l : List ℕ). l ++ drop header-width b) (f a .bytes) ∙ take-append-drop header-width b;
-    text = f a .text;
-  }
-  header-carries (done z) r H f a = record {
-    tells = f a .tells;
-    bytes = ap₂ _++_ (f a .bytes) (h .tree .bytes);
-    text = f a .text;
-  }
+  unfolding reply answer-of written bytes-after encode
+  header-carries (refused k) r H f a = let g = rw refused-bind at (f a) in rw refused-bind (record {
+    tells = g .tells;
+    bytes = ap (λ (l : List ℕ). l ++ drop header-width b) (g .bytes) ∙ take-append-drop header-width b;
+    text = g .text;
+  })
+  header-carries (done z) r H f a = let g = rw done-bind at (f a) in rw done-bind (record {
+    tells = g .tells;
+    bytes = ap₂ _++_ (g .bytes) (h .tree .bytes);
+    text = g .text;
+  })
 
   -- `login` and `logout`
   pub login-carries : (c : Caller) (z : Bounded-role) (password : Text) (r : Answer) (H : List ℕ)

@@ -70,6 +70,10 @@ unfoldable pub in-rep : Path → Path
 in-rep root = root ▹ rep
 in-rep (p ▹ n) = in-rep p ▹ n
 
+-- the path of an entry below `/rep`, and from `/`
+unfoldable pub below-rep : Entry-path → Path
+below-rep e = e .folder ▹ e .name
+
 unfoldable pub entry-location : Entry-path → Path
 entry-location e = in-rep (e .folder) ▹ e .name
 

@@ -252,11 +252,6 @@ path-text-fits (p ▹ n) h =
     let r : _ = names-text-fits (p ▹ n) (i .0) in
     (omega (arith, r .0, leb-true (depth (p ▹ n)) 6 (i .1)), r .1)
 
--- so the text of an entry path fits a tag
-pub entry-text-fits : (e : Entry-path) → is-entry-path e ≡ true → (length (entry-text e) ≤ 54) × (lacks 0 (entry-text e) ≡ true)
-unfolding entry-text is-entry-path
-entry-text-fits e h = path-text-fits (entry-location e) h
-
 in-rep-length : (p : Path) → has-names (in-rep p) ≡ true → length (names-text (in-rep p)) + 5 ≤ 9 * depth (in-rep p)
 unfolding names-text in-rep has-names depth rep bytes
 in-rep-length root h = omega arith
@@ -271,6 +266,11 @@ entry-text-length e h =
     let p : Path = e .folder ▹ e .name in
     let i : _ = and-both (has-names (in-rep p)) (leb (depth (in-rep p)) 6) h in
     omega (arith, in-rep-length p (i .0), leb-true (depth (in-rep p)) 6 (i .1))
+
+-- so the text of an entry path fits a tag
+pub entry-text-fits : (e : Entry-path) → is-entry-path e ≡ true → (length (entry-text e) ≤ 49) × (lacks 0 (entry-text e) ≡ true)
+unfolding entry-text is-entry-path
+entry-text-fits e h = (entry-text-length e h, path-text-fits (entry-location e) h .1)
 
 -- and at least one
 pub entry-text-some : (e : Entry-path) → length (entry-text e) ≡ 0 → ⊥

@@ -13,14 +13,78 @@ pub wrong-setup-is : wrong-setup ≡ 17
 unfolding wrong-setup
 wrong-setup-is = refl
 
--- the numbers by which calls other than a command are refused
+-- the table, row by row
+pub no-form-number : number NoForm ≡ 1
+unfolding number
+no-form-number = refl
+
+pub unknown-caller-number : number UnknownCaller ≡ 2
+unfolding number
+unknown-caller-number = refl
+
 pub missing-number : number Missing ≡ 3
 unfolding number
 missing-number = refl
 
+pub not-directory-number : number NotDirectory ≡ 4
+unfolding number
+not-directory-number = refl
+
+pub access-number : number Access ≡ 5
+unfolding number
+access-number = refl
+
+pub exists-number : number Exists ≡ 6
+unfolding number
+exists-number = refl
+
+pub wrong-kind-number : number WrongKind ≡ 7
+unfolding number
+wrong-kind-number = refl
+
+pub not-empty-number : number NotEmpty ≡ 8
+unfolding number
+not-empty-number = refl
+
+pub reserved-number : number Reserved ≡ 9
+unfolding number
+reserved-number = refl
+
+pub full-number : number Full ≡ 10
+unfolding number
+full-number = refl
+
+pub into-itself-number : number IntoItself ≡ 11
+unfolding number
+into-itself-number = refl
+
+pub no-session-number : number NoSession ≡ 12
+unfolding number
+no-session-number = refl
+
+pub no-grant-number : number NoGrant ≡ 13
+unfolding number
+no-grant-number = refl
+
+pub stale-number : number Stale ≡ 14
+unfolding number
+stale-number = refl
+
+pub untagged-number : number Untagged ≡ 15
+unfolding number
+untagged-number = refl
+
+pub revisions-spent-number : number RevisionsSpent ≡ 16
+unfolding number
+revisions-spent-number = refl
+
 pub unsound-number : number Unsound ≡ 18
 unfolding number
 unsound-number = refl
+
+pub too-deep-number : number TooDeep ≡ 19
+unfolding number
+too-deep-number = refl
 
 pub short-answer-number : number ShortAnswer ≡ 20
 unfolding number

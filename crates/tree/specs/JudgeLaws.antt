@@ -8,10 +8,10 @@ use Rattle.syntax.specs.Path.{Path, last, is-top}
 use Rattle.accounts.specs.declared.Right.{Right}
 use Rattle.accounts.specs.declared.Right.the-variants.{R, W, X}
 use Rattle.accounts.specs.declared.Account.{Account}
-use Rattle.accounts.specs.Access.{may}
+use Rattle.accounts.specs.Access.{is-root, same-uid, may}
 use Rattle.tree.specs.declared.Kind.{Kind}
 use Rattle.tree.specs.declared.Kind.the-variants.{File, Directory}
-use Rattle.tree.specs.Node.{is-directory, same-kind, Tag, Node, allows, set-revision, set-tag, set-content}
+use Rattle.tree.specs.Node.{is-directory, same-kind, Tag, Node, allows, owns, set-revision, set-tag, set-content}
 use Rattle.tree.specs.declared.Cause.the-variants.{Access, Exists}
 use Rattle.tree.specs.Result.{done, _>>=_, _>>_, require}
 use Rattle.tree.specs.Forest.{Place}
@@ -47,6 +47,11 @@ module _ (a : Account) (n : Node) where
   pub allows-is : (t : Right) → allows a t n ≡ may a t (n .owner) (n .group) (n .mode)
   unfolding allows
   allows-is t = refl
+
+  -- the owner or root
+  pub owns-is : owns a n ≡ (is-root (a .uid) || same-uid (a .uid) (n .owner))
+  unfolding owns
+  owns-is = refl
 
   pub kind-by-modes : by-modes a .kind n ≡ n .kind
   unfolding by-modes

@@ -10,7 +10,7 @@
 use Prim.Native.Nat.{ℕ, _+_, _*_}
 
 abbrev pub row-width : ℕ
-row-width = 232
+row-width = 227
 
 abbrev pub most-rows : ℕ
 most-rows = 256
@@ -30,11 +30,11 @@ half-rows = 128
 
 -- the number of rows, and all rows
 abbrev pub tree-width : ℕ
-tree-width = 59394
+tree-width = 58114
 
 -- where the row at an index begins
 abbrev pub row-start : ℕ → ℕ
-row-start i = 2 + 232 * i
+row-start i = 2 + 227 * i
 
 abbrev pub kind-offset : ℕ
 kind-offset = 1
@@ -61,17 +61,17 @@ abbrev pub tag-offset : ℕ
 tag-offset = 16
 
 abbrev pub tag-width : ℕ
-tag-width = 54
+tag-width = 49
 
 abbrev pub tag-revision-offset : ℕ
-tag-revision-offset = 70
+tag-revision-offset = 65
 
 -- the path and the revision
 abbrev pub whole-tag-width : ℕ
-whole-tag-width = 56
+whole-tag-width = 51
 
 abbrev pub content-offset : ℕ
-content-offset = 72
+content-offset = 67
 
 abbrev pub content-width : ℕ
 content-width = 80

@@ -12,13 +12,13 @@
 // The specification's offsets are in specs/Layout.antt; a proof fails where the two differ.
 
 // All bytes of a tree.
-pub const TREE: usize = 59394;
+pub const TREE: usize = 58114;
 
 // Where the first row begins, behind the number of rows.
 pub const FIRST: usize = 2;
 
 // The bytes of a row.
-pub const ROW: usize = 232;
+pub const ROW: usize = 227;
 
 // How many rows there is room for.
 pub const MOST_ROWS: usize = 256;
@@ -48,16 +48,16 @@ pub const NAME: usize = 8;
 
 pub const TAG: usize = 16;
 
-pub const TAG_REVISION: usize = 70;
+pub const TAG_REVISION: usize = 65;
 
-pub const CONTENT: usize = 72;
+pub const CONTENT: usize = 67;
 
 // The bytes of a row behind its name.
-pub const BEHIND_NAME: usize = 216;
+pub const BEHIND_NAME: usize = 211;
 
 // The widths of its texts.
 pub const NAME_WIDTH: usize = 8;
 
-pub const TAG_WIDTH: usize = 54;
+pub const TAG_WIDTH: usize = 49;
 
 pub const CONTENT_WIDTH: usize = 80;

@@ -178,3 +178,8 @@ module _ {b : List ℕ} {t : Place Node} (tree : Encodes b t) (a : Account) (s :
     -- one that was refused is the tree's refused parent walk
     pub parent-walk-not : {k : Cause} → outcome r ≡ parent-walk-in a (all-rows b) s → r ≡ Refused k → parent-walk (by-modes a) t p ≡ refused k
     parent-walk-not w e = came-not tree (parent-walk (by-modes a) t p) (parent p) (w ∙ is-parent-walk) e
+
+-- where a walk came are the rows of its place
+pub came-spot : {b : List ℕ} {t : Place Node} {p : Path} {w : Result (Place Node)} {row above : ℕ} → Came b t p w row above → spot row above ≡ spot-of t p
+unfolding spot-of
+came-spot c = λ i. record { row = c .at .row i; above = c .over-at .row i }

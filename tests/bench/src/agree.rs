@@ -62,7 +62,7 @@ pub fn agree(seed: u64, lines: u64) -> bool {
 
 /// One line; now and then on a spoilt store, with a short or long answer buffer, or a listing.
 fn step(random: &mut Random, buffers: &mut Buffers, tally: &mut Tally) {
-    let nodes = usize::from(u16::from_le_bytes([buffers.store[6142], buffers.store[6143]]));
+    let nodes = usize::from(u16::from_le_bytes([buffers.store[7422], buffers.store[7423]]));
     let line = random.line(&buffers.store, nodes);
     if random.once_in(10) {
         let mut spoilt = buffers.clone();
@@ -80,9 +80,9 @@ fn step(random: &mut Random, buffers: &mut Buffers, tally: &mut Tally) {
 
 /// Makes every revision that is not 0 the last one.
 fn age(store: &mut [u8]) {
-    let nodes = usize::from(u16::from_le_bytes([store[6142], store[6143]]));
-    for row in store[6144..].chunks_mut(232).take(nodes) {
-        for at in [6, 70] {
+    let nodes = usize::from(u16::from_le_bytes([store[7422], store[7423]]));
+    for row in store[7424..].chunks_mut(227).take(nodes) {
+        for at in [6, 65] {
             if row[at..at + 2] != [0, 0] {
                 row[at..at + 2].copy_from_slice(&9999u16.to_le_bytes());
             }
@@ -97,12 +97,12 @@ fn spoil(random: &mut Random, store: &mut Vec<u8>, nodes: usize) {
         return;
     }
     for _ in 0..1 + random.below(2) {
-        let row = 6144 + 232 * random.below(nodes);
+        let row = 7424 + 227 * random.below(nodes);
         let at = match random.below(8) {
             0 => random.below(STORE),
             1 => random.below(450),
-            2 => 6142 + random.below(2),
-            3 => 6144 + 232 * nodes.saturating_sub(1) + random.below(464),
+            2 => 7422 + random.below(2),
+            3 => 7424 + 227 * nodes.saturating_sub(1) + random.below(454),
             4 | 5 => row + random.below(20),
             _ => row + random.below(160),
         }

@@ -116,7 +116,7 @@ impl Case {
 
 /// The number of nodes in a store.
 pub fn nodes(store: &[u8]) -> usize {
-    u16::from_le_bytes([store[6142], store[6143]]).into()
+    u16::from_le_bytes([store[7422], store[7423]]).into()
 }
 
 fn do_line(store: &mut [u8], line: &str) {

@@ -159,7 +159,7 @@ fn damage_value(rng: &mut Rng, store: &mut [u8]) -> &'static str {
             rng.pick::<&str>(&["", "a", "abcdefgh", "A", "a b", "a/b", "..", "zzzzzzzz", "rep"]),
             "name",
         ),
-        8 | 9 => set_text(store, at + TAG_PATH, 54, tag_text(rng), "tag path"),
+        8 | 9 => set_text(store, at + TAG_PATH, TAG_REVISION - TAG_PATH, tag_text(rng), "tag path"),
         10 => set_text(store, at + CONTENT, 80, &"x".repeat(*rng.pick(&[0, 1, 63, 64, 65, 79, 80])), "content's length"),
         11 => {
             set_text(store, at + CONTENT, 80, rng.pick::<&str>(&[" ", "~", "a,b", "\x1f", "\x7f", "a\0b", "/", "\n"]), "content")

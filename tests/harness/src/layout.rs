@@ -14,9 +14,9 @@ pub const PAIRS: usize = 64;
 pub const GRANTS: usize = 121;
 pub const GRANT: usize = 10;
 pub const SPARE: usize = 442;
-pub const ROWS: usize = 6_142;
-pub const TABLE: usize = 6_144;
-pub const ROW: usize = 232;
+pub const ROWS: usize = 7_422;
+pub const TABLE: usize = 7_424;
+pub const ROW: usize = 227;
 
 // Places in a row.
 pub const KIND: usize = 1;
@@ -26,9 +26,9 @@ pub const MODE: usize = 4;
 pub const REVISION: usize = 6;
 pub const NAME: usize = 8;
 pub const TAG_PATH: usize = 16;
-pub const TAG_REVISION: usize = 70;
-pub const CONTENT: usize = 72;
-pub const ROW_SPARE: usize = 152;
+pub const TAG_REVISION: usize = 65;
+pub const CONTENT: usize = 67;
+pub const ROW_SPARE: usize = 147;
 
 /// The state of a sound store, or in a few words what is unsound.
 pub fn decode(store: &[u8]) -> Result<State, &'static str> {

@@ -1,14 +1,12 @@
 -- `entry_runner::entry_command` meets its contract: each case is the command that its parts mean.
-use mathlib.Core.Path.{_∙_}
+use mathlib.Core.Path.{sym, ap, _∙_}
 use denote.Ref.{now}
+use Rattle.accounts.specs.Closure.{session-dominates}
 use Rattle.accounts.specs.Dominance.{role-low}
 use Rattle.commands.specs.Parsed.{Means}
-use Rattle.machine.specs.Machine.{run-repository}
-use Rattle.entries.specs.EntryStepsLaws.{commit-acts, up-acts, del-acts}
-use Rattle.adding.specs.AddLaws.{add-acts}
-use Rattle.checkout.specs.CheckoutRunLaws.{co-acts}
 use Rattle.meanings.specs.MeaningLaws.{meant-as, part-read}
-use Rattle.entry_runner.specs.EntryDoneLaws.{same-repository, session-tells}
+use Rattle.entry_runner.specs.EntryDone.{entry-steps}
+use Rattle.entry_runner.specs.EntryDoneLaws.{same-steps, add-follows}
 use Rattle.meanings.specs.CasesLaws.{no-entry-case}
 use Rattle.entry_runner.proofs.entry_command.Statement.{statement}
 use Rattle.entry_runner.proofs.entry_command.Tie as tie
@@ -113,64 +111,65 @@ same-length : tie.Need-same-length
 same-length c = c .before .before .add .kept .0
 
 returns : tie.Need-returns
-unfolding Means run-repository
-returns c j k held rows n m =
+unfolding Means
+returns c t k tree n m =
     let a = c .before .before .before .before .before .before .before .before .before .before .before .before .args in
     let i = meant-as (c .before .before .before .before .before .before .before .before .command .given .1) m in
-    let tells = session-tells (j .setup .pairs) (a .dominance .rows) rows (j .role) (i .2) held (i .5) in
+    let dominates = session-dominates (a .session) (a .dominance .rows) in
+    let own = c .before .before .before .before .before .dominates .ensures ∙ ap dominates (sym (i .5)) in
     let working = part-read _ (c .before .before .before .before .part .ensures) (i .3) in
     let entry = part-read _ (c .before .before .before .part2 .ensures) (i .4) in
-    same-repository (a .caller) (j .setup) (j .state) (i .6)
-    (add-acts j (i .0) (i .1) (i .2) (i .5) (c .before .before .before .before .before .dominates .ensures ∙ tells)
-    (c .before .before .add .ensures (i .0) (i .1) working entry (j .state .tree) (i .2) (j .tree) (i .5)))
+    same-steps (a .caller) (a .account) dominates t (i .6)
+    (add-follows (a .caller) (a .account) dominates t (i .0) (i .1) (i .2) own
+    (c .before .before .add .ensures (i .0) (i .1) working entry t (i .2) tree (i .5)))
 
 same-length-2 : tie.Need-same-length-2
 same-length-2 c = c .before .before .co .kept .0
 
 returns-2 : tie.Need-returns-2
-unfolding Means run-repository
-returns-2 c j k held rows n m =
+unfolding Means entry-steps
+returns-2 c t k tree n m =
     let a = c .before .before .before .before .before .before .before .before .before .before .before .args in
     let i = meant-as (c .before .before .before .before .before .before .before .command2 .given .1) m in
     let entry = part-read _ (c .before .before .before .before .part3 .ensures) (i .2) in
     let to = part-read _ (c .before .before .before .part4 .ensures) (i .3) in
-    same-repository (a .caller) (j .setup) (j .state) (i .4) (co-acts j (i .0) (i .1) (c .before .before .co .ensures (j .state .tree) (i .0) (j .tree) entry (i .1) to))
+    same-steps (a .caller) (a .account) (session-dominates (a .session) (a .dominance .rows)) t (i .4) (c .before .before .co .ensures t (i .0) tree entry (i .1) to)
 
 same-length-3 : tie.Need-same-length-3
 same-length-3 c = c .before .before .commit .kept .0
 
 returns-3 : tie.Need-returns-3
-unfolding Means run-repository
-returns-3 c j k held rows n m =
+unfolding Means entry-steps
+returns-3 c t k tree n m =
     let a = c .before .before .before .before .before .before .before .before .before .before .args in
     let i = meant-as (c .before .before .before .before .before .before .command3 .given .1) m in
     let q = part-read _ (c .before .before .before .part5 .ensures) (i .1) in
-    same-repository (a .caller) (j .setup) (j .state) (i .2) (commit-acts j (i .0) (c .before .before .commit .ensures (j .state .tree) (i .0) (j .tree) q))
+    same-steps (a .caller) (a .account) (session-dominates (a .session) (a .dominance .rows)) t (i .2) (c .before .before .commit .ensures t (i .0) tree q)
 
 same-length-4 : tie.Need-same-length-4
 same-length-4 c = c .before .before .up .kept .0
 
 returns-4 : tie.Need-returns-4
-unfolding Means run-repository
-returns-4 c j k held rows n m =
+unfolding Means entry-steps
+returns-4 c t k tree n m =
     let a = c .before .before .before .before .before .before .before .before .before .before .args in
     let i = meant-as (c .before .before .before .before .before .before .command4 .given .1) m in
     let q = part-read _ (c .before .before .before .part6 .ensures) (i .1) in
-    same-repository (a .caller) (j .setup) (j .state) (i .2) (up-acts j (i .0) (c .before .before .up .ensures (j .state .tree) (i .0) (j .tree) q))
+    same-steps (a .caller) (a .account) (session-dominates (a .session) (a .dominance .rows)) t (i .2) (c .before .before .up .ensures t (i .0) tree q)
 
 same-length-5 : tie.Need-same-length-5
 same-length-5 c = c .before .before .del .kept .0
 
 returns-5 : tie.Need-returns-5
-unfolding Means run-repository
-returns-5 c j k held rows n m =
+unfolding Means entry-steps
+returns-5 c t k tree n m =
     let a = c .before .before .before .before .before .before .before .before .before .before .args in
     let i = meant-as (c .before .before .before .before .before .before .command5 .given .1) m in
     let q = part-read _ (c .before .before .before .part7 .ensures) (i .1) in
-    same-repository (a .caller) (j .setup) (j .state) (i .2) (del-acts j (i .0) (c .before .before .del .ensures (j .state .tree) (i .0) (j .tree) q))
+    same-steps (a .caller) (a .account) (session-dominates (a .session) (a .dominance .rows)) t (i .2) (c .before .before .del .ensures t (i .0) tree q)
 
 returns-6 : tie.Need-returns-6
-returns-6 c j k held rows n m =
+returns-6 c t k tree n m =
     let a = c .before .before .before .args in
     no-entry-case (now (a .line)) (a .command) k n (c .match .keys6) (m .means)
 

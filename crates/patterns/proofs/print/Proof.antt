@@ -6,7 +6,7 @@ use Rattle.patterns.proofs.print.Statement.{statement}
 use Rattle.patterns.proofs.print.Tie as tie
 
 slice-aggregate-write-all : tie.Need-slice-aggregate-write-all
-slice-aggregate-write-all c = let s = c .before .before in sym (length-take-le (s .args .n) (now (s .args .out)) (s .pre))
+slice-aggregate-write-all c = let s = c .before .before .before in sym (length-take-le (s .args .n) (now (s .args .out)) (s .pre .0))
 
 write-all-requires : tie.Need-write-all-requires
 write-all-requires c κs = tt

@@ -67,7 +67,12 @@ same-length c =
     e
 
 returns : tie.Need-returns
-returns c = tt
+returns c =
+    let s = c .before .before .before .before .before .before .before .before .before .before .before .before .before in
+    let m = c .before .before .before .before .before .before .before .before .before .move-bytes in
+    let r = c .before .before .before .before .before .read in
+    let a = s .args .at in
+    in-front (now (s .args .window)) (m .last .0) (r .last .1 .0) (a .from) (a .to) (s .pre .ordered) (s .pre .within) (m .kept .0) (m .ensures)
 
 sub-count : tie.Need-sub-count
 sub-count c =

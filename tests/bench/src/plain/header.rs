@@ -8,7 +8,7 @@ pub const MOST_PAIRS: usize = 28;
 pub const GRANTS: usize = 121;
 pub const MOST_GRANTS: usize = 32;
 pub const SPARE: usize = 442;
-pub const SPARE_END: usize = 6142;
+pub const SPARE_END: usize = 7422;
 
 /// A person's primary group, or 0 where there is no such person.
 pub fn primary(header: &Header, uid: u8) -> u8 {

@@ -7,11 +7,11 @@ pub const MOST_NAMES: usize = 6;
 pub const LAST_REVISION: u16 = 9999;
 pub const SET_GID: u16 = 0o2000;
 
-const ROWS: usize = 6144;
-const COUNT: usize = 6142;
+const ROWS: usize = 7424;
+const COUNT: usize = 7422;
 
 pub type Header = [u8; ROWS];
-pub type Row = [u8; 232];
+pub type Row = [u8; 227];
 
 /// A store: the header, which ends with the number of rows, and the rows.
 pub struct Store<'a> {
@@ -59,7 +59,7 @@ pub trait Fields {
     fn mode(&self) -> u16;
     fn revision(&self) -> u16;
     fn name(&self) -> u64;
-    fn tag_path(&self) -> &[u8; 54];
+    fn tag_path(&self) -> &[u8; 49];
     fn tag_revision(&self) -> u16;
     fn content(&self) -> &[u8; 80];
     fn spare(&self) -> &[u8; 80];
@@ -110,17 +110,17 @@ impl Fields for Row {
     fn name(&self) -> u64 {
         u64::from_be_bytes(*part(self, 8))
     }
-    fn tag_path(&self) -> &[u8; 54] {
+    fn tag_path(&self) -> &[u8; 49] {
         part(self, 16)
     }
     fn tag_revision(&self) -> u16 {
-        u16::from_le_bytes(*part(self, 70))
+        u16::from_le_bytes(*part(self, 65))
     }
     fn content(&self) -> &[u8; 80] {
-        part(self, 72)
+        part(self, 67)
     }
     fn spare(&self) -> &[u8; 80] {
-        part(self, 152)
+        part(self, 147)
     }
     fn set_depth(&mut self, depth: usize) {
         self[0] = depth as u8;
@@ -141,20 +141,20 @@ impl Fields for Row {
         put(self, 8, name.to_be_bytes());
     }
     fn set_tag(&mut self, path: &[u8], revision: u16) {
-        put_text(&mut self[16..70], path);
+        put_text(&mut self[16..65], path);
         self.set_tag_revision(revision);
     }
     fn set_tag_revision(&mut self, revision: u16) {
-        put(self, 70, revision.to_le_bytes());
+        put(self, 65, revision.to_le_bytes());
     }
     fn set_content(&mut self, text: &[u8]) {
-        put_text(&mut self[72..152], text);
+        put_text(&mut self[67..147], text);
     }
 }
 
 /// A new node's row: no revision, tag or content.
 pub fn new_row(depth: usize, kind: u8, owner: u8, group: u8, mode: u16, name: u64) -> Row {
-    let mut row = [0; 232];
+    let mut row = [0; 227];
     row[0] = depth as u8;
     row[1] = kind;
     row[2] = owner;

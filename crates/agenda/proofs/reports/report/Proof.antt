@@ -5,57 +5,40 @@ use Rattle.agenda.proofs.reports.report.Statement.{statement}
 use Rattle.agenda.proofs.reports.report.Tie as tie
 
 enum-told : tie.Need-enum-told
-enum-told c = c .match .keys1
-
-report-setup-requires : tie.Need-report-setup-requires
-report-setup-requires c κs = search needs
-
-enum-told-2 : tie.Need-enum-told-2
-enum-told-2 c = c .match .keys2
+enum-told c = search needs
 
 write-reply-requires : tie.Need-write-reply-requires
 write-reply-requires c κs = search needs
 
-enum-told-3 : tie.Need-enum-told-3
-enum-told-3 c = c .match .keys3
+enum-told-2 : tie.Need-enum-told-2
+enum-told-2 c = search needs
 
 report-listed-requires : tie.Need-report-listed-requires
 report-listed-requires c κs = search needs
 
 same-length : tie.Need-same-length
-same-length c = c .before .before .report-setup .kept .1 .1 .0
+same-length c = search needs
 
 returns : tie.Need-returns
 unfolding report-text
-returns c = rw (c .before .before .before .before .enum-told .given .1) (c .before .before .report-setup .ensures)
+returns c = rw (c .before .before .before .before .enum-told .given .1) (c .before .before .write-reply .ensures)
 
 same-length-2 : tie.Need-same-length-2
-same-length-2 c = c .before .before .write-reply .kept .1 .1 .0
+same-length-2 c = search needs
 
 returns-2 : tie.Need-returns-2
 unfolding report-text
-returns-2 c = rw (c .before .before .before .before .enum-told2 .given .1) (c .before .before .write-reply .ensures)
-
-same-length-3 : tie.Need-same-length-3
-same-length-3 c = c .before .before .report-listed .kept .1 .1 .0
-
-returns-3 : tie.Need-returns-3
-unfolding report-text
-returns-3 c = rw (c .before .before .before .before .enum-told3 .given .1) (c .before .before .report-listed .ensures)
+returns-2 c = rw (c .before .before .before .before .enum-told2 .given .1) (c .before .before .report-listed .ensures)
 
 pub report-spec : {M : Type 1} → statement M
 report-spec =
     tie.close
     (tie.spec
     enum-told
-    report-setup-requires
-    enum-told-2
     write-reply-requires
-    enum-told-3
+    enum-told-2
     report-listed-requires
     same-length
     returns
     same-length-2
-    returns-2
-    same-length-3
-    returns-3)
+    returns-2)

@@ -38,8 +38,8 @@ returns c =
     let h = p .before .before .before .before in
     let a = c .before .before .before .before .before .before .before .before .before .before .before .before .before .before .args in
     z .clear .ensures
-    ∙ ap (λ (l : List ℕ). paste l (a .at + 16) (replicate 216 0) 216) (p .write-padded .ensures)
-    ∙ ap (λ (l : List ℕ). paste (paste l (a .at + 8) (padded name-width (now (a .name))) 8) (a .at + 16) (replicate 216 0) 216) (h .write-head .ensures)
+    ∙ ap (λ (l : List ℕ). paste l (a .at + 16) (replicate 211 0) 211) (p .write-padded .ensures)
+    ∙ ap (λ (l : List ℕ). paste (paste l (a .at + 8) (padded name-width (now (a .name))) 8) (a .at + 16) (replicate 211 0) 211) (h .write-head .ensures)
     ∙ row-written (a .depth) (now (a .name)) (a .node) (now (a .tree)) (a .at) (omega arith) (omega arith)
 
 pub write-row-spec : {M : Type 1} → statement M

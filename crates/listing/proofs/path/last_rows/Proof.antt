@@ -1,21 +1,23 @@
 -- `listing::path::last_rows` meets its contract: each row takes the place of the one last seen at its depth.
-use mathlib.Core.Path.{_≡_}
+use mathlib.Core.Path.{_≡_, refl}
 use native.Mathlib.Omega.{arith}
 use Prim.Native.Nat.{_≤_, _+_, _-_}
+use denote.Ref.{now}
 use Rattle.tree.specs.TreeBytesLaws.{encoded-depth}
-use Rattle.listing.specs.RowListing.{Last-rows}
-use Rattle.listing.specs.RowListingLaws.{whole-row, last-none, last-more}
+use Rattle.listing.specs.RowListing.{last-among}
+use Rattle.listing.specs.RowListingLaws.{whole-row, last-next}
 use Rattle.listing.proofs.path.last_rows.Statement.{statement}
 use Rattle.listing.proofs.path.last_rows.Tie as tie
 
 abbrev Inv-loop : tie.InvT-loop
-Inv-loop tree n last₀ i₀ last i = (i ≤ n + 1) × Last-rows tree i last
+Inv-loop tree n last₀ i₀ last i = (i ≤ n + 1) × (last ≡ last-among tree i)
 
 abbrev μ-loop : tie.MeasureT-loop
 μ-loop tree n last₀ i₀ last i = n + 1 - i
 
 loop-holds : tie.Need-loop-holds Inv-loop μ-loop
-loop-holds c = (omega arith, last-none (c .before .pre .0 .1))
+unfolding last-among
+loop-holds c = (omega arith, refl)
 
 depth-at-requires : tie.Need-depth-at-requires Inv-loop μ-loop
 depth-at-requires c κs = whole-row (c .before .loop .i) (c .before .before .before .pre .0) (omega arith)
@@ -41,13 +43,8 @@ loop-less c = omega arith
 
 loop-again : tie.Need-loop-again Inv-loop μ-loop
 loop-again c =
-    let w = c .before .before .before .before .pre .0 in
     let l = c .before .before .loop in
-    let d = c .depth-at in (
-      omega arith,
-      last-more (l .inv .1) (d .result) (omega arith) (whole-row (l .i) w (omega arith)) (d .ensures)
-          (omega (arith, d .ensures, encoded-depth (w .1) {i = l .i} (omega arith))),
-    )
+    (omega arith, last-next (now (c .before .before .before .before .args .tree)) (l .i) (c .depth-at .result) (l .inv .1) (c .depth-at .ensures))
 
 returns : tie.Need-returns Inv-loop μ-loop
 returns c =

@@ -6,7 +6,7 @@ use Rattle.buffers.specs.OverLaws.{wrote-byte}
 use Rattle.syntax.specs.Path.{path-text}
 use Rattle.tree.specs.TreeBytesLaws.{encoded-depth}
 use Rattle.listing.specs.RowListing.{names-told}
-use Rattle.listing.specs.RowListingLaws.{top-path, told-path, path-of-names, writes-as}
+use Rattle.listing.specs.RowListingLaws.{top-path, told-path, last-told, path-of-names, writes-as}
 use borrow.Author.Needs.{needs}
 use Rattle.listing.proofs.path.write_path.Statement.{statement}
 use Rattle.listing.proofs.path.write_path.Tie as tie
@@ -36,7 +36,7 @@ write-names-requires : tie.Need-write-names-requires
 write-names-requires c κs =
     let s = c .before .before .before .before .before .before in
     let low = encoded-depth (s .pre .0 .1) {i = s .args .n} (omega arith) in
-    (c .before .last-rows .ensures .told, (omega (arith, c .before .before .before .depth-at .ensures), omega arith))
+    (last-told (s .pre .0) (s .args .n) (omega arith) (c .before .last-rows .ensures) .told, (omega (arith, c .before .before .before .depth-at .ensures), omega arith))
 
 same-length-2 : tie.Need-same-length-2
 same-length-2 c = search needs
@@ -48,7 +48,7 @@ returns-2 c =
     let s = c .before .before .before .before .before .before .before .before .before in
     let b = now (s .args .tree) in
     let low = encoded-depth (s .pre .0 .1) {i = s .args .n} (omega arith) in
-    let same = told-path (s .args .n) (v .ensures) (d .result) (d .ensures) (omega (arith, d .ensures)) in
+    let same = told-path (s .args .n) (last-told (s .pre .0) (s .args .n) (omega arith) (v .ensures)) (d .result) (d .ensures) (omega (arith, d .ensures)) in
     let text = path-of-names (names-told b (v .result)) (d .result) (c .before .before .before .before .before .if1 .left) in
     writes-as (sym text ∙ ap path-text same) (c .before .before .write-names .ensures)
 

@@ -29,7 +29,7 @@ returns : tie.Need-returns
 returns c =
     let a = c .before .before .before .before .before .before .args in
     let s = now (a .content) in
-    c .before .before .write-padded .ensures ∙ piece-put (now (a .tree)) (a .i) 72 (padded content-width s) 80 (length-padded content-width s (omega arith))
+    c .before .before .write-padded .ensures ∙ piece-put (now (a .tree)) (a .i) 67 (padded content-width s) 80 (length-padded content-width s (omega arith))
 
 pub set-content-spec : {M : Type 1} → statement M
 set-content-spec =

@@ -24,7 +24,7 @@ same-length c = search needs
 returns : tie.Need-returns
 returns c =
     let a = c .before .before .before .before .before .args in
-    c .before .before .write-number .ensures ∙ number-put (now (a .tree)) (a .i) 70 (a .revision)
+    c .before .before .write-number .ensures ∙ number-put (now (a .tree)) (a .i) 65 (a .revision)
 
 pub set-tag-revision-spec : {M : Type 1} → statement M
 set-tag-revision-spec =

@@ -5,7 +5,7 @@ use Rattle.tree.specs.TreeBytesLaws.{at-used}
 use Rattle.walks.specs.WalkBytesLaws.{walk-to, walk-not}
 use Rattle.gaps.specs.GapsLaws.{place-row}
 use Rattle.nodes.specs.NodeChecks.{may-move}
-use Rattle.nodes.specs.NodeChecksLaws.{moving-reserved, moving-stops, moving-there, refusal-told-at}
+use Rattle.nodes.specs.NodeChecksLaws.{reserved-told, moving-reserved, moving-stops, moving-there, refusal-told-at}
 use Rattle.nodes.proofs.moves.may_move.Statement.{statement}
 use Rattle.nodes.proofs.moves.may_move.Tie as tie
 
@@ -15,7 +15,7 @@ is-reserved-requires c κs = tt
 returns : tie.Need-returns
 returns c t p q tree from to =
     let a = c .before .before .before .before .before .args in
-    let first = sym (c .before .is-reserved .ensures p from) ∙ c .if1 .taken in
+    let first = sym (reserved-told (now (a .from)) (c .before .is-reserved .ensures) p from) ∙ c .if1 .taken in
     refusal-told-at t p (may-move (a .account) t p q) (moving-reserved (a .account) t p q (rw first))
 
 is-reserved-requires-2 : tie.Need-is-reserved-requires-2
@@ -24,8 +24,8 @@ is-reserved-requires-2 c κs = tt
 returns-2 : tie.Need-returns-2
 returns-2 c t p q tree from to =
     let a = c .before .before .before .before .before .before .before .args in
-    let first = sym (c .before .before .before .is-reserved .ensures p from) ∙ c .before .before .if1 .left in
-    let second = sym (c .before .is-reserved2 .ensures q to) ∙ c .if2 .taken in
+    let first = sym (reserved-told (now (a .from)) (c .before .before .before .is-reserved .ensures) p from) ∙ c .before .before .if1 .left in
+    let second = sym (reserved-told (now (a .to)) (c .before .is-reserved2 .ensures) q to) ∙ c .if2 .taken in
     refusal-told-at t p (may-move (a .account) t p q) (moving-reserved (a .account) t p q (rw (first, second)))
 
 walk-requires : tie.Need-walk-requires
@@ -46,18 +46,18 @@ may-move-row-requires c κs =
 returns-3 : tie.Need-returns-3
 returns-3 c t p q tree from to =
     let a = c .before .before .before .before .before .before .before .before .before .before .before .args in
-    let first = sym (c .before .before .before .before .before .before .before .is-reserved .ensures p from) ∙ c .before .before .before .before .before .before .if1 .left in
-    let second = sym (c .before .before .before .before .before .is-reserved2 .ensures q to) ∙ c .before .before .before .before .if2 .left in
+    let first = sym (reserved-told (now (a .from)) (c .before .before .before .before .before .before .before .is-reserved .ensures) p from) ∙ c .before .before .before .before .before .before .if1 .left in
+    let second = sym (reserved-told (now (a .to)) (c .before .before .before .before .before .is-reserved2 .ensures) q to) ∙ c .before .before .before .before .if2 .left in
     refusal-told-at t p (may-move (a .account) t p q)
     (moving-stops (a .account) t p q first second (walk-not tree (a .account) (now (a .from)) from (c .before .before .before .walk .ensures) (c .before .cause .given .1)))
 
 returns-4 : tie.Need-returns-4
 returns-4 c t p q tree from to =
     let a = c .before .before .before .before .before .before .before .before .before .before .before .before .args in
-    let first = sym (c .before .before .before .before .before .before .before .before .is-reserved .ensures p from) ∙ c .before .before .before .before .before .before .before .if1 .left in
-    let second = sym (c .before .before .before .before .before .before .is-reserved2 .ensures q to) ∙ c .before .before .before .before .before .if2 .left in
+    let first = sym (reserved-told (now (a .from)) (c .before .before .before .before .before .before .before .before .is-reserved .ensures) p from) ∙ c .before .before .before .before .before .before .before .if1 .left in
+    let second = sym (reserved-told (now (a .to)) (c .before .before .before .before .before .before .is-reserved2 .ensures) q to) ∙ c .before .before .before .before .before .if2 .left in
     let w = walk-to tree (a .account) (now (a .from)) from (c .before .before .before .before .walk .ensures) (c .before .before .row .given .1) in
-    c .may-move-row .ensures t p q tree from to (w .place) (w .over) (w .at) (w .over-at) ∙ moving-there (a .account) t p q first second w
+    c .may-move-row .ensures t q tree to ∙ moving-there (a .account) t p q first second w (now (a .from)) (now (a .to)) from to
 
 pub may-move-spec : {M : Type 1} → statement M
 may-move-spec =

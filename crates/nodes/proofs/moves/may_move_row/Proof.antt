@@ -1,13 +1,8 @@
 -- `nodes::moves::may_move_row` meets its contract: one law of the checks for each return.
-use mathlib.Core.Path.{sym, _∙_, ap}
+use mathlib.Core.Path.{sym, _∙_}
 use native.Mathlib.Omega.{arith}
 use Rattle.buffers.specs.Cases.{answers-false, answers-true}
-use Rattle.accounts.specs.declared.Right.the-variants.{W}
-use Rattle.tree.specs.Node.{Node, allows}
-use Rattle.tree.specs.TreeBytesLaws.{at-here}
-use Rattle.walks.specs.RowBelowLaws.{at-height}
 use Rattle.gaps.specs.GapsLaws.{room-to, room-not}
-use Rattle.nodes.specs.NodeChecks.{entry-to}
 use Rattle.nodes.specs.NodeChecksLaws.{entry-stops, entry-shut, entry-within, entry-deep, entry-done, refusal-told, spot-told}
 use borrow.Author.Needs.{needs}
 use Rattle.nodes.proofs.moves.may_move_row.Statement.{statement}
@@ -26,24 +21,22 @@ may-at-requires : tie.Need-may-at-requires
 may-at-requires c κs = c .before .before .before .before .before .before .before .pre .1 .1 .0
 
 returns : tie.Need-returns
-returns c t p q tree from to d e x y =
+returns c t q tree to =
     let a = c .before .before .before .before .before .before .before .before .before .args in
     let g = room-to tree (a .account) q (c .before .before .before .before .before .room-for .ensures t q tree to) (c .before .before .before .depth .given .1) in
-    let may = ap (λ (n : Node). allows (a .account) W n) (sym (at-here y)) in
-    refusal-told (a .row) (a .above) (entry-to (a .account) t p q d e)
-    (entry-shut (a .account) t p q d e (g .found) (may ∙ answers-false (c .before .may-at .ensures) (c .if1 .taken)))
+    refusal-told
+    (entry-shut (a .account) t q _ _ _ _ (g .found) (answers-false (c .before .may-at .ensures) (c .if1 .taken)))
 
 is-within-requires : tie.Need-is-within-requires
 is-within-requires c κs = tt
 
 returns-2 : tie.Need-returns-2
-returns-2 c t p q tree from to d e x y =
+returns-2 c t q tree to =
     let a = c .before .before .before .before .before .before .before .before .before .before .before .args in
     let g = room-to tree (a .account) q (c .before .before .before .before .before .before .before .room-for .ensures t q tree to) (c .before .before .before .before .before .depth .given .1) in
-    let may = ap (λ (n : Node). allows (a .account) W n) (sym (at-here y)) in
-    refusal-told (a .row) (a .above) (entry-to (a .account) t p q d e)
-    (entry-within (a .account) t p q d e (g .found) (may ∙ answers-true (c .before .before .before .may-at .ensures) (c .before .before .if1 .left))
-    (sym (c .before .is-within .ensures p q from to) ∙ c .if2 .taken))
+    refusal-told
+    (entry-within (a .account) t q _ _ _ _ (g .found) (answers-true (c .before .before .before .may-at .ensures) (c .before .before .if1 .left))
+    (sym (c .before .is-within .ensures) ∙ c .if2 .taken))
 
 cast-if3 : tie.Need-cast-if3
 cast-if3 c = search needs
@@ -55,30 +48,28 @@ add-if3 : tie.Need-add-if3
 add-if3 c = search needs
 
 returns-3 : tie.Need-returns-3
-returns-3 c t p q tree from to d e x y =
+returns-3 c t q tree to =
     let a = c .before .before .before .before .before .before .before .before .before .before .before .before .before .args in
     let g = room-to tree (a .account) q (c .before .before .before .before .before .before .before .before .before .room-for .ensures t q tree to) (c .before .before .before .before .before .before .before .depth .given .1) in
-    let may = ap (λ (n : Node). allows (a .account) W n) (sym (at-here y)) in
-    refusal-told (a .row) (a .above) (entry-to (a .account) t p q d e)
-    (entry-deep (a .account) t p q d e (g .found) (may ∙ answers-true (c .before .before .before .before .before .may-at .ensures) (c .before .before .before .before .if1 .left))
-    (sym (c .before .before .before .is-within .ensures p q from to) ∙ c .before .before .if2 .left)
-    (omega (arith, c .if3 .taken, g .level, c .before .height-below .ensures .0, at-height x)))
+    refusal-told
+    (entry-deep (a .account) t q _ _ _ _ (g .found) (answers-true (c .before .before .before .before .before .may-at .ensures) (c .before .before .before .before .if1 .left))
+    (sym (c .before .before .before .is-within .ensures) ∙ c .before .before .if2 .left)
+    (omega (arith, c .if3 .taken, g .level, c .before .height-below .ensures .0)))
 
 returns-4 : tie.Need-returns-4
-returns-4 c t p q tree from to d e x y =
+returns-4 c t q tree to =
     let a = c .before .before .before .before .before .before .before .args in
-    refusal-told (a .row) (a .above) (entry-to (a .account) t p q d e)
-    (entry-stops (a .account) t p q d e (room-not tree (a .account) q (c .before .before .before .room-for .ensures t q tree to) (c .before .cause .given .1)))
+    refusal-told
+    (entry-stops (a .account) t q _ _ _ _ (room-not tree (a .account) q (c .before .before .before .room-for .ensures t q tree to) (c .before .cause .given .1)))
 
 returns-5 : tie.Need-returns-5
-returns-5 c t p q tree from to d e x y =
+returns-5 c t q tree to =
     let a = c .before .before .before .before .before .before .before .before .before .before .before .before .before .args in
     let g = room-to tree (a .account) q (c .before .before .before .before .before .before .before .before .before .room-for .ensures t q tree to) (c .before .before .before .before .before .before .before .depth .given .1) in
-    let may = ap (λ (n : Node). allows (a .account) W n) (sym (at-here y)) in
-    spot-told (a .row) (a .above) (entry-to (a .account) t p q d e)
-    (entry-done (a .account) t p q d e (g .found) (may ∙ answers-true (c .before .before .before .before .before .may-at .ensures) (c .before .before .before .before .if1 .left))
-    (sym (c .before .before .before .is-within .ensures p q from to) ∙ c .before .before .if2 .left)
-    (omega (arith, c .if3 .left, g .level, c .before .height-below .ensures .0, at-height x)))
+    spot-told (a .row) (a .above)
+    (entry-done (a .account) t q _ _ _ _ (g .found) (answers-true (c .before .before .before .before .before .may-at .ensures) (c .before .before .before .before .if1 .left))
+    (sym (c .before .before .before .is-within .ensures) ∙ c .before .before .if2 .left)
+    (omega (arith, c .if3 .left, g .level, c .before .height-below .ensures .0)))
 
 pub may-move-row-spec : {M : Type 1} → statement M
 may-move-row-spec =

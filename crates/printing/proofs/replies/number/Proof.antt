@@ -1,5 +1,5 @@
 -- `printing::replies::number` meets its contract: each arm has the number of its row in the table.
-use Rattle.tree.specs.Causes.{number}
+use Rattle.tree.specs.CausesLaws.{no-form-number, unknown-caller-number, missing-number, not-directory-number, access-number, exists-number, wrong-kind-number, not-empty-number, reserved-number, full-number, into-itself-number, no-session-number, no-grant-number, stale-number, untagged-number, revisions-spent-number, unsound-number, too-deep-number, short-answer-number}
 use borrow.Author.Needs.{needs}
 use Rattle.printing.proofs.replies.number.Statement.{statement}
 use Rattle.printing.proofs.replies.number.Tie as tie
@@ -62,80 +62,61 @@ enum-told-19 : tie.Need-enum-told-19
 enum-told-19 c = search needs
 
 returns : tie.Need-returns
-unfolding number
-returns c = rw (c .enum-told .given .1)
+returns c = rw (c .enum-told .given .1, no-form-number)
 
 returns-2 : tie.Need-returns-2
-unfolding number
-returns-2 c = rw (c .enum-told2 .given .1)
+returns-2 c = rw (c .enum-told2 .given .1, unknown-caller-number)
 
 returns-3 : tie.Need-returns-3
-unfolding number
-returns-3 c = rw (c .enum-told3 .given .1)
+returns-3 c = rw (c .enum-told3 .given .1, missing-number)
 
 returns-4 : tie.Need-returns-4
-unfolding number
-returns-4 c = rw (c .enum-told4 .given .1)
+returns-4 c = rw (c .enum-told4 .given .1, not-directory-number)
 
 returns-5 : tie.Need-returns-5
-unfolding number
-returns-5 c = rw (c .enum-told5 .given .1)
+returns-5 c = rw (c .enum-told5 .given .1, access-number)
 
 returns-6 : tie.Need-returns-6
-unfolding number
-returns-6 c = rw (c .enum-told6 .given .1)
+returns-6 c = rw (c .enum-told6 .given .1, exists-number)
 
 returns-7 : tie.Need-returns-7
-unfolding number
-returns-7 c = rw (c .enum-told7 .given .1)
+returns-7 c = rw (c .enum-told7 .given .1, wrong-kind-number)
 
 returns-8 : tie.Need-returns-8
-unfolding number
-returns-8 c = rw (c .enum-told8 .given .1)
+returns-8 c = rw (c .enum-told8 .given .1, not-empty-number)
 
 returns-9 : tie.Need-returns-9
-unfolding number
-returns-9 c = rw (c .enum-told9 .given .1)
+returns-9 c = rw (c .enum-told9 .given .1, reserved-number)
 
 returns-10 : tie.Need-returns-10
-unfolding number
-returns-10 c = rw (c .enum-told10 .given .1)
+returns-10 c = rw (c .enum-told10 .given .1, full-number)
 
 returns-11 : tie.Need-returns-11
-unfolding number
-returns-11 c = rw (c .enum-told11 .given .1)
+returns-11 c = rw (c .enum-told11 .given .1, into-itself-number)
 
 returns-12 : tie.Need-returns-12
-unfolding number
-returns-12 c = rw (c .enum-told12 .given .1)
+returns-12 c = rw (c .enum-told12 .given .1, no-session-number)
 
 returns-13 : tie.Need-returns-13
-unfolding number
-returns-13 c = rw (c .enum-told13 .given .1)
+returns-13 c = rw (c .enum-told13 .given .1, no-grant-number)
 
 returns-14 : tie.Need-returns-14
-unfolding number
-returns-14 c = rw (c .enum-told14 .given .1)
+returns-14 c = rw (c .enum-told14 .given .1, stale-number)
 
 returns-15 : tie.Need-returns-15
-unfolding number
-returns-15 c = rw (c .enum-told15 .given .1)
+returns-15 c = rw (c .enum-told15 .given .1, untagged-number)
 
 returns-16 : tie.Need-returns-16
-unfolding number
-returns-16 c = rw (c .enum-told16 .given .1)
+returns-16 c = rw (c .enum-told16 .given .1, revisions-spent-number)
 
 returns-17 : tie.Need-returns-17
-unfolding number
-returns-17 c = rw (c .enum-told17 .given .1)
+returns-17 c = rw (c .enum-told17 .given .1, unsound-number)
 
 returns-18 : tie.Need-returns-18
-unfolding number
-returns-18 c = rw (c .enum-told18 .given .1)
+returns-18 c = rw (c .enum-told18 .given .1, too-deep-number)
 
 returns-19 : tie.Need-returns-19
-unfolding number
-returns-19 c = rw (c .enum-told19 .given .1)
+returns-19 c = rw (c .enum-told19 .given .1, short-answer-number)
 
 pub number-spec : {M : Type 1} → statement M
 number-spec =

@@ -10,8 +10,9 @@ use Rattle.header.specs.SessionBytesLaws.{role-is}
 use Rattle.header.specs.PairRowsLaws.{rows-tell-account}
 use Rattle.store.specs.HeaderLayout.{header-width}
 use Rattle.stored_header.specs.StoredLaws.{long-enough}
+use Rattle.entry_runner.specs.EntryDoneLaws.{entry-acts}
 use Rattle.runner.specs.RunnerLaws.{lent-whole}
-use Rattle.runner.specs.SessionStepLaws.{acting, role-carries}
+use Rattle.runner.specs.SessionStepLaws.{held-some, acting, role-carries}
 use borrow.Rule.Slice.PartMut.{same-len-mid}
 use Rattle.runner.proofs.sessions_part.as_role.Statement.{statement}
 use Rattle.runner.proofs.sessions_part.as_role.Tie as tie
@@ -20,7 +21,7 @@ dominance-in-requires : tie.Need-dominance-in-requires
 dominance-in-requires c κs = c .before .before .before .pre .0
 
 account-requires : tie.Need-account-requires
-account-requires c κs = c .before .before .before .before .pre .1 .1
+account-requires c κs = c .before .before .before .before .pre .1 .1 .0
 
 sub-entry-command : tie.Need-sub-entry-command
 sub-entry-command c = long-enough (c .before .before .before .before .before .pre .0)
@@ -41,15 +42,17 @@ same-length c =
     same-len-mid header-width (length b - header-width) b (l .last .0) (l .kept .0)
 
 returns : tie.Need-returns
-returns c s z k h e held n m =
-    let a = c .before .before .before .before .before .before .before .before .before .args in
+returns c s k h n m =
+    let p = c .before .before .before .before .before .before .before .before .before in
+    let a = p .args in
     let d = c .before .before .before .before .before .dominance-in in
     let rows = d .ensures s h in
-    let same = ap (λ (x : Role). row-account (d .result .rows) x) (sym e) in
-    let served = c .before .before .before .before .account .ensures ∙ same ∙ rows-tell-account (s .setup .pairs) (d .result .rows) rows z in
+    let i = held-some (a .role) _ (p .pre .1 .1 .1 s h) in
+    let same = ap (λ (x : Role). row-account (d .result .rows) x) (sym (i .2)) in
+    let served = c .before .before .before .before .account .ensures ∙ same ∙ rows-tell-account (s .setup .pairs) (d .result .rows) rows (i .0) in
     let l = c .before .before .entry-command in
     role-carries h (a .caller) k n (l .result) (l .last .0)
-    (λ t. l .ensures (acting h (a .caller) held served t) k (role-is (a .role) z e) rows n m)
+    (λ t. entry-acts (acting h (a .caller) (i .1) served t) (role-is (a .role) (i .0) (i .2)) rows k n (l .ensures (s .store .tree) k t n m))
 
 pub as-role-spec : {M : Type 1} → statement M
 as-role-spec =

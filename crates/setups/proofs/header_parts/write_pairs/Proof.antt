@@ -4,10 +4,10 @@ use Prim.Native.Nat.{_+_, _-_, _*_}
 use native.Mathlib.Omega.{arith}
 use lib.ListN.{getD, set, length-set}
 use denote.Ref.{now}
-use Rattle.accounts.specs.PairBytes.{pair-bytes, no-pair}
+use Rattle.accounts.specs.PairBytes.{pair-bytes, no-pair, length-pair}
 use Rattle.setup.specs.Setup.{most-pairs}
 use Rattle.store.specs.HeaderLayout.{grants-offset, pairs-offset, pairs-width}
-use Rattle.setups.specs.HeaderWrittenLaws.{pair-wide, Values-written, none-written, one-written, table-written}
+use Rattle.setups.specs.HeaderWrittenLaws.{Values-written, none-written, one-written, table-written}
 use Rattle.setups.proofs.header_parts.write_pairs.Statement.{statement}
 use Rattle.setups.proofs.header_parts.write_pairs.Tie as tie
 
@@ -59,7 +59,7 @@ loop-again c =
     let l = c .before .before .before .before .before .before .loop in
     let a = c .before .before .before .before .before .before .before .before .args in
     one-written pair-bytes 2 65 (a .t2) (a .n) (set (now (a .header)) pairs-offset (a .n)) (l .header) (w .last .0) (l .k) (65 + 2 * l .k) no-pair (l .inv)
-    (omega arith) (omega arith) (pair-wide (getD (a .t2) (l .k) no-pair)) refl (omega (arith, length-set (now (a .header)) pairs-offset (a .n))) (w .kept .0) (w .ensures)
+    (omega arith) (omega arith) (length-pair (getD (a .t2) (l .k) no-pair)) refl (omega (arith, length-set (now (a .header)) pairs-offset (a .n))) (w .kept .0) (w .ensures)
 
 add-end : tie.Need-add-end Inv-loop μ-loop
 add-end c = omega arith

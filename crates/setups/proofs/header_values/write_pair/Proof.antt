@@ -1,5 +1,5 @@
 -- `setups::header_values::write_pair` meets its contract: a pair is its two roles.
-use Rattle.accounts.specs.PairBytes.{pair-bytes}
+use Rattle.accounts.specs.PairBytes.{pair-bytes-are}
 use borrow.Author.Needs.{needs}
 use Rattle.setups.proofs.header_values.write_pair.Statement.{statement}
 use Rattle.setups.proofs.header_values.write_pair.Tie as tie
@@ -11,8 +11,7 @@ same-length : tie.Need-same-length
 same-length c = search needs
 
 returns : tie.Need-returns
-unfolding pair-bytes
-returns c = c .before .before .write-two .ensures
+returns c = rw pair-bytes-are (c .before .before .write-two .ensures)
 
 pub write-pair-spec : {M : Type 1} → statement M
 write-pair-spec = tie.close (tie.spec write-two-requires same-length returns)

@@ -55,7 +55,7 @@ is-zero-requires-2 : tie.Need-is-zero-requires-2
 unfolding tag-text-at
 is-zero-requires-2 c κs =
     let a = c .before .before .before .before .args in
-    let f = text-within (now (a .tree)) (a .i) (omega arith) 16 54 (omega arith) in
+    let f = text-within (now (a .tree)) (a .i) (omega arith) 16 49 (omega arith) in
     let e = ap length (c .before .before .tag-path-at .ensures) in
     (omega arith, omega arith)
 

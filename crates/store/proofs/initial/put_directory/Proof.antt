@@ -1,14 +1,15 @@
 -- `store::initial::put_directory` meets its contract: root finds the room, and the row is put in there.
-use mathlib.Core.Path.{refl, ap, _∙_}
+use mathlib.Core.Path.{ap, _∙_}
 use native.Mathlib.Omega.{arith}
 use lib.ListN.{length}
 use denote.Ref.{now}
-use Rattle.accounts.specs.Access.{is-root}
+use Rattle.accounts.specs.Access.{is-root-is}
 use Rattle.syntax.specs.Path.{root, _▹_}
 use Rattle.syntax.specs.PathTextLaws.{text-begins}
-use Rattle.edits.specs.Changes.{fresh-node}
-use Rattle.store.specs.Initial.{directory-of}
-use Rattle.store.specs.InitialRowsLaws.{not-refused, spot-opens, spot-named, directory-put}
+use Rattle.tree.specs.Forest.{put, leaf}
+use Rattle.tree.specs.Node.{Node}
+use Rattle.tree.specs.Encoding.{encode-tree}
+use Rattle.store.specs.InitialRowsLaws.{not-refused, spot-opens, spot-named, directory-put, directory-is}
 use borrow.Author.Needs.{needs}
 use Rattle.store.proofs.initial.put_directory.Statement.{statement}
 use Rattle.store.proofs.initial.put_directory.Tie as tie
@@ -42,22 +43,21 @@ same-length : tie.Need-same-length
 same-length c = search needs
 
 returns : tie.Need-returns
-unfolding directory-of fresh-node
 returns c n t h =
     let a = c .before .before .before .before .before .before .before .before .before .before .before .before .args in
     let told = c .before .before .before .before .before .before .before .before .room-for .ensures in
     let e = c .before .before .before .before .before .before .at .given .1 in
     let name = c .before .before .before .last-name in
     c .before .before .put-child .ensures ∙ directory-put (now (a .tree)) (now (a .path)) n t h _ told e (now (name .result)) (name .ensures) _
+    ∙ ap (λ (x : Node). encode-tree (put n (leaf x) t)) (directory-is (a .owner) (a .group) (a .mode))
 
 same-length-2 : tie.Need-same-length-2
 same-length-2 c = search needs
 
 returns-2 : tie.Need-returns-2
-unfolding is-root
 returns-2 c n t h =
     let a = c .before .before .before .before .before .before .args in
-    absurd (not-refused (now (a .tree)) (now (a .path)) n t h _ (c .before .before .room-for .ensures) refl (c .enum-told .given .1))
+    absurd (not-refused (now (a .tree)) (now (a .path)) n t h _ (c .before .before .room-for .ensures) (is-root-is (record { 0 = 0 })) (c .enum-told .given .1))
 
 pub put-directory-spec : {M : Type 1} → statement M
 put-directory-spec =

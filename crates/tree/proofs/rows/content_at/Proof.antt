@@ -23,7 +23,7 @@ text-requires c κs = search needs
 
 returns : tie.Need-returns
 unfolding row-at read-row
-returns c = c .text .ensures ∙ sym (text-in-row (now (c .before .before .args .tree)) (c .before .before .args .i) 72 80 (omega arith))
+returns c = c .text .ensures ∙ sym (text-in-row (now (c .before .before .args .tree)) (c .before .before .args .i) 67 80 (omega arith))
 
 pub content-at-spec : {M : Type 1} → statement M
 content-at-spec = tie.close (tie.spec mul-text add-text add-text-2 text-requires returns)

@@ -22,7 +22,7 @@ text-requires c κs = search needs
 
 returns : tie.Need-returns
 unfolding tag-text-at
-returns c = c .text .ensures ∙ sym (text-in-row (now (c .before .before .args .tree)) (c .before .before .args .i) 16 54 (omega arith))
+returns c = c .text .ensures ∙ sym (text-in-row (now (c .before .before .args .tree)) (c .before .before .args .i) 16 49 (omega arith))
 
 pub tag-path-at-spec : {M : Type 1} → statement M
 tag-path-at-spec = tie.close (tie.spec mul-text add-text add-text-2 text-requires returns)

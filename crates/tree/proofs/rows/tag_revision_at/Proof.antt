@@ -22,7 +22,7 @@ number-requires c κs = search needs
 
 returns : tie.Need-returns
 unfolding tag-number-at
-returns c = c .number .ensures ∙ sym (number-in-row (now (c .before .before .args .tree)) (c .before .before .args .i) 70 (omega arith))
+returns c = c .number .ensures ∙ sym (number-in-row (now (c .before .before .args .tree)) (c .before .before .args .i) 65 (omega arith))
 
 pub tag-revision-at-spec : {M : Type 1} → statement M
 tag-revision-at-spec =

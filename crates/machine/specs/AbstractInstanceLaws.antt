@@ -1,0 +1,89 @@
+-- The shared text at this instance is the abstract machine: command by command, then calls and lists of them.
+use mathlib.Core.Path.{_≡_, refl}
+use mathlib.Core.List.{List, [], _∷_}
+use lib.Dec.{leb}
+use Rattle.buffers.specs.Text.{Text}
+use Rattle.accounts.specs.declared.Caller.{Caller}
+use Rattle.accounts.specs.declared.Right.{Right}
+use Rattle.accounts.specs.Dominance.{Bounded-role}
+use Rattle.syntax.specs.Path.{Path, Entry-path}
+use Rattle.commands.specs.Command.{Repository-command, login, logout, add, co, commit, up, del, Command, shell, repository, line}
+use Rattle.setup.specs.Setup.{Setup}
+use Rattle.tree.specs.declared.Cause.the-variants.{NoForm, ShortAnswer}
+use Rattle.tree.specs.Result.{_>>=_, _>>_, require, present}
+use Rattle.shell.specs.Steps.{fit}
+use Rattle.shell.specs.Replies.{after}
+use Rattle.store.specs.Callers.{caller}
+use Rattle.machine.specs.Machine.{run-login, run-logout, session, run-add, run-co, working-file, original, run-commit, run-up, run-del, run-repository, run}
+use Rattle.machine.specs.AbstractMachine.{Abstract, dominated, by-dominance, abstract-login, abstract-logout, abstract-session, abstract-add, abstract-co, abstract-working, abstract-original, abstract-commit, abstract-up, abstract-del, abstract-repository, abstract-run, abstract-step, abstract-runs}
+use Rattle.machine.specs.AbstractInstance.{abstract}
+use Rattle.machine.specs.Runs.{Call, least-room, perform, step, runs}
+
+module _ (u : Setup) (h : Abstract) (c : Caller) where
+  login-is : (z : Bounded-role) (password : Text) → run-login abstract u h c z password ≡ abstract-login u h c z password
+  unfolding run-login abstract-login
+  login-is z password = refl
+
+  logout-is : run-logout abstract u h c ≡ abstract-logout u h c
+  unfolding run-logout abstract-logout
+  logout-is = refl
+
+  session-is : session abstract u h c ≡ abstract-session u h c
+  unfolding session abstract-session
+  session-is = refl
+
+  add-is : (w : Path) (e : Entry-path) (r : Bounded-role) → run-add abstract u h c w e r ≡ abstract-add u h c w e r
+  unfolding run-add abstract-add session abstract-session by-dominance dominated fit
+  add-is w e r = refl
+
+  co-is : (e : Entry-path) (d : Path) → run-co abstract u h c e d ≡ abstract-co u h c e d
+  unfolding run-co abstract-co session abstract-session by-dominance fit
+  co-is e d = refl
+
+  working-is : (right : Right) (w : Path) → working-file abstract u h c right w ≡ abstract-working u h c right w
+  unfolding working-file abstract-working
+  working-is right w = refl
+
+  original-is : (z : Bounded-role) (e : Entry-path) → original abstract u h c z e ≡ abstract-original u h c z e
+  unfolding original abstract-original by-dominance
+  original-is z e = refl
+
+  commit-is : (w : Path) → run-commit abstract u h c w ≡ abstract-commit u h c w
+  unfolding run-commit abstract-commit session abstract-session working-file abstract-working original abstract-original by-dominance
+  commit-is w = refl
+
+  up-is : (w : Path) → run-up abstract u h c w ≡ abstract-up u h c w
+  unfolding run-up abstract-up session abstract-session working-file abstract-working original abstract-original by-dominance
+  up-is w = refl
+
+  del-is : (e : Entry-path) → run-del abstract u h c e ≡ abstract-del u h c e
+  unfolding run-del abstract-del session abstract-session by-dominance
+  del-is e = refl
+
+  repository-is : (command : Repository-command) → run-repository abstract u h c command ≡ abstract-repository u h c command
+  unfolding run-repository abstract-repository
+  repository-is (login z password) = login-is z password
+  repository-is logout = logout-is
+  repository-is (add w e r) = add-is w e r
+  repository-is (co e d) = co-is e d
+  repository-is (commit w) = commit-is w
+  repository-is (up w) = up-is w
+  repository-is (del e) = del-is e
+
+  pub run-is : (command : Command) → run abstract u h c command ≡ abstract-run u h c command
+  unfolding run abstract-run
+  run-is (shell command) = refl
+  run-is (repository command) = repository-is command
+
+pub step-is : (u : Setup) (h : Abstract) (call : Call) → step abstract u h call ≡ abstract-step u h call
+unfolding step perform abstract-step
+step-is u h call = λ i. do
+  require (leb least-room (call .room)) ShortAnswer
+  l ← present (line (call .line)) NoForm
+  c ← caller u (l .caller)
+  run-is u h c (l .command) i
+
+pub runs-are : (u : Setup) (h : Abstract) (calls : List Call) → runs abstract u h calls ≡ abstract-runs u h calls
+unfolding runs abstract-runs
+runs-are u h [] = refl
+runs-are u h (call ∷ calls) = rw (step-is u h call, runs-are u (after h (abstract-step u h call)) calls)

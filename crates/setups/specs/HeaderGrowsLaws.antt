@@ -1,0 +1,185 @@
+-- What becomes of a header's bytes when an account's slot is written, or a value behind those of a table.
+use mathlib.Core.Path.{_≡_, refl, sym, _∙_, ap, ap₂}
+use mathlib.Core.List.{List, [], _∷_, _++_, append-assoc, append-nil}
+use mathlib.Core.Option.{Option, none, some}
+use mathlib.Core.Bool.{Bool, true}
+use Prim.Native.Nat.{ℕ, zero, suc, _+_, _-_, _*_, _≤_, _<_}
+use native.Mathlib.Omega.{arith}
+use native.Mathlib.Numerals.{add-one}
+use native.Mathlib.Nat.{zero-add, suc-add, mul-zero, mul-suc, suc-mul, add-comm}
+use lib.ListN.{length, getD, set, replicate, length-append, length-replicate}
+use lib.Seq.{paste}
+use Rattle.buffers.specs.Cases.{and-both}
+use Rattle.buffers.specs.Text.{every}
+use Rattle.buffers.specs.Fields.{all-bytes, table-bytes}
+use Rattle.buffers.specs.TableLaws.{length-all-bytes}
+use Rattle.buffers.specs.PasteLaws.{paste-piece}
+use Rattle.buffers.specs.FieldsLaws.{length-two-bytes, length-padded}
+use Rattle.buffers.specs.TextLaws.{every-getD}
+use Rattle.accounts.specs.declared.Pair.{Pair}
+use Rattle.accounts.specs.PairBytes.{pair-bytes, length-pair as pair-wide}
+use Rattle.setup.specs.Setup.{Person, Grant, Setup, accounts, most-pairs, most-grants, with-pair, with-grant, is-slot, is-pair, is-grant, is-setup}
+use Rattle.setup.specs.SetupLaws.{apart}
+use Rattle.store.specs.HeaderLayout.{spare-width}
+use Rattle.store.specs.Initial.{no-sessions}
+use Rattle.store.specs.StoreBytes.{slot-bytes, session-byte, grant-bytes, header-bytes}
+use Rattle.store.specs.HeaderLaws.{grant-password, part-widths}
+
+-- ---- values one after another
+
+-- the bytes before the value of an index, and those behind it, whichever value stands there
+record Around {A : Type 0} (f : A → List ℕ) (w : ℕ) (l : List A) (i : ℕ) (d : A) : Type 0 where
+  before : List ℕ
+  behind : List ℕ
+  wide : length before ≡ w * i
+  there : (R : List ℕ) → all-bytes f l ++ R ≡ before ++ (f (getD l i d) ++ (behind ++ R))
+  instead : (v : A) (R : List ℕ) → all-bytes f (set l i v) ++ R ≡ before ++ (f v ++ (behind ++ R))
+
+around : {A : Type 0} (w : ℕ) (test : A → Bool) (f : A → List ℕ) → ((a : A) → test a ≡ true → length (f a) ≡ w) →
+    (l : List A) (i : ℕ) (d : A) → every test l ≡ true → i < length l → Around f w l i d
+unfolding every all-bytes
+around w test f long [] i d h k = let z : ⊥ = omega arith in absurd z
+around w test f long (a ∷ l) zero d h k = record {
+  before = [];
+  behind = all-bytes f l;
+  wide = sym (mul-zero w);
+  there = λ R. append-assoc (f a) (all-bytes f l) R;
+  instead = λ v R. append-assoc (f v) (all-bytes f l) R;
+}
+around w test f long (a ∷ l) (suc i) d h k =
+    let p = and-both (test a) (every test l) h in
+    let r = around w test f long l i d (p .1) (omega arith) in
+    let s : w * suc i ≡ w * i + w = mul-suc w i in
+    record {
+      before = f a ++ r .before;
+      behind = r .behind;
+      wide = length-append (f a) (r .before) ∙ omega (arith, long a (p .0), r .wide, s);
+      there = λ R. append-assoc (f a) (all-bytes f l) R ∙ ap (λ (x : List ℕ). f a ++ x) (r .there R) ∙ sym (append-assoc (f a) (r .before) (f (getD l i d) ++ (r .behind ++ R)));
+      instead = λ v R. append-assoc (f a) (all-bytes f (set l i v)) R ∙ ap (λ (x : List ℕ). f a ++ x) (r .instead v R) ∙ sym (append-assoc (f a) (r .before) (f v ++ (r .behind ++ R)));
+    }
+
+-- one written over another
+pub value-replaced : {A : Type 0} (w : ℕ) (test : A → Bool) (f : A → List ℕ) → ((a : A) → test a ≡ true → length (f a) ≡ w) →
+    (l : List A) (i : ℕ) (v d : A) (R : List ℕ) → every test l ≡ true → test v ≡ true → test (getD l i d) ≡ true → i < length l →
+    paste (all-bytes f l ++ R) (w * i) (f v) w ≡ all-bytes f (set l i v) ++ R
+value-replaced w test f long l i v d R h e k n =
+    let r = around w test f long l i d h n in
+    ap (λ (x : List ℕ). paste x (w * i) (f v) w) (r .there R)
+    ∙ paste-piece (r .before) (r .behind ++ R) (f (getD l i d)) (f v) (w * i) w (r .wide) (long (getD l i d) k) (long v e)
+    ∙ sym (r .instead v R)
+
+-- ---- tables
+
+all-bytes-append : {A : Type 0} (f : A → List ℕ) (k l : List A) → all-bytes f (k ++ l) ≡ all-bytes f k ++ all-bytes f l
+unfolding all-bytes
+all-bytes-append f [] l = refl
+all-bytes-append f (a ∷ k) l = ap (λ (r : List ℕ). f a ++ r) (all-bytes-append f k l) ∙ sym (append-assoc (f a) (all-bytes f k) (all-bytes f l))
+
+pub zeros-split : (n m : ℕ) → replicate {A = ℕ} (n + m) 0 ≡ replicate n 0 ++ replicate m 0
+zeros-split zero m = rw (zero-add m)
+zeros-split (suc n) m = rw (suc-add n m) (ap (λ (x : List ℕ). 0 ∷ x) (zeros-split n m))
+
+one-more : {A : Type 0} (f : A → List ℕ) (l : List A) (x : A) → all-bytes f (l ++ (x ∷ [])) ≡ all-bytes f l ++ f x
+unfolding all-bytes
+one-more f l x = all-bytes-append f l (x ∷ []) ∙ ap (λ (r : List ℕ). all-bytes f l ++ r) (append-nil (f x))
+
+-- how the bytes before, in and behind a table may be grouped
+room-left : (P B O Z Q : List ℕ) (n : ℕ) → P ++ ((n ∷ (B ++ (O ++ Z))) ++ Q) ≡ (P ++ (n ∷ B)) ++ (O ++ (Z ++ Q))
+room-left P B O Z Q n =
+    ap (λ (y : List ℕ). P ++ (n ∷ y)) (append-assoc B (O ++ Z) Q ∙ ap (λ (y : List ℕ). B ++ y) (append-assoc O Z Q)) ∙ sym (append-assoc P (n ∷ B) (O ++ (Z ++ Q)))
+
+room-taken : (P B F Z Q : List ℕ) (m : ℕ) → P ++ ((m ∷ []) ++ (B ++ (F ++ (Z ++ Q)))) ≡ P ++ ((m ∷ ((B ++ F) ++ Z)) ++ Q)
+room-taken P B F Z Q m = ap (λ (y : List ℕ). P ++ (m ∷ y)) (sym (append-assoc (B ++ F) Z Q ∙ append-assoc B F (Z ++ Q)))
+
+less : (most n : ℕ) → n < most → most - n ≡ suc (most - suc n)
+less most n h = omega arith
+
+-- a value written behind the others, and then how many there are
+pub table-grows : {A : Type 0} (w most : ℕ) (f : A → List ℕ) (l : List A) (x : A) (P Q : List ℕ) (at : ℕ) →
+    length P ≡ at → length (all-bytes f l) ≡ w * length l → length (f x) ≡ w → length l < most →
+    paste (paste (P ++ (table-bytes w most f l ++ Q)) (at + 1 + w * length l) (f x) w) at (suc (length l) ∷ []) 1 ≡ P ++ (table-bytes w most f (l ++ (x ∷ [])) ++ Q)
+unfolding table-bytes
+table-grows w most f l x P Q at p b k few =
+    let n = length l in
+    let B = all-bytes f l in
+    let m = (most - suc n) * w in
+    let Z : List ℕ = replicate m 0 in
+    let O : List ℕ = replicate w 0 in
+    let zeros : (most - n) * w ≡ w + m = ap (λ (j : ℕ). j * w) (less most n few) ∙ suc-mul (most - suc n) w ∙ add-comm ((most - suc n) * w) w in
+    let counted : length (l ++ (x ∷ [])) ≡ suc n = length-append l (x ∷ []) ∙ add-one n in
+    let split : replicate {A = ℕ} ((most - n) * w) 0 ≡ O ++ Z = ap (λ (j : ℕ). replicate {A = ℕ} j 0) zeros ∙ zeros-split w m in
+    let whole = ap (λ (y : List ℕ). P ++ ((n ∷ (B ++ y)) ++ Q)) split ∙ room-left P B O Z Q n in
+    let front : length (P ++ (n ∷ B)) ≡ at + 1 + w * n = length-append P (n ∷ B) ∙ omega (arith, p, b) in
+    ap (λ (y : List ℕ). paste (paste y (at + 1 + w * n) (f x) w) at (suc n ∷ []) 1) whole
+    ∙ ap (λ (y : List ℕ). paste y at (suc n ∷ []) 1) (paste-piece (P ++ (n ∷ B)) (Z ++ Q) O (f x) (at + 1 + w * n) w front (length-replicate w 0) k ∙ append-assoc P (n ∷ B) (f x ++ (Z ++ Q)))
+    ∙ paste-piece P (B ++ (f x ++ (Z ++ Q))) (n ∷ []) (suc n ∷ []) at 1 p refl refl
+    ∙ room-taken P B (f x) Z Q (suc n)
+    ∙ ap₂ (λ (c : ℕ) (y : List ℕ). P ++ ((c ∷ (y ++ replicate ((most - c) * w) 0)) ++ Q)) (sym counted) (sym (one-more f l x))
+
+-- ---- the header
+
+length-slot : (o : Option Person) → is-slot o ≡ true → length (slot-bytes o) ≡ 3
+unfolding slot-bytes
+length-slot none h = refl
+length-slot (some p) h = ap suc (length-two-bytes (p .further .0))
+
+grant-width-of : (g : Grant) → length (g .password) ≤ 8 → length (grant-bytes g) ≡ 10
+unfolding grant-bytes
+grant-width-of g short = ap (λ (n : ℕ). suc (suc n)) (length-padded 8 (g .password) short)
+
+length-pair : (p : Pair) → is-pair p ≡ true → length (pair-bytes p) ≡ 2
+length-pair p h = pair-wide p
+
+length-grant : (u : Setup) (g : Grant) → is-grant u g ≡ true → length (grant-bytes g) ≡ 10
+length-grant u g h = grant-width-of g (grant-password u g h .0)
+
+-- the sessions before any login
+no-roles : List ℕ
+no-roles = all-bytes (λ z. session-byte z ∷ []) no-sessions
+
+length-no-roles : length no-roles ≡ 16
+unfolding no-roles all-bytes no-sessions accounts session-byte
+length-no-roles = refl
+
+module _ (u : Setup) (h : is-setup u ≡ true) where
+  abbrev slots : List ℕ
+  slots = all-bytes slot-bytes (u .persons)
+
+  -- a slot is written over another
+  pub slot-written : (v : ℕ) (o : Option Person) → v < 16 → is-slot o ≡ true →
+      paste (header-bytes u no-sessions) (3 * v) (slot-bytes o) 3 ≡ header-bytes (record { persons = set (u .persons) v o; pairs = u .pairs; grants = u .grants }) no-sessions
+  unfolding header-bytes is-slot
+  slot-written v o k e =
+      let r = apart u h in
+      value-replaced 3 is-slot slot-bytes length-slot (u .persons) v o none _ (r .slots) e (every-getD is-slot (u .persons) v none (r .slots) refl) (omega (arith, r .count))
+
+  long-front : length (slots ++ no-roles) ≡ 64
+  long-front = length-append slots no-roles ∙ omega (arith, part-widths u h .slots, length-no-roles)
+
+  -- a pair behind the others
+  pub pair-written : (p : Pair) → length (u .pairs) < 28 →
+      paste (paste (header-bytes u no-sessions) (64 + 1 + 2 * length (u .pairs)) (pair-bytes p) 2) 64 (suc (length (u .pairs)) ∷ []) 1 ≡ header-bytes (with-pair p u) no-sessions
+  unfolding header-bytes with-pair no-roles most-pairs
+  pair-written p few =
+      let G = table-bytes 10 most-grants grant-bytes (u .grants) ++ replicate spare-width 0 in
+      let wide : length (all-bytes pair-bytes (u .pairs)) ≡ 2 * length (u .pairs) =
+      length-all-bytes 2 is-pair pair-bytes length-pair (u .pairs) (apart u h .all-pairs) ∙ omega arith in
+      ap (λ (y : List ℕ). paste (paste y (64 + 1 + 2 * length (u .pairs)) (pair-bytes p) 2) 64 (suc (length (u .pairs)) ∷ []) 1) (sym (append-assoc slots no-roles _))
+      ∙ table-grows 2 28 pair-bytes (u .pairs) p (slots ++ no-roles) G 64 long-front wide (pair-wide p) few
+      ∙ append-assoc slots no-roles _
+
+  -- a grant behind the others
+  pub grant-written : (g : Grant) → length (g .password) ≤ 8 → length (u .grants) < 32 →
+      paste (paste (header-bytes u no-sessions) (121 + 1 + 10 * length (u .grants)) (grant-bytes g) 10) 121 (suc (length (u .grants)) ∷ []) 1 ≡ header-bytes (with-grant g u) no-sessions
+  unfolding header-bytes with-grant no-roles most-grants
+  grant-written g short few =
+      let T = table-bytes 2 most-pairs pair-bytes (u .pairs) in
+      let F = (slots ++ no-roles) ++ T in
+      let n = length (u .grants) in
+      let front : length F ≡ 121 = length-append (slots ++ no-roles) T ∙ omega (arith, long-front, part-widths u h .pairs) in
+      let wide : length (all-bytes grant-bytes (u .grants)) ≡ 10 * n =
+      length-all-bytes 10 (is-grant u) grant-bytes (length-grant u) (u .grants) (apart u h .all-grants) ∙ omega arith in
+      let parts : (X : List ℕ) → F ++ X ≡ slots ++ (no-roles ++ (T ++ X)) = λ X. append-assoc (slots ++ no-roles) T X ∙ append-assoc slots no-roles (T ++ X) in
+      ap (λ (y : List ℕ). paste (paste y (121 + 1 + 10 * n) (grant-bytes g) 10) 121 (suc n ∷ []) 1) (sym (parts _))
+      ∙ table-grows 10 32 grant-bytes (u .grants) g F (replicate spare-width 0) 121 front wide (grant-width-of g short) few
+      ∙ parts _
