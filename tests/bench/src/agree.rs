@@ -6,6 +6,13 @@ use crate::random::Random;
 
 const SHOWN: usize = 20;
 
+/// The calls and the numbers that each can give.
+const GIVEN: [(&str, &[u32]); 3] = [
+    ("setup", &[0, 17, 18]),
+    ("run", &[0, 1, 2, 3, 4, 5, 6, 7, 8, 9, 10, 11, 12, 13, 14, 15, 16, 18, 19, 20]),
+    ("listing", &[0, 3, 18, 20]),
+];
+
 /// A store and an answer buffer.
 #[derive(Clone, PartialEq)]
 struct Buffers {
@@ -19,19 +26,70 @@ enum Call<'a> {
     Listing(usize),
 }
 
+/// Lines for numbers that random ones seldom bring up: stale (14), too deep (19), into itself (11), not empty (8), untagged (15).
+const SELDOM: [&str; 17] = [
+    "1,login,0,oak",
+    "1,create,/u1/a,0600",
+    "1,add,/u1/a,/rep/a,0",
+    "1,co,/rep/a,/u1/b",
+    "1,commit,/u1/a",
+    "1,commit,/u1/b",
+    "1,mkdir,/u1/d,0700",
+    "1,mkdir,/u1/d/d,0700",
+    "1,mkdir,/u1/d/d/d,0700",
+    "1,mkdir,/u1/d/d/d/d,0700",
+    "1,mkdir,/u1/c,0700",
+    "1,mkdir,/u1/c/c,0700",
+    "1,mv,/u1/c,/u1/d/d/d/d/c",
+    "1,mv,/u1/d,/u1/d/d/x",
+    "1,rmdir,/u1/d",
+    "1,create,/u1/e,0600",
+    "1,commit,/u1/e",
+];
+
+/// Comparisons, and how often each call gave each number.
 struct Tally {
     passed: usize,
     failed: usize,
-    numbers: [usize; 21],
+    numbers: [[usize; 21]; GIVEN.len()],
+}
+
+impl Call<'_> {
+    /// Its place in `GIVEN`.
+    fn place(&self) -> usize {
+        match self {
+            Call::Setup(_) => 0,
+            Call::Run(_) => 1,
+            Call::Listing(_) => 2,
+        }
+    }
+}
+
+impl Tally {
+    /// Fails for each number that did not come up, and for each that no call can give.
+    fn check_numbers(&mut self) {
+        for ((call, given), counts) in GIVEN.iter().zip(self.numbers) {
+            let shown: Vec<String> = given.iter().map(|n| format!("{n}: {}", counts[*n as usize])).collect();
+            println!("{call:8} {}", shown.join("  "));
+            for (number, count) in counts.iter().enumerate() {
+                if (*count > 0) != given.contains(&(number as u32)) {
+                    println!("{call}, {number}: {count} times");
+                    self.failed += 1;
+                }
+            }
+        }
+    }
 }
 
 pub fn agree(seed: u64, lines: u64) -> bool {
     let mut random = Random::new(seed);
-    let mut tally = Tally { passed: 0, failed: 0, numbers: [0; 21] };
+    let mut tally = Tally { passed: 0, failed: 0, numbers: [[0; 21]; GIVEN.len()] };
     let mut buffers = Buffers { store: vec![0x5a; STORE], into: vec![0xa5; ANSWER] };
+    seldom(&mut buffers, &mut tally);
     let mut left = lines;
     while left > 0 {
         let text = random.setup();
+        odd_setup(&mut random, &text, &mut tally);
         if both(&mut buffers, &Call::Setup(&text), &mut tally).number != 0 {
             continue;
         }
@@ -54,10 +112,31 @@ pub fn agree(seed: u64, lines: u64) -> bool {
         }
         left -= run;
     }
-    let counts: Vec<String> = tally.numbers.iter().enumerate().map(|(n, count)| format!("{n}: {count}")).collect();
-    println!("answers by number: {}", counts.join(", "));
+    tally.check_numbers();
     println!("{} passed, {} failed", tally.passed, tally.failed);
     tally.failed == 0
+}
+
+/// The lines of `SELDOM`; then a commit where all revisions are the last (16), and more nodes than there is room for (10).
+fn seldom(buffers: &mut Buffers, tally: &mut Tally) {
+    both(buffers, &Call::Setup(b"p,1,1\nl,1,0,oak\nend\n"), tally);
+    for line in SELDOM {
+        both(buffers, &Call::Run(line.as_bytes()), tally);
+    }
+    age(&mut buffers.store);
+    both(buffers, &Call::Run(b"1,commit,/u1/a"), tally);
+    for n in 0..256 {
+        both(buffers, &Call::Run(format!("0,mkdir,/n{n},0777").as_bytes()), tally);
+    }
+}
+
+/// A setup into a buffer that is no store, now and then.
+fn odd_setup(random: &mut Random, text: &[u8], tally: &mut Tally) {
+    if random.once_in(4) {
+        let length = [0, STORE - 1, STORE + 1][random.below(3)];
+        let mut buffers = Buffers { store: vec![0x5a; length], into: vec![0xa5; ANSWER] };
+        both(&mut buffers, &Call::Setup(text), tally);
+    }
 }
 
 /// One line; now and then on a spoilt store, with a short or long answer buffer, or a listing.
@@ -72,10 +151,24 @@ fn step(random: &mut Random, buffers: &mut Buffers, tally: &mut Tally) {
     if random.once_in(10) {
         both(buffers, &Call::Listing(random.below(nodes + 2)), tally);
     }
+    if random.once_in(50) {
+        list_oddly(random, buffers, nodes, tally);
+    }
     let length = if random.once_in(20) { [0, ANSWER - 1, ANSWER + 1, 5000][random.below(4)] } else { ANSWER };
     buffers.into.resize(length, 0xa5);
     both(buffers, &Call::Run(&line), tally);
     buffers.into.resize(ANSWER, 0xa5);
+}
+
+/// A listing with a short answer buffer, or of a spoilt store.
+fn list_oddly(random: &mut Random, buffers: &Buffers, nodes: usize, tally: &mut Tally) {
+    let mut odd = buffers.clone();
+    if random.once_in(2) {
+        odd.into.truncate(random.below(ANSWER));
+    } else {
+        spoil(random, &mut odd.store, nodes);
+    }
+    both(&mut odd, &Call::Listing(random.below(nodes + 2)), tally);
 }
 
 /// Makes every revision that is not 0 the last one.
@@ -130,7 +223,7 @@ fn both(buffers: &mut Buffers, call: &Call, tally: &mut Tally) -> Answer {
             (library::listing(&buffers.store, *n, &mut buffers.into), plain::listing(&other.store, *n, &mut other.into))
         }
     };
-    tally.numbers[(theirs.number as usize).min(20)] += 1;
+    tally.numbers[call.place()][theirs.number as usize] += 1;
     if ours == theirs && *buffers == other {
         tally.passed += 1;
     } else {
