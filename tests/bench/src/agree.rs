@@ -119,6 +119,7 @@ pub fn agree(seed: u64, lines: u64) -> bool {
 
 /// The lines of `SELDOM`; then a commit where all revisions are the last (16), and more nodes than there is room for (10).
 fn seldom(buffers: &mut Buffers, tally: &mut Tally) {
+    both(buffers, &Call::Setup(b"p,1,1\nl,1,0,oak\n"), tally);
     both(buffers, &Call::Setup(b"p,1,1\nl,1,0,oak\nend\n"), tally);
     for line in SELDOM {
         both(buffers, &Call::Run(line.as_bytes()), tally);
@@ -130,13 +131,11 @@ fn seldom(buffers: &mut Buffers, tally: &mut Tally) {
     }
 }
 
-/// A setup into a buffer that is no store, now and then.
+/// A setup into a buffer that is no store.
 fn odd_setup(random: &mut Random, text: &[u8], tally: &mut Tally) {
-    if random.once_in(4) {
-        let length = [0, STORE - 1, STORE + 1][random.below(3)];
-        let mut buffers = Buffers { store: vec![0x5a; length], into: vec![0xa5; ANSWER] };
-        both(&mut buffers, &Call::Setup(text), tally);
-    }
+    let length = [0, STORE - 1, STORE + 1][random.below(3)];
+    let mut buffers = Buffers { store: vec![0x5a; length], into: vec![0xa5; ANSWER] };
+    both(&mut buffers, &Call::Setup(text), tally);
 }
 
 /// One line; now and then on a spoilt store, with a short or long answer buffer, or a listing.
