@@ -21,7 +21,7 @@ use Rattle.syntax.specs.Path.{Name, Path, parent, last, depth, in-rep, entry-lo
 use Rattle.syntax.specs.PathLaws.{entry-is-entry, entry-text-fits, entry-parts}
 use Rattle.syntax.specs.ParentLaws.{text-of-entry}
 use Rattle.syntax.specs.FormLaws.{answered}
-use Rattle.tree.specs.Layout.{row-width, row-start, name-width, tag-offset, tag-width, content-width}
+use Rattle.tree.specs.Layout.{row-width, row-start, name-width, tag-offset, tag-width, content-width, head-width, name-offset, behind-name-width, content-offset, base-width}
 use Rattle.tree.specs.Forest.{Place, leaf, place-at, size}
 use Rattle.tree.specs.PlaceLaws.{leaf-here, leaf-size}
 use Rattle.tree.specs.Node.{Tag, Node, set-tag}
@@ -68,7 +68,7 @@ paste-all s r n ls lr =
 
 module _ (k : ℕ) (name content : List ℕ) (f : Fresh) (fits : length name ≤ name-width) (short : length content ≤ content-width) where
   -- the content written into the row of a new node
-  content-filled : paste (row-bytes (fresh-row k name f)) 67 (padded content-width content) 80 ≡ row-bytes (record { depth = k; name = name; here = filled-node f content })
+  content-filled : paste (row-bytes (fresh-row k name f)) content-offset (padded content-width content) content-width ≡ row-bytes (record { depth = k; name = name; here = filled-node f content })
   content-filled =
       let r : Row Node =
       record { depth = k; name = name; here = record { kind = f .kind; owner = f .owner; group = f .group; mode = f .mode; revision = f .revision; tag = none; content = [] } } in
@@ -79,15 +79,15 @@ module _ (k : ℕ) (name content : List ℕ) (f : Fresh) (fits : length name ≤
       let old = padded content-width [] in
       let new = padded content-width content in
       let was : row-bytes r ≡ P ++ (old ++ row-spare) = row-parts r ∙ before-content (row-head r) N (tag-bytes none) (old ++ row-spare) in
-      let lo : length old ≡ 80 = length-padded content-width [] (omega arith) in
-      let lP : length P ≡ 67 =
-      omega (arith, length-fresh k name f fits, ap length (fresh ∙ was), length-append P (old ++ row-spare), length-append old row-spare, length-replicate {A = ℕ} 80 0) in
-      ap (λ (l : List ℕ). paste l 67 new 80) (fresh ∙ was) ∙ paste-piece P row-spare old new 67 80 lP lo (length-padded content-width content short)
+      let lo : length old ≡ content-width = length-padded content-width [] (omega arith) in
+      let lP : length P ≡ content-offset =
+      omega (arith, length-fresh k name f fits, ap length (fresh ∙ was), length-append P (old ++ row-spare), length-append old row-spare, length-replicate {A = ℕ} base-width 0) in
+      ap (λ (l : List ℕ). paste l content-offset new content-width) (fresh ∙ was) ∙ paste-piece P row-spare old new content-offset content-width lP lo (length-padded content-width content short)
       ∙ sym (row-parts v ∙ before-content (row-head v) N (tag-bytes none) (new ++ row-spare))
 
   -- the head, the name, zeros and the content, one after another
-  pub entry-written : (s : List ℕ) {s₁ s₂ s₃ s₄ c : List ℕ} → length s ≡ row-width → s₁ ≡ paste s 0 (head-bytes k f) 8
-      → s₂ ≡ paste s₁ 8 (padded name-width name) 8 → s₃ ≡ paste s₂ 16 (replicate 211 0) 211 → c ≡ content → s₄ ≡ paste s₃ 67 (padded content-width c) 80
+  pub entry-written : (s : List ℕ) {s₁ s₂ s₃ s₄ c : List ℕ} → length s ≡ row-width → s₁ ≡ paste s 0 (head-bytes k f) head-width
+      → s₂ ≡ paste s₁ name-offset (padded name-width name) name-width → s₃ ≡ paste s₂ tag-offset (replicate behind-name-width 0) behind-name-width → c ≡ content → s₄ ≡ paste s₃ content-offset (padded content-width c) content-width
       → s₄ ≡ row-bytes (record { depth = k; name = name; here = filled-node f content })
   entry-written s {s₁} {s₂} {s₃} wide h₁ h₂ h₃ e h₄ =
       let r = row-bytes (fresh-row k name f) in

@@ -19,6 +19,7 @@ use Rattle.listing.specs.Listing.{listing}
 use Rattle.calls.specs.Transcript.{reply-line, call-of}
 use Rattle.calls.specs.Calls.{setup-call, only-tells, run-call, listing-call}
 use Rattle.calls.specs.Compute.{compute, compute-calls}
+use Rattle.store.specs.HeaderLayout.{header-width}
 
 -- ---- refused before the command
 
@@ -46,7 +47,7 @@ no-store-set-up = refl
 -- ---- bytes
 
 -- without persons, pairs, grants and sessions the header is zero
-empty-header : header-bytes no-setup no-sessions ≡ replicate 7422 0
+empty-header : header-bytes no-setup no-sessions ≡ replicate header-width 0
 unfolding compute compute-calls
 empty-header = refl
 

@@ -89,7 +89,7 @@ listing-past-the-end-is-3 = CallsLaws.past-the-end-is-3
 pub listing-changes-no-store : (b : List ℕ) (n : ℕ) (answer : List ℕ) → listing-call b n answer .store ≡ b
 listing-changes-no-store = CallsLaws.listing-store-stays
 
--- and a refused call changes nothing: neither the store's bytes nor the answer buffer's.
+-- and a refused `run` changes nothing: neither the store's bytes nor the answer buffer's.
 pub refused-changes-nothing : (b : List ℕ) (line : Text) (answer : List ℕ) (why : Cause) → run-result b line (length answer) ≡ refused why →
     run-call b line answer ≡ record { tells = told (Refused why); store = b; answer = answer }
 unfolding run-call

@@ -16,20 +16,22 @@ use placing::Site;
 use placing::place_copies;
 use shell::Answer;
 use tree::FEW_ROWS;
+use tree::FIRST;
 use tree::HALF_ROWS;
 use tree::MANY_ROWS;
+use tree::ROW;
 use tree::SOME_ROWS;
 use tree::TREE;
 use tree::subtree_end;
 
 // The bytes of the arrays for copies: the two that stand before the rows, and the rows.
-const FEW_WIDTH: usize = 910;
+const FEW_WIDTH: usize = FIRST + ROW * FEW_ROWS;
 
-const SOME_WIDTH: usize = 3634;
+const SOME_WIDTH: usize = FIRST + ROW * SOME_ROWS;
 
-const MANY_WIDTH: usize = 14530;
+const MANY_WIDTH: usize = FIRST + ROW * MANY_ROWS;
 
-const HALF_WIDTH: usize = 29058;
+const HALF_WIDTH: usize = FIRST + ROW * HALF_ROWS;
 
 // What is left of the command behind its first checks, by an array for the copies of few rows.
 fn co_few(tree: &mut [u8], who: Copier, site: Site, entry: &[u8], to: &[u8]) -> Answer

@@ -17,7 +17,7 @@ use Rattle.accounts.specs.declared.Gid.{Gid}
 use Rattle.syntax.specs.Path.{Name, _▹_, Entry-path, depth, in-rep, entry-location, is-name, is-entry-path, names-text, path-text, entry-text, below-rep}
 use Rattle.syntax.specs.PathLaws.{path-more, entry-text-fits}
 use Rattle.syntax.specs.FieldLaws.{content-fits}
-use Rattle.tree.specs.Layout.{row-width, row-start, name-width, tag-offset, tag-width, whole-tag-width, content-width}
+use Rattle.tree.specs.Layout.{row-width, row-start, name-width, tag-offset, tag-width, whole-tag-width, content-width, head-width, base-width}
 use Rattle.tree.specs.Node.{Tag, Node, set-tag}
 use Rattle.tree.specs.Rows.{Row}
 use Rattle.tree.specs.Encoding.{tag-bytes, row-bytes, read-row, row-spare, row-head}
@@ -77,10 +77,10 @@ pub record Fitting (r : Row Node) : Type 0 where
   pub tag : length (tag-bytes (r .here .tag)) ≡ whole-tag-width
   pub content : length (r .here .content) ≤ content-width
 
-length-row : (H N T C : List ℕ) → length H ≡ 8 → length N ≡ 8 → length T ≡ 51 → length C ≡ 80 → length (H ++ (N ++ (T ++ (C ++ row-spare)))) ≡ row-width
+length-row : (H N T C : List ℕ) → length H ≡ head-width → length N ≡ name-width → length T ≡ whole-tag-width → length C ≡ content-width → length (H ++ (N ++ (T ++ (C ++ row-spare)))) ≡ row-width
 length-row H N T C h n t c =
     length-append H (N ++ (T ++ (C ++ row-spare)))
-    ∙ omega (arith, length-append N (T ++ (C ++ row-spare)), length-append T (C ++ row-spare), length-append C row-spare, length-replicate {A = ℕ} 80 0)
+    ∙ omega (arith, length-append N (T ++ (C ++ row-spare)), length-append T (C ++ row-spare), length-append C row-spare, length-replicate {A = ℕ} base-width 0)
 
 pub length-fitting-row : (r : Row Node) → Fitting r → length (row-bytes r) ≡ row-width
 length-fitting-row r f =
@@ -211,7 +211,7 @@ module _ (w : Copier) (k : ℕ) (n : Name) (g : Gid) (e : Entry-path) (x : Node)
       let R = padded content-width (x .content) ++ row-spare in
       let fit = entry-text-fits e valid in
       let l : length (H ++ N) ≡ 16 = length-append H N ∙ omega (arith, length-row-head r, length-padded name-width n ln) in
-      ap (text-at tag-offset tag-width) (row-parts r ∙ before-number H N P L R) ∙ text-at-padded (H ++ N) (L ++ R) 16 49 (entry-text e) l (fit .0) (fit .1)
+      ap (text-at tag-offset tag-width) (row-parts r ∙ before-number H N P L R) ∙ text-at-padded (H ++ N) (L ++ R) tag-offset tag-width (entry-text e) l (fit .0) (fit .1)
 
   module _ (o : List ℕ) (to : ℕ) (ln : length n ≤ name-width) (lc : length (x .content) ≤ content-width) (valid : is-entry-path e ≡ true) (room : row-start to ≤ length o) where
     -- and where it was written

@@ -10,7 +10,7 @@ use lib.Seq.{paste, length-take-le, take-add, take-all, drop-at}
 use Rattle.buffers.specs.Fields.{two-bytes, padded, all-bytes}
 use Rattle.buffers.specs.FieldsLaws.{length-padded}
 use Rattle.buffers.specs.PasteLaws.{paste-two, paste-join, gap-filled}
-use Rattle.tree.specs.Layout.{row-width, tree-width, row-start, name-width}
+use Rattle.tree.specs.Layout.{row-width, tree-width, row-start, name-width, later-rows-width, head-width, name-offset, behind-name-width, tag-offset}
 use Rattle.tree.specs.Forest.{leaf}
 use Rattle.tree.specs.Rows.{flatten, rows}
 use Rattle.tree.specs.WellFormed.{most-nodes}
@@ -22,9 +22,9 @@ use Rattle.edits.specs.Changes.{rows-put, rows-taken, fresh-node, head-b
 -- ---- the row of a new node
 
 -- the fields before the name
-pub head-written : (b : List ℕ) (at depth : ℕ) (f : Fresh) → at + 8 ≤ length b
+pub head-written : (b : List ℕ) (at depth : ℕ) (f : Fresh) → at + head-width ≤ length b
     → paste (paste (paste b at (depth ∷ kind-byte (f .kind) ∷ f .owner .0 ∷ f .group .0 ∷ []) 4) (at + 4) (two-bytes (f .mode)) 2) (at + 6) (two-bytes (f .revision)) 2
-    ≡ paste b at (head-bytes depth f) 8
+    ≡ paste b at (head-bytes depth f) head-width
 unfolding head-bytes two-bytes
 head-written b at depth f h =
     let K : List ℕ = depth ∷ kind-byte (f .kind) ∷ f .owner .0 ∷ f .group .0 ∷ [] in
@@ -39,35 +39,35 @@ unfolding fresh-node
 fresh-node-is f = refl
 
 module _ (depth : ℕ) (name : List ℕ) (f : Fresh) where
-  length-head : length (head-bytes depth f) ≡ 8
+  length-head : length (head-bytes depth f) ≡ head-width
   unfolding head-bytes two-bytes
   length-head = refl
 
   -- behind the name there are only zeros
-  fresh-parts : row-bytes (fresh-row depth name f) ≡ head-bytes depth f ++ padded name-width name ++ replicate 211 0
+  fresh-parts : row-bytes (fresh-row depth name f) ≡ head-bytes depth f ++ padded name-width name ++ replicate behind-name-width 0
   unfolding row-bytes head-bytes two-bytes fresh-node tag-bytes padded
   fresh-parts = refl
 
-  pub length-fresh : length name ≤ 8 → length (row-bytes (fresh-row depth name f)) ≡ row-width
+  pub length-fresh : length name ≤ name-width → length (row-bytes (fresh-row depth name f)) ≡ row-width
   length-fresh h =
       let H = head-bytes depth f in
       let N = padded name-width name in
-      let Z : List ℕ = replicate 211 0 in
+      let Z : List ℕ = replicate behind-name-width 0 in
       let l = length-padded name-width name h in
-      let z = length-replicate {A = ℕ} 211 0 in
+      let z = length-replicate {A = ℕ} behind-name-width 0 in
       ap length fresh-parts ∙ length-append (H ++ N) Z ∙ omega (arith, length-append H N, length-head)
 
   -- what is written piece by piece is the row
-  pub row-written : (b : List ℕ) (at : ℕ) → at + row-width ≤ length b → length name ≤ 8
-      → paste (paste (paste b at (head-bytes depth f) 8) (at + 8) (padded name-width name) 8) (at + 16) (replicate 211 0) 211 ≡ paste b at (row-bytes (fresh-row depth name f)) row-width
+  pub row-written : (b : List ℕ) (at : ℕ) → at + row-width ≤ length b → length name ≤ name-width
+      → paste (paste (paste b at (head-bytes depth f) head-width) (at + name-offset) (padded name-width name) name-width) (at + tag-offset) (replicate behind-name-width 0) behind-name-width ≡ paste b at (row-bytes (fresh-row depth name f)) row-width
   row-written b at fits h =
       let H = head-bytes depth f in
       let N = padded name-width name in
-      let Z : List ℕ = replicate 211 0 in
+      let Z : List ℕ = replicate behind-name-width 0 in
       let l = length-padded name-width name h in
-      let z = length-replicate {A = ℕ} 211 0 in
-      ap (λ (s : List ℕ). paste s (at + 16) Z 211) (paste-join b H N at 8 8 length-head l (omega arith))
-      ∙ paste-join b (H ++ N) Z at 16 211 (length-append H N ∙ omega (arith, length-head)) z (omega arith)
+      let z = length-replicate {A = ℕ} behind-name-width 0 in
+      ap (λ (s : List ℕ). paste s (at + tag-offset) Z behind-name-width) (paste-join b H N at head-width name-width length-head l (omega arith))
+      ∙ paste-join b (H ++ N) Z at tag-offset behind-name-width (length-append H N ∙ omega (arith, length-head)) z (omega arith)
       ∙ ap (λ (s : List ℕ). paste b at s row-width) (sym fresh-parts)
 
 -- ---- rows put in and taken out
@@ -150,5 +150,5 @@ pub planted-tree : (b : List ℕ) (f : Fresh) → length b ≡ tree-width
 unfolding encode-tree encode-rows all-bytes rows leaf flatten most-nodes
 planted-tree b f e =
     let r = row-bytes (fresh-row 0 [] f) in
-    planted b r row-width 57885 e (length-fresh 0 [] f (omega arith))
-    ∙ ap (λ (l : List ℕ). two-bytes 1 ++ (l ++ replicate 57885 0)) (sym (append-nil r))
+    planted b r row-width later-rows-width e (length-fresh 0 [] f (omega arith))
+    ∙ ap (λ (l : List ℕ). two-bytes 1 ++ (l ++ replicate later-rows-width 0)) (sym (append-nil r))

@@ -16,7 +16,7 @@ use Rattle.syntax.specs.JoinedLaws.{joined-one, joined-more}
 use Rattle.syntax.specs.Compute.{compute as compute-syntax}
 use Rattle.syntax.specs.Number.{decimal-text, mode-text}
 use Rattle.syntax.specs.NumberLaws.{decimal-length, mode-length}
-use Rattle.syntax.specs.Path.{Path, root, _▹_, depth, most-names, has-names, is-path, path-text, entry-text}
+use Rattle.syntax.specs.Path.{Path, root, _▹_, depth, most-names, has-names, is-path, path-text, entry-text, longest-entry-text}
 use Rattle.syntax.specs.PathLaws.{path-text-fits, entry-text-length, path-more}
 use Rattle.syntax.specs.FieldLaws.{content-length}
 use Rattle.syntax.specs.FormLaws.{no-answer}
@@ -91,7 +91,7 @@ nine : (a b c d e f g h i : Text) → length (joined comma (a ∷ b ∷ c ∷ d 
 nine a b c d e f g h i = simp (joined-more, joined-one) (omega arith)
 
 tag-lengths : (o : Option Tag) → ((t : Tag) → o ≡ some t → Tag-range t) →
-    (u v : Text) × (tag-fields o ≡ u ∷ v ∷ []) × (length u ≤ 49) × (length v ≤ 4)
+    (u v : Text) × (tag-fields o ≡ u ∷ v ∷ []) × (length u ≤ longest-entry-text) × (length v ≤ 4)
 unfolding tag-fields
 tag-lengths none h = (bytes "-", bytes "0", refl, unfold bytes in omega arith, unfold bytes in omega arith)
 tag-lengths (some t) h =

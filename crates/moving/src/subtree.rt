@@ -24,20 +24,21 @@ use tree::FEW_ROWS;
 use tree::FIRST;
 use tree::HALF_ROWS;
 use tree::MANY_ROWS;
+use tree::MOST_ROWS;
 use tree::ROW;
 use tree::SOME_ROWS;
 use tree::subtree_end;
 
 // The bytes of the arrays that hold rows on the way.
-const FEW_WIDTH: usize = 908;
+const FEW_WIDTH: usize = ROW * FEW_ROWS;
 
-const SOME_WIDTH: usize = 3632;
+const SOME_WIDTH: usize = ROW * SOME_ROWS;
 
-const MANY_WIDTH: usize = 14528;
+const MANY_WIDTH: usize = ROW * MANY_ROWS;
 
-const HALF_WIDTH: usize = 29056;
+const HALF_WIDTH: usize = ROW * HALF_ROWS;
 
-const ALL_WIDTH: usize = 58112;
+const ALL_WIDTH: usize = ROW * MOST_ROWS;
 
 // Takes n rows out into a buffer.
 fn take_held(tree: &mut [u8], at: usize, n: usize, held: &mut [u8])

@@ -16,7 +16,7 @@ use Rattle.accounts.specs.declared.Gid.{Gid}
 use Rattle.syntax.specs.Path.{Path, last, depth, Entry-path, is-entry-path, entry-text}
 use Rattle.syntax.specs.PathLaws.{entry-text-fits}
 use Rattle.syntax.specs.FieldLaws.{content-fits}
-use Rattle.tree.specs.Layout.{owner-offset, group-offset, mode-offset, revision-offset, name-width, tag-offset, tag-width, tag-revision-offset, content-offset, content-width}
+use Rattle.tree.specs.Layout.{owner-offset, group-offset, mode-offset, revision-offset, name-width, tag-offset, tag-width, tag-revision-offset, content-offset, content-width, whole-tag-width}
 use Rattle.tree.specs.Forest.{Place, update, place-at, alter}
 use Rattle.tree.specs.Node.{Tag, Node, set-owner, set-group, set-mode, set-revision, set-tag, set-content}
 use Rattle.tree.specs.Rows.{Row, flatten}
@@ -113,7 +113,7 @@ module _ (t : Place Node) (p : Path) (d : Place Node) (h : is-tree t ≡ true) (
   tag-fits-there : is-tag (d .here .tag) ≡ true
   tag-fits-there = node-parts (d .here) (fits-parts (row-there p (d .here)) (row-fits t p d h there) .0) .0
 
-  content-fits-there : length (d .here .content) ≤ 80
+  content-fits-there : length (d .here .content) ≤ content-width
   content-fits-there =
       let i = node-parts (d .here) (fits-parts (row-there p (d .here)) (row-fits t p d h there) .0) in
       content-fits (d .here .content) (i .1) .0
@@ -154,7 +154,7 @@ module _ (t : Place Node) (p : Path) (d : Place Node) (h : is-tree t ≡ true) (
       let was : row-bytes (row-there p x) ≡ (row-head (row-there p x) ++ (name-of (row-there p (d .here)) ++ T)) ++ (two-bytes (g .revision) ++ Q) =
       row-parts (row-there p x) ∙ ap (λ (o : Option Tag). row-head (row-there p x) ++ (name-of (row-there p (d .here)) ++ (tag-bytes o ++ Q))) e
       ∙ regroup-four (row-head (row-there p x)) (name-of (row-there p (d .here))) T (two-bytes (g .revision)) Q in
-      change-law t p d h there 65 (row-head (row-there p x) ++ (name-of (row-there p (d .here)) ++ T)) (two-bytes (g .revision)) Q (length-so-far x T 49 lT) was (set-tag new) (two-bytes v)
+      change-law t p d h there tag-revision-offset (row-head (row-there p x) ++ (name-of (row-there p (d .here)) ++ T)) (two-bytes (g .revision)) Q (length-so-far x T tag-width lT) was (set-tag new) (two-bytes v)
       (length-two-bytes (g .revision) ∙ sym (length-two-bytes v))
       (row-parts (row-there p (set-tag new x)) ∙ regroup-four (row-head (row-there p x)) (name-of (row-there p (d .here))) T (two-bytes v) Q)
 
@@ -162,25 +162,25 @@ module _ (t : Place Node) (p : Path) (d : Place Node) (h : is-tree t ≡ true) (
   content-parts : (x : Node) → row-bytes (row-there p x) ≡ (row-head (row-there p x) ++ (name-of (row-there p (d .here)) ++ tag-bytes (x .tag))) ++ (padded content-width (x .content) ++ row-spare)
   content-parts x = row-parts (row-there p x) ∙ regroup-three (row-head (row-there p x)) (name-of (row-there p (d .here))) (tag-bytes (x .tag)) (padded content-width (x .content) ++ row-spare)
 
-  length-before-content : length (row-head (row-there p (d .here)) ++ (name-of (row-there p (d .here)) ++ tag-bytes (d .here .tag))) ≡ 67
-  length-before-content = length-so-far (d .here) (tag-bytes (d .here .tag)) 51 (length-tag-bytes (d .here .tag) tag-fits-there)
+  length-before-content : length (row-head (row-there p (d .here)) ++ (name-of (row-there p (d .here)) ++ tag-bytes (d .here .tag))) ≡ content-offset
+  length-before-content = length-so-far (d .here) (tag-bytes (d .here .tag)) whole-tag-width (length-tag-bytes (d .here .tag) tag-fits-there)
 
-  length-content : length (padded content-width (d .here .content)) ≡ 80
+  length-content : length (padded content-width (d .here .content)) ≡ content-width
   length-content = length-padded content-width (d .here .content) content-fits-there
 
-  content-changed : (c : Text) → length c ≤ 80
+  content-changed : (c : Text) → length c ≤ content-width
       → field-put (encode-tree t) (index-of t p) content-offset (padded content-width c) ≡ encode-tree (update p (alter (set-content c)) t)
   unfolding set-content
   content-changed c l =
       let x = d .here in
-      change-law t p d h there 67 (row-head (row-there p x) ++ (name-of (row-there p (d .here)) ++ tag-bytes (x .tag))) (padded content-width (x .content)) row-spare length-before-content (content-parts x)
+      change-law t p d h there content-offset (row-head (row-there p x) ++ (name-of (row-there p (d .here)) ++ tag-bytes (x .tag))) (padded content-width (x .content)) row-spare length-before-content (content-parts x)
       (set-content c) (padded content-width c) (length-content ∙ sym (length-padded content-width c l)) (content-parts (set-content c x))
 
   content-read : field-bytes (encode-tree t) (index-of t p) content-offset content-width ≡ padded content-width (d .here .content)
   content-read =
       let x = d .here in
-      ap (field-bytes (encode-tree t) (index-of t p) 67) (sym length-content)
-      ∙ field-law t p d h there 67 (row-head (row-there p x) ++ (name-of (row-there p (d .here)) ++ tag-bytes (x .tag))) (padded content-width (x .content)) row-spare length-before-content (content-parts x)
+      ap (field-bytes (encode-tree t) (index-of t p) content-offset) (sym length-content)
+      ∙ field-law t p d h there content-offset (row-head (row-there p x) ++ (name-of (row-there p (d .here)) ++ tag-bytes (x .tag))) (padded content-width (x .content)) row-spare length-before-content (content-parts x)
 
 -- ---- at the row of a place
 

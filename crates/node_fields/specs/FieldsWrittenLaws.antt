@@ -8,7 +8,7 @@ use lib.Seq.{paste, length-paste, length-take-le, take-append-le, drop-append-le
 use Rattle.buffers.specs.Fields.{two-bytes, padded}
 use Rattle.buffers.specs.FieldsLaws.{length-padded, length-two-bytes, text-part}
 use Rattle.buffers.specs.PasteLaws.{paste-join, paste-piece, set-paste, set-behind}
-use Rattle.tree.specs.Layout.{row-width, row-start, tag-offset, tag-width, tag-revision-offset, content-offset, content-width}
+use Rattle.tree.specs.Layout.{row-width, row-start, tag-offset, tag-width, tag-revision-offset, content-offset, content-width, whole-tag-width}
 use Rattle.tree.specs.RowAt.{tag-text-at}
 use Rattle.tree.specs.RowAtLaws.{text-in-row}
 use Rattle.edits.specs.Changes.{field-bytes, field-put}
@@ -30,15 +30,15 @@ module _ (b : List ℕ) (i k : ℕ) where
 
 -- a tag: its text and its number
 pub tag-put : (b t : List ℕ) (i n : ℕ) → row-start i + row-width ≤ length b → length t ≤ tag-width
-    → paste (paste b (row-start i + tag-offset) (padded tag-width t) 49) (row-start i + tag-revision-offset) (two-bytes n) 2 ≡ field-put b i tag-offset (padded tag-width t ++ two-bytes n)
+    → paste (paste b (row-start i + tag-offset) (padded tag-width t) tag-width) (row-start i + tag-revision-offset) (two-bytes n) 2 ≡ field-put b i tag-offset (padded tag-width t ++ two-bytes n)
 tag-put b t i n h l =
     let T = padded tag-width t in
     let lT = length-padded tag-width t l in
     let lN = length-two-bytes n in
-    let q : row-start i + tag-revision-offset ≡ row-start i + tag-offset + 49 = omega arith in
-    ap (λ (at : ℕ). paste (paste b (row-start i + tag-offset) T 49) at (two-bytes n) 2) q
-    ∙ paste-join b T (two-bytes n) (row-start i + tag-offset) 49 2 lT lN (omega arith)
-    ∙ piece-put b i 16 (T ++ two-bytes n) 51 (length-append T (two-bytes n) ∙ omega arith)
+    let q : row-start i + tag-revision-offset ≡ row-start i + tag-offset + tag-width = omega arith in
+    ap (λ (at : ℕ). paste (paste b (row-start i + tag-offset) T tag-width) at (two-bytes n) 2) q
+    ∙ paste-join b T (two-bytes n) (row-start i + tag-offset) tag-width 2 lT lN (omega arith)
+    ∙ piece-put b i tag-offset (T ++ two-bytes n) whole-tag-width (length-append T (two-bytes n) ∙ omega arith)
 
 -- a part that ends before what is written stays
 part-before : (b s : List ℕ) (at n k w : ℕ) → k + w ≤ at → at ≤ length b → take w (drop k (paste b at s n)) ≡ take w (drop k b)
@@ -70,17 +70,17 @@ text-in-zeros b t at w h fits =
     ∙ ap (λ (l : List ℕ). A ++ l ++ B) (sym (take-all w (padded w t) (omega (arith, length-padded w t h))))
 
 -- a text copied into a field that was cleared, a byte behind it, and a name are one text filled up
-joined-put : (b t m : List ℕ) (at n from c : ℕ) → length t ≡ n → take n (drop from b) ≡ t → n + length m < 49 → from + n ≤ at → at + 49 ≤ length b
-    → paste (set (paste (paste b at (replicate 49 0) 49) at (drop from (paste b at (replicate 49 0) 49)) n) (at + n) c) (at + 1 + n) m (length m) ≡ paste b at (padded tag-width (t ++ (c ∷ m))) 49
+joined-put : (b t m : List ℕ) (at n from c : ℕ) → length t ≡ n → take n (drop from b) ≡ t → n + length m < tag-width → from + n ≤ at → at + tag-width ≤ length b
+    → paste (set (paste (paste b at (replicate tag-width 0) tag-width) at (drop from (paste b at (replicate tag-width 0) tag-width)) n) (at + n) c) (at + 1 + n) m (length m) ≡ paste b at (padded tag-width (t ++ (c ∷ m))) tag-width
 joined-put b t m at n from c e w h before fits =
-    let Z = paste b at (replicate 49 0) 49 in
+    let Z = paste b at (replicate tag-width 0) tag-width in
     let T = t ++ (c ∷ m) in
-    let lZ = length-paste b at (replicate 49 0) 49 fits (omega (arith, length-replicate {A = ℕ} 49 0)) in
+    let lZ = length-paste b at (replicate tag-width 0) tag-width fits (omega (arith, length-replicate {A = ℕ} tag-width 0)) in
     let lt = length-append t (c ∷ []) in
     let lT = length-append t (c ∷ m) in
     let q : at + 1 + n ≡ at + (n + 1) = omega arith in
     let r : n + 1 + length m ≡ length T = omega arith in
-    let p : take n (drop from Z) ≡ take n t = part-before b (replicate 49 0) at 49 from n before (omega arith) ∙ w ∙ sym (take-all n t (omega arith)) in
+    let p : take n (drop from Z) ≡ take n t = part-before b (replicate tag-width 0) at tag-width from n before (omega arith) ∙ w ∙ sym (take-all n t (omega arith)) in
     let g : (t ++ (c ∷ [])) ++ m ≡ T = simp append-assoc in
     ap (λ (l : List ℕ). paste (set (take at Z ++ l ++ drop (at + n) Z) (at + n) c) (at + 1 + n) m (length m)) p
     ∙ ap (λ (l : List ℕ). paste l (at + 1 + n) m (length m)) (set-behind Z t at n c e (omega arith))
@@ -88,11 +88,11 @@ joined-put b t m at n from c e w h before fits =
     ∙ paste-join Z (t ++ (c ∷ [])) m at (n + 1) (length m) (omega arith) refl (omega arith)
     ∙ ap (paste Z at ((t ++ (c ∷ [])) ++ m)) r
     ∙ ap (λ (l : List ℕ). paste Z at l (length T)) g
-    ∙ text-in-zeros b T at 49 (omega arith) fits
+    ∙ text-in-zeros b T at tag-width (omega arith) fits
 
 -- the tag of a child: the text of a tag before, a slash and a name
-pub tag-below-put : (b m : List ℕ) (i above n v : ℕ) → row-start i + row-width ≤ length b → above < i → n ≡ length (tag-text-at b above) → n + length m < 49
-    → paste (paste (set (paste (paste b (row-start i + tag-offset) (replicate 49 0) 49) (row-start i + tag-offset) (drop (row-start above + tag-offset) (paste b (row-start i + tag-offset) (replicate 49 0) 49)) n)
+pub tag-below-put : (b m : List ℕ) (i above n v : ℕ) → row-start i + row-width ≤ length b → above < i → n ≡ length (tag-text-at b above) → n + length m < tag-width
+    → paste (paste (set (paste (paste b (row-start i + tag-offset) (replicate tag-width 0) tag-width) (row-start i + tag-offset) (drop (row-start above + tag-offset) (paste b (row-start i + tag-offset) (replicate tag-width 0) tag-width)) n)
     (row-start i + tag-offset + n) 47) (row-start i + 17 + n) m (length m)) (row-start i + tag-revision-offset) (two-bytes v) 2
     ≡ field-put b i tag-offset (padded tag-width (tag-text-at b above ++ (47 ∷ m)) ++ two-bytes v)
 unfolding tag-text-at
@@ -100,9 +100,9 @@ tag-below-put b m i above n v h below q l =
     let t = tag-text-at b above in
     let at = row-start i + tag-offset in
     let from = row-start above + tag-offset in
-    let Z = paste b at (replicate 49 0) 49 in
-    let same = text-in-row b above 16 49 (omega arith) in
-    let part = text-part b from 49 n (q ∙ ap length same) (omega arith) ∙ sym same in
+    let Z = paste b at (replicate tag-width 0) tag-width in
+    let same = text-in-row b above tag-offset tag-width (omega arith) in
+    let part = text-part b from tag-width n (q ∙ ap length same) (omega arith) ∙ sym same in
     let u : row-start i + 17 + n ≡ at + 1 + n = omega arith in
     ap (λ (j : ℕ). paste (paste (set (paste Z at (drop from Z) n) (at + n) 47) j m (length m)) (row-start i + tag-revision-offset) (two-bytes v) 2) u
     ∙ ap (λ (s : List ℕ). paste s (row-start i + tag-revision-offset) (two-bytes v) 2) (joined-put b t m at n from 47 (sym q) part l (omega arith) (omega arith))
@@ -110,10 +110,10 @@ tag-below-put b m i above n v h below q l =
 
 -- a content copied from another row
 pub content-copied : (b : List ℕ) (from to : ℕ) → row-start from + row-width ≤ length b
-    → paste b (row-start to + content-offset) (drop (row-start from + content-offset) b) 80 ≡ field-put b to content-offset (field-bytes b from content-offset content-width)
+    → paste b (row-start to + content-offset) (drop (row-start from + content-offset) b) content-width ≡ field-put b to content-offset (field-bytes b from content-offset content-width)
 unfolding field-bytes
 content-copied b from to h =
     let D = drop (row-start from + content-offset) b in
-    let l : 80 ≤ length D = omega (arith, length-drop (row-start from + content-offset) b) in
-    ap (λ (s : List ℕ). take (row-start to + content-offset) b ++ s ++ drop (row-start to + content-offset + 80) b) (sym (take-take 80 80 D (omega arith)))
-    ∙ piece-put b to 67 (take 80 D) 80 (length-take-le 80 D l)
+    let l : content-width ≤ length D = omega (arith, length-drop (row-start from + content-offset) b) in
+    ap (λ (s : List ℕ). take (row-start to + content-offset) b ++ s ++ drop (row-start to + content-offset + content-width) b) (sym (take-take content-width content-width D (omega arith)))
+    ∙ piece-put b to content-offset (take content-width D) content-width (length-take-le content-width D l)

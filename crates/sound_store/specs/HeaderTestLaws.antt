@@ -27,7 +27,7 @@ use Rattle.syntax.specs.Field.{bounded, bounded-by}
 use Rattle.setup.specs.Setup.{Setup, accounts, most-pairs, most-grants, person, is-person, is-slot, is-pair, is-grant, is-setup}
 use Rattle.soundness.specs.RowTestLaws.{eqb-flip, length-text-at, same-filled, same-zeros-at}
 use Rattle.store.specs.StoreBytes.{slot-bytes, slot-of, session-byte, session-of, grant-bytes, grant-of, header-bytes, setup-of, sessions-of, is-header}
-use Rattle.store.specs.HeaderLayout.{pair-start, grant-start, grants-offset, spare-offset, spare-width, sessions-offset, pairs-offset, Wide-header}
+use Rattle.store.specs.HeaderLayout.{pair-start, grant-start, grants-offset, spare-offset, spare-width, sessions-offset, pairs-offset, Wide-header, pair-width, grant-width}
 use Rattle.sound_store.specs.HeaderTests.{passes-from, slot-start, is-slot-at, has-slots, is-session-at, has-sessions, is-pair-at, has-pairs, named-at, is-password-at, is-grant-at, has-grants, header-test}
 use Rattle.sound_store.specs.PassesLaws.{passes-both, passes-same, stretch, opened, all-pass, all-same, table-values, table-same}
 
@@ -155,7 +155,7 @@ module _ (b : List ℕ) (wide : Wide-header b) (small : (k : ℕ) → getD b k 0
       let s = ap (λ (j : ℕ). take 1 (drop j b)) q ∙ one-at b i (omega arith) in
       rw s (session-read (getD b i 0))
 
-  pair-is : (k : ℕ) → k < 28 → let s = stretch 2 65 b k in (is-pair (pair-of s) && same-text (pair-bytes (pair-of s)) s) ≡ is-pair-at b k
+  pair-is : (k : ℕ) → k < 28 → let s = stretch pair-width (pairs-offset + 1) b k in (is-pair (pair-of s) && same-text (pair-bytes (pair-of s)) s) ≡ is-pair-at b k
   unfolding is-pair-at
   pair-is k h = let i = pair-start k in rw (two-at b i (omega arith)) (pair-read (getD b i 0) (getD b (i + 1) 0))
 
@@ -170,7 +170,7 @@ module _ (b : List ℕ) (wide : Wide-header b) (small : (k : ℕ) → getD b k 0
       rw (at, t) (some-slot (take 3 (drop (3 * v) b)) ∙ rw first))
       (λ t. rw (List·getD-eq-default (all-from 3 slot-of 16 b) none {n = v} (omega (arith, length-all-from 3 slot-of 16 b, leb-false v 15 t)), t) (unfold is-some in refl))
 
-  grant-is : (k : ℕ) → k < 32 → let s = stretch 10 122 b k in (is-grant (setup-of b) (grant-of s) && same-text (grant-bytes (grant-of s)) s) ≡ is-grant-at b k
+  grant-is : (k : ℕ) → k < 32 → let s = stretch grant-width (grants-offset + 1) b k in (is-grant (setup-of b) (grant-of s) && same-text (grant-bytes (grant-of s)) s) ≡ is-grant-at b k
   unfolding is-grant-at is-password-at named-at
   grant-is k h =
       let i = grant-start k in
@@ -189,10 +189,10 @@ module _ (b : List ℕ) (wide : Wide-header b) (small : (k : ℕ) → getD b k 0
   sessions-same = passes-from (λ k. same-text (session-byte (session-of (getD (stretch 1 sessions-offset b k) 0 0)) ∷ []) (stretch 1 sessions-offset b k)) 0 16
 
   abbrev pairs-same : Bool
-  pairs-same = passes-from (λ k. same-text (pair-bytes (pair-of (stretch 2 65 b k))) (stretch 2 65 b k)) 0 (getD b pairs-offset 0)
+  pairs-same = passes-from (λ k. same-text (pair-bytes (pair-of (stretch pair-width (pairs-offset + 1) b k))) (stretch pair-width (pairs-offset + 1) b k)) 0 (getD b pairs-offset 0)
 
   abbrev grants-same : Bool
-  grants-same = passes-from (λ k. same-text (grant-bytes (grant-of (stretch 10 122 b k))) (stretch 10 122 b k)) 0 (getD b grants-offset 0)
+  grants-same = passes-from (λ k. same-text (grant-bytes (grant-of (stretch grant-width (grants-offset + 1) b k))) (stretch grant-width (grants-offset + 1) b k)) 0 (getD b grants-offset 0)
 
   abbrev u : Setup
   u = setup-of b
@@ -220,19 +220,19 @@ module _ (b : List ℕ) (wide : Wide-header b) (small : (k : ℕ) → getD b k 0
   unfolding setup-of
   pairs-are few =
       let n = getD b pairs-offset 0 in
-      let P : ℕ → Bool = λ k. is-pair (pair-of (stretch 2 65 b k)) in
-      let T : ℕ → Bool = λ k. same-text (pair-bytes (pair-of (stretch 2 65 b k))) (stretch 2 65 b k) in
-      ap (λ (t : Bool). t && pairs-same) (ap (every is-pair) (table-values 2 28 pairs-offset b pair-of (omega arith)) ∙ all-pass 2 65 b pair-of is-pair n)
+      let P : ℕ → Bool = λ k. is-pair (pair-of (stretch pair-width (pairs-offset + 1) b k)) in
+      let T : ℕ → Bool = λ k. same-text (pair-bytes (pair-of (stretch pair-width (pairs-offset + 1) b k))) (stretch pair-width (pairs-offset + 1) b k) in
+      ap (λ (t : Bool). t && pairs-same) (ap (every is-pair) (table-values pair-width 28 pairs-offset b pair-of (omega arith)) ∙ all-pass pair-width (pairs-offset + 1) b pair-of is-pair n)
       ∙ passes-both P T 0 n
       ∙ passes-same (λ k. P k && T k) (is-pair-at b) 0 n (λ k h. pair-is k (omega arith))
 
   grants-are : getD b grants-offset 0 ≤ 32 → (every (is-grant u) (u .grants) && grants-same) ≡ passes-from (is-grant-at b) 0 (getD b grants-offset 0)
   grants-are few =
       let n = getD b grants-offset 0 in
-      let P : ℕ → Bool = λ k. is-grant u (grant-of (stretch 10 122 b k)) in
-      let T : ℕ → Bool = λ k. same-text (grant-bytes (grant-of (stretch 10 122 b k))) (stretch 10 122 b k) in
-      let g : u .grants ≡ all-from 10 grant-of n (drop 122 b) = unfold setup-of in table-values 10 32 grants-offset b grant-of (omega arith) in
-      ap (λ (t : Bool). t && grants-same) (ap (every (is-grant u)) g ∙ all-pass 10 122 b grant-of (is-grant u) n)
+      let P : ℕ → Bool = λ k. is-grant u (grant-of (stretch grant-width (grants-offset + 1) b k)) in
+      let T : ℕ → Bool = λ k. same-text (grant-bytes (grant-of (stretch grant-width (grants-offset + 1) b k))) (stretch grant-width (grants-offset + 1) b k) in
+      let g : u .grants ≡ all-from grant-width grant-of n (drop (grants-offset + 1) b) = unfold setup-of in table-values grant-width 32 grants-offset b grant-of (omega arith) in
+      ap (λ (t : Bool). t && grants-same) (ap (every (is-grant u)) g ∙ all-pass grant-width (grants-offset + 1) b grant-of (is-grant u) n)
       ∙ passes-both P T 0 n
       ∙ passes-same (λ k. P k && T k) (is-grant-at b) 0 n (λ k h. grant-is k (omega arith))
 

@@ -14,7 +14,7 @@ use Rattle.buffers.specs.FieldsLaws.{part-of-take}
 use Rattle.syntax.specs.Number.{is-mode}
 use Rattle.syntax.specs.Path.{entry-path}
 use Rattle.syntax.specs.Form.{is-some}
-use Rattle.tree.specs.Layout.{row-width, row-start, kind-offset, owner-offset, group-offset, name-offset, name-width, tag-offset, tag-revision-offset, content-offset}
+use Rattle.tree.specs.Layout.{row-width, row-start, kind-offset, owner-offset, group-offset, name-offset, name-width, tag-offset, tag-revision-offset, content-offset, tag-width}
 use Rattle.tree.specs.WellFormed.{last-revision, fits-kind}
 use Rattle.tree.specs.Encoding.{read-row}
 use Rattle.tree.specs.RowAt.{row-bytes-at, row-at, tag-text-at, tag-number-at}
@@ -78,12 +78,12 @@ module _ (b : List ℕ) (i : ℕ) where
   -- a tag that is no entry path
   pub tag-none : is-some (entry-path (tag-text-at b i)) ≡ false → has-tag (row-bytes-at b i) ≡ zeros-at (row-start i + tag-offset) (row-start i + content-offset - (row-start i + tag-offset)) b
   unfolding has-tag tag-text-at
-  tag-none e = rw e (zeros-between 16 67 (omega arith) (omega arith))
+  tag-none e = rw e (zeros-between tag-offset content-offset (omega arith) (omega arith))
 
   -- a content is empty if its field begins with a zero
   pub content-empty : eqb (getD b (row-start i + content-offset) 0) 0 ≡ eqb (length (row-at b i .here .content)) 0
   unfolding row-at read-row
-  content-empty = ap (λ (k : ℕ). eqb k 0) (sym (byte-in-row b i 67 (omega arith))) ∙ sym (empty-by-first 67 79 (row-bytes-at b i))
+  content-empty = ap (λ (k : ℕ). eqb k 0) (sym (byte-in-row b i content-offset (omega arith))) ∙ sym (empty-by-first content-offset 79 (row-bytes-at b i))
 
   module _ (room : row-start i + row-width ≤ length b) where
     length-row : length (row-bytes-at b i) ≡ row-width
@@ -115,13 +115,13 @@ module _ (b : List ℕ) (i : ℕ) where
     pub tag-unfilled : (n : ℕ) → is-some (entry-path (tag-text-at b i)) ≡ true → n ≡ length (tag-text-at b i)
         → zeros-at (row-start i + tag-offset + n) (row-start i + tag-revision-offset - (row-start i + tag-offset + n)) b ≡ false → has-tag (row-bytes-at b i) ≡ false
     unfolding has-tag tag-text-at
-    tag-unfilled n s e z = rw s (rw (filled-in-row 16 49 n (omega arith) e ∙ z))
+    tag-unfilled n s e z = rw s (rw (filled-in-row tag-offset tag-width n (omega arith) e ∙ z))
 
     -- and one that is
     pub tag-filled : (n : ℕ) → is-some (entry-path (tag-text-at b i)) ≡ true → n ≡ length (tag-text-at b i)
         → zeros-at (row-start i + tag-offset + n) (row-start i + tag-revision-offset - (row-start i + tag-offset + n)) b ≡ true → has-tag (row-bytes-at b i) ≡ leb (tag-number-at b i) 9999
     unfolding has-tag tag-text-at tag-number-at last-revision
-    tag-filled n s e z = rw s (rw (filled-in-row 16 49 n (omega arith) e ∙ z))
+    tag-filled n s e z = rw s (rw (filled-in-row tag-offset tag-width n (omega arith) e ∙ z))
 
     -- the content: its bytes, what the kind allows, and the zeros behind
     pub content-in-row : has-content (row-bytes-at b i)
@@ -130,12 +130,12 @@ module _ (b : List ℕ) (i : ℕ) where
     unfolding row-at read-row
     content-in-row =
         let x = row-bytes-at b i in
-        let stand : neighbours-pass may-stand 67 64 x ≡ neighbours-pass may-stand (row-start i + 67) 64 b =
-        pass-alike may-stand 64 67 (row-start i + 67) x b (λ k j.
-        let q : row-start i + (67 + k) ≡ row-start i + 67 + k = omega arith in
-        byte-in-row b i (67 + k) (omega arith) ∙ ap (λ (n : ℕ). getD b n 0) q) in
+        let stand : neighbours-pass may-stand content-offset 64 x ≡ neighbours-pass may-stand (row-start i + content-offset) 64 b =
+        pass-alike may-stand 64 content-offset (row-start i + content-offset) x b (λ k j.
+        let q : row-start i + (content-offset + k) ≡ row-start i + content-offset + k = omega arith in
+        byte-in-row b i (content-offset + k) (omega arith) ∙ ap (λ (n : ℕ). getD b n 0) q) in
         content-by-bytes x length-row
-        ∙ ap₂ (λ (s z : Bool). (s && fits-kind (row-at b i .here .kind) (row-at b i .here .mode) (row-at b i .here .content)) && z) stand (zeros-behind 67 row-width 64 (omega arith) (omega arith))
+        ∙ ap₂ (λ (s z : Bool). (s && fits-kind (row-at b i .here .kind) (row-at b i .here .mode) (row-at b i .here .content)) && z) stand (zeros-behind content-offset row-width 64 (omega arith) (omega arith))
 
     -- the fields together are the row
     pub fields-are-row : ((k : ℕ) → getD b k 0 < 256) → row-test (row-bytes-at b i) ≡ is-row (row-bytes-at b i)

@@ -22,7 +22,7 @@ use Rattle.syntax.specs.Field.{is-content}
 use Rattle.syntax.specs.Form.{is-some}
 use Rattle.syntax.specs.Path.{Entry-path, entry-path}
 use Rattle.syntax.specs.PathLaws.{entry-is-entry}
-use Rattle.tree.specs.Layout.{row-width, mode-offset, revision-offset, name-offset, name-width, tag-offset, tag-width, tag-revision-offset, whole-tag-width, content-offset, content-width}
+use Rattle.tree.specs.Layout.{row-width, mode-offset, revision-offset, name-offset, name-width, tag-offset, tag-width, tag-revision-offset, whole-tag-width, content-offset, content-width, base-offset, base-width, tail-width}
 use Rattle.tree.specs.WellFormed.{last-revision, is-tag, fits-kind, is-node}
 use Rattle.syntax.specs.ParentLaws.{text-of-entry}
 use Rattle.tree.specs.Encoding.{kind-byte, kind-of, tag-bytes, tag-of, row-bytes, read-row}
@@ -149,7 +149,7 @@ module _ (x : List ℕ) (h : length x ≡ row-width) (small : (k : ℕ) → getD
   -- a tag in range, written as it is read
   tag-part : (o : Option Entry-path) → entry-path (text-at tag-offset tag-width x) ≡ o →
       let T = tag-of (text-at tag-offset tag-width x) (number-at tag-revision-offset x) in
-      (length (tag-bytes T) ≡ 51) × ((is-tag T && same-text (tag-bytes T) (take 51 (drop 16 x))) ≡ has-tag x)
+      (length (tag-bytes T) ≡ whole-tag-width) × ((is-tag T && same-text (tag-bytes T) (take whole-tag-width (drop tag-offset x))) ≡ has-tag x)
   unfolding tag-of _>>=_ has-tag is-some tag-bytes is-tag
   tag-part none e = rw e (refl, same-zeros-at tag-offset whole-tag-width x (omega arith))
   tag-part (some v) e =
@@ -158,35 +158,35 @@ module _ (x : List ℕ) (h : length x ≡ row-width) (small : (k : ℕ) → getD
       let l = length-text-at tag-offset tag-width x (omega arith) in
       let P = padded tag-width t in
       let N = two-bytes n in
-      let y = drop 16 x in
-      let long : length P ≡ 49 = length-padded tag-width t l in
-      let same : same-text (P ++ N) (take 51 y) ≡ (is-filled tag-offset tag-width x && true) =
-      ap (same-text (P ++ N)) (take-add 49 2 y)
-      ∙ same-append P N (take 49 y) (take 2 (drop 49 y)) (long ∙ sym (length-take-le 49 y (omega (arith, length-drop 16 x))))
-      ∙ ap₂ _&&_ (same-filled 16 49 x (omega arith)) (ap (λ (z : List ℕ). same-text N (take 2 z)) (drop-drop 49 16 x) ∙ number-part 65 (omega arith)) in
+      let y = drop tag-offset x in
+      let long : length P ≡ tag-width = length-padded tag-width t l in
+      let same : same-text (P ++ N) (take whole-tag-width y) ≡ (is-filled tag-offset tag-width x && true) =
+      ap (same-text (P ++ N)) (take-add tag-width 2 y)
+      ∙ same-append P N (take tag-width y) (take 2 (drop tag-width y)) (long ∙ sym (length-take-le tag-width y (omega (arith, length-drop tag-offset x))))
+      ∙ ap₂ _&&_ (same-filled tag-offset tag-width x (omega arith)) (ap (λ (z : List ℕ). same-text N (take 2 z)) (drop-drop tag-width tag-offset x) ∙ number-part tag-revision-offset (omega arith)) in
       rw (e, ← text-of-entry t v e, entry-is-entry t v e) (
         length-append P N ∙ omega (arith, length-two-bytes n),
         ap (λ (b : Bool). leb n last-revision && b) same ∙ and-swap (leb n last-revision) (is-filled tag-offset tag-width x),
       )
 
   -- zeros behind the content: those of its field and those of the last
-  content-zeros : zeros-at (67 + length (text-at content-offset content-width x)) (160 - length (text-at content-offset content-width x)) x ≡ (is-filled content-offset content-width x && zeros-at 147 80 x)
+  content-zeros : zeros-at (content-offset + length (text-at content-offset content-width x)) (tail-width - length (text-at content-offset content-width x)) x ≡ (is-filled content-offset content-width x && zeros-at base-offset base-width x)
   unfolding zeros-at is-filled all-zero
   content-zeros =
       let n = length (text-at content-offset content-width x) in
       let l = length-text-at content-offset content-width x (omega arith) in
-      let q : 160 - n ≡ 80 - n + 80 = omega arith in
-      let p : 67 + n + (80 - n) ≡ 147 = omega arith in
-      let y = drop (67 + n) x in
+      let q : tail-width - n ≡ content-width - n + base-width = omega arith in
+      let p : content-offset + n + (content-width - n) ≡ base-offset = omega arith in
+      let y = drop (content-offset + n) x in
       ap (λ (k : ℕ). all-zero (take k y)) q
-      ∙ ap all-zero (take-add (80 - n) 80 y)
-      ∙ every-append (λ b. eqb b 0) (take (80 - n) y) (take 80 (drop (80 - n) y))
-      ∙ ap (λ (z : List ℕ). all-zero (take (80 - n) y) && all-zero (take 80 z)) (drop-drop (80 - n) (67 + n) x ∙ ap (λ (k : ℕ). drop k x) p)
+      ∙ ap all-zero (take-add (content-width - n) base-width y)
+      ∙ every-append (λ b. eqb b 0) (take (content-width - n) y) (take base-width (drop (content-width - n) y))
+      ∙ ap (λ (z : List ℕ). all-zero (take (content-width - n) y) && all-zero (take base-width z)) (drop-drop (content-width - n) (content-offset + n) x ∙ ap (λ (k : ℕ). drop k x) p)
 
   -- the whole row, part by part
   same-row : same-text (row-bytes (read-row x)) x
       ≡ ((eqb (getD x 1 0) 100 || eqb (getD x 1 0) 102)
-      && (is-filled name-offset name-width x && (same-text (tag-bytes (tag-of (text-at tag-offset tag-width x) (number-at tag-revision-offset x))) (take 51 (drop 16 x)) && (is-filled content-offset content-width x && zeros-at 147 80 x))))
+      && (is-filled name-offset name-width x && (same-text (tag-bytes (tag-of (text-at tag-offset tag-width x) (number-at tag-revision-offset x))) (take whole-tag-width (drop tag-offset x)) && (is-filled content-offset content-width x && zeros-at base-offset base-width x))))
   unfolding row-bytes read-row
   same-row =
       let k = kind-byte (kind-of (getD x 1 0)) in
@@ -196,21 +196,21 @@ module _ (x : List ℕ) (h : length x ≡ row-width) (small : (k : ℕ) → getD
       let N = padded name-width (text-at name-offset name-width x) in
       let T = tag-bytes (tag-of (text-at tag-offset tag-width x) (number-at tag-revision-offset x)) in
       let C = padded content-width (text-at content-offset content-width x) in
-      let Z : List ℕ = replicate 80 0 in
-      let last : same-text Z (drop 147 x) ≡ zeros-at 147 80 x =
-      ap (same-text Z) (sym (take-all 80 (drop 147 x) (omega (arith, length-drop 147 x)))) ∙ same-zeros-at 147 80 x (omega arith) in
+      let Z : List ℕ = replicate base-width 0 in
+      let last : same-text Z (drop base-offset x) ≡ zeros-at base-offset base-width x =
+      ap (same-text Z) (sym (take-all base-width (drop base-offset x) (omega (arith, length-drop base-offset x)))) ∙ same-zeros-at base-offset base-width x (omega arith) in
       same-part 0 4 D (M ++ (L ++ (N ++ (T ++ (C ++ Z))))) x refl (omega arith)
       ∙ ap₂ _&&_ (same-first x k (omega arith) ∙ same-kind-byte (getD x 1 0))
-      (same-part 4 2 M (L ++ (N ++ (T ++ (C ++ Z)))) x (length-two-bytes (number-at mode-offset x)) (omega arith)
-      ∙ ap₂ _&&_ (number-part 4 (omega arith))
-      (same-part 6 2 L (N ++ (T ++ (C ++ Z))) x (length-two-bytes (number-at revision-offset x)) (omega arith)
-      ∙ ap₂ _&&_ (number-part 6 (omega arith))
-      (same-part 8 8 N (T ++ (C ++ Z)) x (length-padded name-width (text-at name-offset name-width x) (length-text-at name-offset name-width x (omega arith))) (omega arith)
-      ∙ ap₂ _&&_ (same-filled 8 8 x (omega arith))
-      (same-part 16 51 T (C ++ Z) x (tag-part (entry-path (text-at tag-offset tag-width x)) refl .0) (omega arith)
-      ∙ ap (λ (b : Bool). same-text T (take 51 (drop 16 x)) && b)
-      (same-part 67 80 C Z x (length-padded content-width (text-at content-offset content-width x) (length-text-at content-offset content-width x (omega arith))) (omega arith)
-      ∙ ap₂ _&&_ (same-filled 67 80 x (omega arith)) last)))))
+      (same-part mode-offset 2 M (L ++ (N ++ (T ++ (C ++ Z)))) x (length-two-bytes (number-at mode-offset x)) (omega arith)
+      ∙ ap₂ _&&_ (number-part mode-offset (omega arith))
+      (same-part revision-offset 2 L (N ++ (T ++ (C ++ Z))) x (length-two-bytes (number-at revision-offset x)) (omega arith)
+      ∙ ap₂ _&&_ (number-part revision-offset (omega arith))
+      (same-part name-offset name-width N (T ++ (C ++ Z)) x (length-padded name-width (text-at name-offset name-width x) (length-text-at name-offset name-width x (omega arith))) (omega arith)
+      ∙ ap₂ _&&_ (same-filled name-offset name-width x (omega arith))
+      (same-part tag-offset whole-tag-width T (C ++ Z) x (tag-part (entry-path (text-at tag-offset tag-width x)) refl .0) (omega arith)
+      ∙ ap (λ (b : Bool). same-text T (take whole-tag-width (drop tag-offset x)) && b)
+      (same-part content-offset content-width C Z x (length-padded content-width (text-at content-offset content-width x) (length-text-at content-offset content-width x (omega arith))) (omega arith)
+      ∙ ap₂ _&&_ (same-filled content-offset content-width x (omega arith)) last)))))
 
   -- the tests of the fields are that of the row
   pub row-test-is : row-test x ≡ is-row x
@@ -221,9 +221,9 @@ module _ (x : List ℕ) (h : length x ≡ row-width) (small : (k : ℕ) → getD
       let a = (ltb (getD x 2 0) 24 && ltb (getD x 3 0) 25) && (is-mode (number-at mode-offset x) && leb (number-at revision-offset x) last-revision) in
       let f = is-filled name-offset name-width x in
       let t = is-tag T in
-      let s = same-text (tag-bytes T) (take 51 (drop 16 x)) in
+      let s = same-text (tag-bytes T) (take whole-tag-width (drop tag-offset x)) in
       let c = is-content (text-at content-offset content-width x) && fits-kind (kind-of (getD x 1 0)) (number-at mode-offset x) (text-at content-offset content-width x) in
-      let z = is-filled content-offset content-width x && zeros-at 147 80 x in
+      let z = is-filled content-offset content-width x && zeros-at base-offset base-width x in
       ap₂ (λ (t z : Bool). ((k && a) && f) && (t && (c && z))) (sym (tag-part (entry-path (text-at tag-offset tag-width x)) refl .1)) content-zeros
       ∙ shuffled k a f t s c z
       ∙ ap (λ (b : Bool). (a && (t && c)) && b) (sym same-row)

@@ -10,7 +10,7 @@ use Rattle.syntax.specs.Number.{is-mode}
 use Rattle.syntax.specs.Path.{Name, entry-path}
 use Rattle.syntax.specs.Field.{content-byte, is-content}
 use Rattle.syntax.specs.Form.{is-some}
-use Rattle.tree.specs.Layout.{mode-offset, revision-offset, name-offset, name-width, tag-offset, tag-width, tag-revision-offset, whole-tag-width, content-offset, content-width}
+use Rattle.tree.specs.Layout.{mode-offset, revision-offset, name-offset, name-width, tag-offset, tag-width, tag-revision-offset, whole-tag-width, content-offset, content-width, tail-width}
 use Rattle.tree.specs.WellFormed.{last-revision, fits-kind}
 use Rattle.tree.specs.Encoding.{kind-of}
 use Rattle.tree.specs.declared.Kind.{Kind}
@@ -31,7 +31,7 @@ has-tag x = cond (is-some (entry-path (text-at tag-offset tag-width x))) (is-fil
 unfoldable pub has-content : List ℕ → Bool
 has-content x =
     let c = text-at content-offset content-width x in
-    (is-content c && fits-kind (kind-of (getD x 1 0)) (number-at mode-offset x) c) && zeros-at (67 + length c) (160 - length c) x
+    (is-content c && fits-kind (kind-of (getD x 1 0)) (number-at mode-offset x) c) && zeros-at (content-offset + length c) (tail-width - length c) x
 
 -- so many bytes from a place each pass a test with the next
 unfoldable pub neighbours-pass : (ℕ → ℕ → Bool) → ℕ → ℕ → List ℕ → Bool

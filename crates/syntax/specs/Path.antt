@@ -150,3 +150,7 @@ path-text (p ▹ n) = names-text (p ▹ n)
 
 unfoldable pub entry-text : Entry-path → Text
 entry-text e = path-text (entry-location e)
+
+-- six names, the first of which is `rep`
+abbrev pub longest-entry-text : ℕ
+longest-entry-text = 49

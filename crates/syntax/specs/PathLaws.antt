@@ -16,7 +16,7 @@ use Rattle.syntax.specs.Pieces.{bytes, joined, pieces}
 use Rattle.syntax.specs.JoinedLaws.{pieces-before, pieces-joined}
 use Rattle.syntax.specs.Form.{_>>=_, _>>_, check}
 use Rattle.syntax.specs.FormLaws.{no-answer, both-read, checked, answered}
-use Rattle.syntax.specs.Path.{Name, Path, root, _▹_, Entry-path, parent, last, depth, is-top, rep, in-rep, entry-location, reserved, name-byte, is-name, most-names, has-names, is-path, is-entry-path, extended, names-from-top, path, without-rep, entry-at, entry-path, names-text, path-text, entry-text}
+use Rattle.syntax.specs.Path.{Name, Path, root, _▹_, Entry-path, parent, last, depth, is-top, rep, in-rep, entry-location, reserved, name-byte, is-name, most-names, has-names, is-path, is-entry-path, extended, names-from-top, path, without-rep, entry-at, entry-path, names-text, path-text, entry-text, longest-entry-text}
 use Rattle.syntax.specs.WithinLaws.{Lies, itself, deeper}
 
 -- the bytes of names are from 48 on
@@ -259,8 +259,8 @@ in-rep-length (p ▹ n) h =
     let i : _ = and-both (has-names (in-rep p)) (is-name n) h in
     rw (length-append (names-text (in-rep p)) (47 ∷ n)) (omega (arith, in-rep-length p (i .0), name-length n (i .1) .1))
 
--- and is at most 49 bytes, for its first name is `rep`
-pub entry-text-length : (e : Entry-path) → is-entry-path e ≡ true → length (entry-text e) ≤ 49
+-- and is at most so long, for its first name is `rep`
+pub entry-text-length : (e : Entry-path) → is-entry-path e ≡ true → length (entry-text e) ≤ longest-entry-text
 unfolding entry-text entry-location in-rep path-text is-entry-path is-path most-names
 entry-text-length e h =
     let p : Path = e .folder ▹ e .name in
@@ -268,7 +268,7 @@ entry-text-length e h =
     omega (arith, in-rep-length p (i .0), leb-true (depth (in-rep p)) 6 (i .1))
 
 -- so the text of an entry path fits a tag
-pub entry-text-fits : (e : Entry-path) → is-entry-path e ≡ true → (length (entry-text e) ≤ 49) × (lacks 0 (entry-text e) ≡ true)
+pub entry-text-fits : (e : Entry-path) → is-entry-path e ≡ true → (length (entry-text e) ≤ longest-entry-text) × (lacks 0 (entry-text e) ≡ true)
 unfolding entry-text is-entry-path
 entry-text-fits e h = (entry-text-length e h, path-text-fits (entry-location e) h .1)
 

@@ -4,10 +4,11 @@
 -- | depth, kind, owner, group | 0, 1, 2, 3 | 1 each |
 -- | mode, revision | 4, 6 | 2 each |
 -- | name | 8 | 8 |
--- | tag: path, revision | 16, 70 | 54, 2 |
--- | content | 72 | 80 |
--- | kept for a merge base | 152 | 80 |
+-- | tag: path, revision | 16, 65 | 49, 2 |
+-- | content | 67 | 80 |
+-- | kept for a merge base | 147 | 80 |
 use Prim.Native.Nat.{ℕ, _+_, _*_}
+use Rattle.syntax.specs.Path.{longest-entry-text}
 
 abbrev pub row-width : ℕ
 row-width = 227
@@ -32,9 +33,13 @@ half-rows = 128
 abbrev pub tree-width : ℕ
 tree-width = 58114
 
+-- all rows but the first
+abbrev pub later-rows-width : ℕ
+later-rows-width = 57885
+
 -- where the row at an index begins
 abbrev pub row-start : ℕ → ℕ
-row-start i = 2 + 227 * i
+row-start i = 2 + row-width * i
 
 abbrev pub kind-offset : ℕ
 kind-offset = 1
@@ -51,17 +56,26 @@ mode-offset = 4
 abbrev pub revision-offset : ℕ
 revision-offset = 6
 
+-- the fields before the name
+abbrev pub head-width : ℕ
+head-width = 8
+
 abbrev pub name-offset : ℕ
 name-offset = 8
 
 abbrev pub name-width : ℕ
 name-width = 8
 
+-- what stands behind the name: tag, content and merge base
+abbrev pub behind-name-width : ℕ
+behind-name-width = 211
+
 abbrev pub tag-offset : ℕ
 tag-offset = 16
 
+-- the longest entry path
 abbrev pub tag-width : ℕ
-tag-width = 49
+tag-width = longest-entry-text
 
 abbrev pub tag-revision-offset : ℕ
 tag-revision-offset = 65
@@ -76,5 +90,12 @@ content-offset = 67
 abbrev pub content-width : ℕ
 content-width = 80
 
+abbrev pub base-offset : ℕ
+base-offset = 147
+
 abbrev pub base-width : ℕ
 base-width = 80
+
+-- content and merge base
+abbrev pub tail-width : ℕ
+tail-width = 160

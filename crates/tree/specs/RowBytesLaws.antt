@@ -20,7 +20,7 @@ use Rattle.syntax.specs.Field.{is-content}
 use Rattle.syntax.specs.FieldLaws.{content-fits}
 use Rattle.tree.specs.declared.Kind.{Kind}
 use Rattle.tree.specs.declared.Kind.the-variants.{File, Directory}
-use Rattle.tree.specs.Layout.{row-width, mode-offset, revision-offset, name-offset, name-width, tag-offset, tag-width, tag-revision-offset, content-offset, content-width}
+use Rattle.tree.specs.Layout.{row-width, mode-offset, revision-offset, name-offset, name-width, tag-offset, tag-width, tag-revision-offset, content-offset, content-width, whole-tag-width, base-width}
 use Rattle.tree.specs.Node.{Tag, Node}
 use Rattle.tree.specs.Rows.{Row}
 use Rattle.tree.specs.WellFormed.{last-revision, is-tag, fits-kind, is-node}
@@ -50,7 +50,7 @@ unfolding tag-bytes tag-text tag-number padded two-bytes
 tag-parts none = refl
 tag-parts (some t) = refl
 
-tag-fits : (o : Option Tag) → is-tag o ≡ true → (length (tag-text o) ≤ 49) × (lacks 0 (tag-text o) ≡ true)
+tag-fits : (o : Option Tag) → is-tag o ≡ true → (length (tag-text o) ≤ tag-width) × (lacks 0 (tag-text o) ≡ true)
 unfolding is-tag tag-text lacks every
 tag-fits none h = (omega arith, refl)
 tag-fits (some t) h = entry-text-fits (t .path) (and-both (is-entry-path (t .path)) (leb (t .revision) last-revision) h .0)
@@ -70,7 +70,7 @@ regroup-tag : (h n t v q : List ℕ) → h ++ (n ++ ((t ++ v) ++ q)) ≡ (h ++ n
 regroup-tag h n t v q = simp append-assoc
 
 -- a tag takes 56 bytes
-pub length-tag-bytes : (o : Option Tag) → is-tag o ≡ true → length (tag-bytes o) ≡ 51
+pub length-tag-bytes : (o : Option Tag) → is-tag o ≡ true → length (tag-bytes o) ≡ whole-tag-width
 unfolding two-bytes
 length-tag-bytes o h =
     let l = length-padded tag-width (tag-text o) (tag-fits o h .0) in
@@ -78,20 +78,20 @@ length-tag-bytes o h =
 
 module _ (P Q : List ℕ) (i : ℕ) (o : Option Tag) (e : length P ≡ i) (h : is-tag o ≡ true) where
   -- its text and its number are read where they stand
-  tag-parts-at : (text-at i 49 (P ++ (tag-bytes o ++ Q)) ≡ tag-text o) × (number-at (i + 49) (P ++ (tag-bytes o ++ Q)) ≡ tag-number o)
+  tag-parts-at : (text-at i tag-width (P ++ (tag-bytes o ++ Q)) ≡ tag-text o) × (number-at (i + tag-width) (P ++ (tag-bytes o ++ Q)) ≡ tag-number o)
   tag-parts-at =
       let T = padded tag-width (tag-text o) in
       let N = two-bytes (tag-number o) in
       let w = tag-fits o h in
       let s : P ++ (tag-bytes o ++ Q) ≡ P ++ (T ++ (N ++ Q)) = ap (λ (l : List ℕ). P ++ (l ++ Q)) (tag-parts o) ∙ ap (λ (l : List ℕ). P ++ l) (append-assoc T N Q) in
-      let a : text-at i 49 (P ++ (T ++ (N ++ Q))) ≡ tag-text o = text-at-padded P (N ++ Q) i 49 (tag-text o) e (w .0) (w .1) in
-      let b : number-at (i + 49) (P ++ (T ++ (N ++ Q))) ≡ tag-number o =
+      let a : text-at i tag-width (P ++ (T ++ (N ++ Q))) ≡ tag-text o = text-at-padded P (N ++ Q) i tag-width (tag-text o) e (w .0) (w .1) in
+      let b : number-at (i + tag-width) (P ++ (T ++ (N ++ Q))) ≡ tag-number o =
       rw (← append-assoc P T (N ++ Q))
-      (number-at-bytes (P ++ T) Q (i + 49) (tag-number o) (length-append P T ∙ omega (arith, length-padded tag-width (tag-text o) (w .0)))) in
+      (number-at-bytes (P ++ T) Q (i + tag-width) (tag-number o) (length-append P T ∙ omega (arith, length-padded tag-width (tag-text o) (w .0)))) in
       (rw s a, rw s b)
 
   -- and so is the tag
-  tag-at-bytes : tag-of (text-at i 49 (P ++ (tag-bytes o ++ Q))) (number-at (i + 49) (P ++ (tag-bytes o ++ Q))) ≡ o
+  tag-at-bytes : tag-of (text-at i tag-width (P ++ (tag-bytes o ++ Q))) (number-at (i + tag-width) (P ++ (tag-bytes o ++ Q))) ≡ o
   tag-at-bytes = let v = tag-parts-at in rw (v .0, v .1) (tag-of-parts o h)
 
 tag-told : (o : Option Tag) → Tag-told o (tag-text o) (tag-number o)
@@ -109,7 +109,7 @@ untagged-text r l e =
     row-parts r ∙ ap (λ (o : Option Tag). row-head r ++ (N ++ (tag-bytes o ++ Q))) e ∙ ap (λ (x : List ℕ). row-head r ++ (N ++ (x ++ Q))) (tag-parts none)
     ∙ regroup-tag (row-head r) N (padded tag-width []) (two-bytes 0) Q in
     ap (text-at tag-offset tag-width) parts
-    ∙ text-at-padded (row-head r ++ N) (two-bytes 0 ++ Q) 16 49 [] (length-append (row-head r) N ∙ omega (arith, length-row-head r, length-padded name-width (r .name) l)) (omega arith) refl
+    ∙ text-at-padded (row-head r ++ N) (two-bytes 0 ++ Q) tag-offset tag-width [] (length-append (row-head r) N ∙ omega (arith, length-row-head r, length-padded name-width (r .name) l)) (omega arith) refl
 
 -- a kind is read from its byte
 kind-of-byte : (k : Kind) → kind-of (kind-byte k) ≡ k
@@ -128,7 +128,7 @@ node-parts n h =
     (j .0, and-both (is-content (n .content)) k (j .1) .0)
 
 module _ (r : Row Node) (h : is-node (r .here) ≡ true) (w : (length (r .name) ≤ 8) × (lacks 0 (r .name) ≡ true)) where
-  -- a row takes 227 bytes
+  -- a row takes its width
   pub length-row-bytes : length (row-bytes r) ≡ row-width
   unfolding row-bytes two-bytes
   length-row-bytes =
@@ -137,7 +137,7 @@ module _ (r : Row Node) (h : is-node (r .here) ≡ true) (w : (length (r .name) 
       let N = padded name-width (r .name) in
       let T = tag-bytes (n .tag) in
       let C = padded content-width (n .content) in
-      let Z : List ℕ = replicate 80 0 in
+      let Z : List ℕ = replicate base-width 0 in
       let a = length-append N (T ++ (C ++ Z)) in
       let b = length-append T (C ++ Z) in
       let c = length-append C Z in
@@ -153,7 +153,7 @@ module _ (r : Row Node) (h : is-node (r .here) ≡ true) (w : (length (r .name) 
       let n = r .here in
       let N = padded name-width (r .name) in
       let C = padded content-width (n .content) in
-      let Z : List ℕ = replicate 80 0 in
+      let Z : List ℕ = replicate base-width 0 in
       let H : List ℕ = (r .depth ∷ kind-byte (n .kind) ∷ n .owner .0 ∷ n .group .0 ∷ []) ++ (two-bytes (n .mode) ++ two-bytes (n .revision)) in
       let l = length-padded name-width (r .name) (w .0) in
       let v = tag-parts-at (H ++ N) (C ++ Z) 16 (n .tag) (length-append H N ∙ omega arith) (node-parts n h .0) in
@@ -172,7 +172,7 @@ module _ (r : Row Node) (h : is-node (r .here) ≡ true) (w : (length (r .name) 
       let N = padded name-width (r .name) in
       let T = tag-bytes (n .tag) in
       let C = padded content-width (n .content) in
-      let Z : List ℕ = replicate 80 0 in
+      let Z : List ℕ = replicate base-width 0 in
       let H : List ℕ = D ++ (M ++ L) in
       let mode : number-at mode-offset (row-bytes r) ≡ n .mode = number-at-bytes D (L ++ (N ++ (T ++ (C ++ Z)))) 4 (n .mode) refl in
       let revision : number-at revision-offset (row-bytes r) ≡ n .revision = number-at-bytes (D ++ M) (N ++ (T ++ (C ++ Z))) 6 (n .revision) refl in
@@ -183,7 +183,7 @@ module _ (r : Row Node) (h : is-node (r .here) ≡ true) (w : (length (r .name) 
       let m = length-tag-bytes (n .tag) (i .0) in
       let content : text-at content-offset content-width (row-bytes r) ≡ n .content =
       ap (λ (rest : List ℕ). text-at content-offset content-width (H ++ rest)) (sym (append-assoc N T (C ++ Z)))
-      ∙ text-at-padded (H ++ (N ++ T)) Z 67 80 (n .content) (length-append H (N ++ T) ∙ omega (arith, length-append N T)) (f .0) (f .1) in
+      ∙ text-at-padded (H ++ (N ++ T)) Z content-offset content-width (n .content) (length-append H (N ++ T) ∙ omega (arith, length-append N T)) (f .0) (f .1) in
       λ j. record {
         depth = r .depth;
         name = name j;

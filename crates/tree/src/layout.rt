@@ -5,14 +5,11 @@
 // | depth, kind, owner, group | 0, 1, 2, 3 | 1 each |
 // | mode, revision | 4, 6 | 2 each |
 // | name | 8 | 8 |
-// | tag: path, revision | 16, 70 | 54, 2 |
-// | content | 72 | 80 |
-// | kept for a merge base | 152 | 80 |
+// | tag: path, revision | 16, 65 | 49, 2 |
+// | content | 67 | 80 |
+// | kept for a merge base | 147 | 80 |
 //
 // The specification's offsets are in specs/Layout.antt; a proof fails where the two differ.
-
-// All bytes of a tree.
-pub const TREE: usize = 58114;
 
 // Where the first row begins, behind the number of rows.
 pub const FIRST: usize = 2;
@@ -22,6 +19,9 @@ pub const ROW: usize = 227;
 
 // How many rows there is room for.
 pub const MOST_ROWS: usize = 256;
+
+// All bytes of a tree.
+pub const TREE: usize = FIRST + ROW * MOST_ROWS;
 
 // Arrays that hold rows on the way have room for so many, or for all of a tree. There are several because to clear one that is much
 // larger than the rows takes longer than to move or to copy them.
@@ -53,7 +53,7 @@ pub const TAG_REVISION: usize = 65;
 pub const CONTENT: usize = 67;
 
 // The bytes of a row behind its name.
-pub const BEHIND_NAME: usize = 211;
+pub const BEHIND_NAME: usize = ROW - TAG;
 
 // The widths of its texts.
 pub const NAME_WIDTH: usize = 8;

@@ -7,7 +7,7 @@ use lib.ListN.{replicate}
 use lib.Seq.{paste}
 use denote.Ref.{now}
 use Rattle.buffers.specs.Fields.{padded}
-use Rattle.tree.specs.Layout.{name-width}
+use Rattle.tree.specs.Layout.{name-width, name-offset, behind-name-width, tag-offset}
 use Rattle.edits.specs.WrittenLaws.{row-written}
 use borrow.Author.Needs.{needs}
 use Rattle.edits.proofs.rows.write_row.Statement.{statement}
@@ -38,8 +38,8 @@ returns c =
     let h = p .before .before .before .before in
     let a = c .before .before .before .before .before .before .before .before .before .before .before .before .before .before .args in
     z .clear .ensures
-    ∙ ap (λ (l : List ℕ). paste l (a .at + 16) (replicate 211 0) 211) (p .write-padded .ensures)
-    ∙ ap (λ (l : List ℕ). paste (paste l (a .at + 8) (padded name-width (now (a .name))) 8) (a .at + 16) (replicate 211 0) 211) (h .write-head .ensures)
+    ∙ ap (λ (l : List ℕ). paste l (a .at + tag-offset) (replicate behind-name-width 0) behind-name-width) (p .write-padded .ensures)
+    ∙ ap (λ (l : List ℕ). paste (paste l (a .at + name-offset) (padded name-width (now (a .name))) name-width) (a .at + tag-offset) (replicate behind-name-width 0) behind-name-width) (h .write-head .ensures)
     ∙ row-written (a .depth) (now (a .name)) (a .node) (now (a .tree)) (a .at) (omega arith) (omega arith)
 
 pub write-row-spec : {M : Type 1} → statement M

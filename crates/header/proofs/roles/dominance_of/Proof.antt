@@ -1,7 +1,7 @@
 -- `header::roles::dominance_of` meets its contract: the bytes behind the pairs' number say the setup's pairs.
 use mathlib.Core.Path.{_≡_, sym, ap, _∙_}
 use mathlib.Core.List.{List}
-use Prim.Native.Nat.{ℕ, _-_}
+use Prim.Native.Nat.{ℕ, _+_, _-_}
 use native.Mathlib.Omega.{arith}
 use lib.ListN.{length, getD, take, drop, length-drop}
 use lib.Seq.{take-all}
@@ -16,8 +16,8 @@ use Rattle.header.proofs.roles.dominance_of.Statement.{statement}
 use Rattle.header.proofs.roles.dominance_of.Tie as tie
 
 -- the bytes lent are all that stand there
-behind-number : (b : List ℕ) → take (length b - 65) (drop 65 b) ≡ drop 65 b
-behind-number b = take-all (length b - 65) (drop 65 b) (omega (arith, length-drop 65 b))
+behind-number : (b : List ℕ) → take (length b - (pairs-offset + 1)) (drop (pairs-offset + 1) b) ≡ drop (pairs-offset + 1) b
+behind-number b = take-all (length b - (pairs-offset + 1)) (drop (pairs-offset + 1) b) (omega (arith, length-drop (pairs-offset + 1) b))
 
 shared-slice-read-n : tie.Need-shared-slice-read-n
 shared-slice-read-n c = omega (arith, headed-wide (c .before .before .pre))
@@ -42,7 +42,7 @@ closed-bytes-requires c κs =
     let s = c .before .before .before in
     let b = now (s .args .header) in
     let few = few-paired (s .pre) in
-    (few, (rw (behind-number b) (omega (arith, few, headed-wide (s .pre), length-drop 65 b)), rw (behind-number b) (pairs-in-fall (s .pre))))
+    (few, (rw (behind-number b) (omega (arith, few, headed-wide (s .pre), length-drop (pairs-offset + 1) b)), rw (behind-number b) (pairs-in-fall (s .pre))))
 
 returns : tie.Need-returns
 returns c u z h =

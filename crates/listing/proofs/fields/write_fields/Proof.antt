@@ -12,6 +12,7 @@ use Rattle.listing.specs.RowListingLaws.{writes-as, writes-both, writes-
 use borrow.Author.Needs.{needs}
 use Rattle.listing.proofs.fields.write_fields.Statement.{statement}
 use Rattle.listing.proofs.fields.write_fields.Tie as tie
+use Rattle.tree.specs.Layout.{content-width}
 
 write-kind-requires : tie.Need-write-kind-requires
 write-kind-requires c κs = search needs
@@ -53,7 +54,7 @@ returns c =
     let third = writes-both second (tag .write-tag .ensures) (omega arith) in
     writes-both third
     (writes-as (ap (λ (t : Text). 44 ∷ t) content)
-    (writes-behind {k = 80} (c .before .before .write-behind .ensures) (omega (arith, row-content-fits (now (a .tree)) (a .i)))))
+    (writes-behind {k = content-width} (c .before .before .write-behind .ensures) (omega (arith, row-content-fits (now (a .tree)) (a .i)))))
     (omega arith)
 
 pub write-fields-spec : {M : Type 1} → statement M

@@ -1,4 +1,4 @@
--- `edits::fields::copy_content` meets its contract: 80 bytes of one row moved to another.
+-- `edits::fields::copy_content` meets its contract: the content of one row moved to another.
 use mathlib.Core.Path.{_∙_}
 use native.Mathlib.Omega.{arith}
 use denote.Ref.{now}

@@ -4,7 +4,7 @@ use native.Mathlib.Omega.{arith}
 use denote.Ref.{now}
 use Rattle.buffers.specs.Fields.{padded}
 use Rattle.buffers.specs.FieldsLaws.{length-padded}
-use Rattle.tree.specs.Layout.{content-width}
+use Rattle.tree.specs.Layout.{content-width, content-offset}
 use Rattle.node_fields.specs.FieldsWrittenLaws.{piece-put}
 use borrow.Author.Needs.{needs}
 use Rattle.node_fields.proofs.fields.set_content.Statement.{statement}
@@ -29,7 +29,7 @@ returns : tie.Need-returns
 returns c =
     let a = c .before .before .before .before .before .before .args in
     let s = now (a .content) in
-    c .before .before .write-padded .ensures ∙ piece-put (now (a .tree)) (a .i) 67 (padded content-width s) 80 (length-padded content-width s (omega arith))
+    c .before .before .write-padded .ensures ∙ piece-put (now (a .tree)) (a .i) content-offset (padded content-width s) content-width (length-padded content-width s (omega arith))
 
 pub set-content-spec : {M : Type 1} → statement M
 set-content-spec =

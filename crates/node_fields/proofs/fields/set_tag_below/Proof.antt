@@ -7,7 +7,7 @@ use lib.ListN.{length, set, drop, length-set}
 use lib.Seq.{paste}
 use denote.Ref.{now}
 use Rattle.buffers.specs.Fields.{two-bytes}
-use Rattle.tree.specs.Layout.{row-start}
+use Rattle.tree.specs.Layout.{row-start, tag-offset, tag-revision-offset}
 use Rattle.tree.specs.RowAt.{tag-text-at}
 use Rattle.node_fields.specs.FieldsWrittenLaws.{tag-below-put}
 use borrow.Author.Needs.{needs}
@@ -93,9 +93,9 @@ returns c =
     let name = now (a .name) in
     let q : n ≡ length (tag-text-at (now (a .tree)) (a .above)) = ap length (g .tag-path-at .ensures) in
     w .write-number .ensures
-    ∙ ap (λ (l : List ℕ). paste l (at + 65) (two-bytes (a .revision)) 2) (p .write .ensures)
-    ∙ ap (λ (l : List ℕ). paste (paste (set l (at + 16 + n) 47) (at + 17 + n) name (length name)) (at + 65) (two-bytes (a .revision)) 2) (m .move-bytes .ensures)
-    ∙ ap (λ (l : List ℕ). paste (paste (set (paste l (at + 16) (drop from l) n) (at + 16 + n) 47) (at + 17 + n) name (length name)) (at + 65) (two-bytes (a .revision)) 2) (z .clear .ensures)
+    ∙ ap (λ (l : List ℕ). paste l (at + tag-revision-offset) (two-bytes (a .revision)) 2) (p .write .ensures)
+    ∙ ap (λ (l : List ℕ). paste (paste (set l (at + tag-offset + n) 47) (at + 17 + n) name (length name)) (at + tag-revision-offset) (two-bytes (a .revision)) 2) (m .move-bytes .ensures)
+    ∙ ap (λ (l : List ℕ). paste (paste (set (paste l (at + tag-offset) (drop from l) n) (at + tag-offset + n) 47) (at + 17 + n) name (length name)) (at + tag-revision-offset) (two-bytes (a .revision)) 2) (z .clear .ensures)
     ∙ tag-below-put (now (a .tree)) name (a .i) (a .above) n (a .revision) (s .pre .0 .room) (s .pre .1 .0) q (omega (arith, s .pre .1 .1))
 
 pub set-tag-below-spec : {M : Type 1} → statement M

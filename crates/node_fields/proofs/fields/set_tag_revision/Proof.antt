@@ -5,6 +5,7 @@ use borrow.Author.Needs.{needs}
 use Rattle.node_fields.specs.FieldsWrittenLaws.{number-put}
 use Rattle.node_fields.proofs.fields.set_tag_revision.Statement.{statement}
 use Rattle.node_fields.proofs.fields.set_tag_revision.Tie as tie
+use Rattle.tree.specs.Layout.{tag-revision-offset}
 
 mul-write-number : tie.Need-mul-write-number
 mul-write-number c = search needs
@@ -24,7 +25,7 @@ same-length c = search needs
 returns : tie.Need-returns
 returns c =
     let a = c .before .before .before .before .before .args in
-    c .before .before .write-number .ensures ∙ number-put (now (a .tree)) (a .i) 65 (a .revision)
+    c .before .before .write-number .ensures ∙ number-put (now (a .tree)) (a .i) tag-revision-offset (a .revision)
 
 pub set-tag-revision-spec : {M : Type 1} → statement M
 set-tag-revision-spec =

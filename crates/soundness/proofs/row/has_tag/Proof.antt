@@ -14,6 +14,7 @@ use Rattle.soundness.specs.FieldTestLaws.{text-within, tag-none, tag-unf
 use borrow.Author.Needs.{needs}
 use Rattle.soundness.proofs.row.has_tag.Statement.{statement}
 use Rattle.soundness.proofs.row.has_tag.Tie as tie
+use Rattle.tree.specs.Layout.{tag-offset, tag-width}
 
 mul-at : tie.Need-mul-at
 mul-at c = search needs
@@ -55,7 +56,7 @@ is-zero-requires-2 : tie.Need-is-zero-requires-2
 unfolding tag-text-at
 is-zero-requires-2 c κs =
     let a = c .before .before .before .before .args in
-    let f = text-within (now (a .tree)) (a .i) (omega arith) 16 49 (omega arith) in
+    let f = text-within (now (a .tree)) (a .i) (omega arith) tag-offset tag-width (omega arith) in
     let e = ap length (c .before .before .tag-path-at .ensures) in
     (omega arith, omega arith)
 

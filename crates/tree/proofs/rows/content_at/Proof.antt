@@ -8,6 +8,7 @@ use Rattle.tree.specs.RowAtLaws.{text-in-row}
 use borrow.Author.Needs.{needs}
 use Rattle.tree.proofs.rows.content_at.Statement.{statement}
 use Rattle.tree.proofs.rows.content_at.Tie as tie
+use Rattle.tree.specs.Layout.{content-offset, content-width}
 
 mul-text : tie.Need-mul-text
 mul-text c = search needs
@@ -23,7 +24,7 @@ text-requires c κs = search needs
 
 returns : tie.Need-returns
 unfolding row-at read-row
-returns c = c .text .ensures ∙ sym (text-in-row (now (c .before .before .args .tree)) (c .before .before .args .i) 67 80 (omega arith))
+returns c = c .text .ensures ∙ sym (text-in-row (now (c .before .before .args .tree)) (c .before .before .args .i) content-offset content-width (omega arith))
 
 pub content-at-spec : {M : Type 1} → statement M
 content-at-spec = tie.close (tie.spec mul-text add-text add-text-2 text-requires returns)

@@ -7,6 +7,7 @@ use Rattle.tree.specs.RowAtLaws.{text-in-row}
 use borrow.Author.Needs.{needs}
 use Rattle.tree.proofs.rows.tag_path_at.Statement.{statement}
 use Rattle.tree.proofs.rows.tag_path_at.Tie as tie
+use Rattle.tree.specs.Layout.{tag-offset, tag-width}
 
 mul-text : tie.Need-mul-text
 mul-text c = search needs
@@ -22,7 +23,7 @@ text-requires c κs = search needs
 
 returns : tie.Need-returns
 unfolding tag-text-at
-returns c = c .text .ensures ∙ sym (text-in-row (now (c .before .before .args .tree)) (c .before .before .args .i) 16 49 (omega arith))
+returns c = c .text .ensures ∙ sym (text-in-row (now (c .before .before .args .tree)) (c .before .before .args .i) tag-offset tag-width (omega arith))
 
 pub tag-path-at-spec : {M : Type 1} → statement M
 tag-path-at-spec = tie.close (tie.spec mul-text add-text add-text-2 text-requires returns)

@@ -7,6 +7,7 @@ use Rattle.tree.specs.RowAtLaws.{number-in-row}
 use borrow.Author.Needs.{needs}
 use Rattle.tree.proofs.rows.tag_revision_at.Statement.{statement}
 use Rattle.tree.proofs.rows.tag_revision_at.Tie as tie
+use Rattle.tree.specs.Layout.{tag-revision-offset}
 
 mul-number : tie.Need-mul-number
 mul-number c = search needs
@@ -22,7 +23,7 @@ number-requires c κs = search needs
 
 returns : tie.Need-returns
 unfolding tag-number-at
-returns c = c .number .ensures ∙ sym (number-in-row (now (c .before .before .args .tree)) (c .before .before .args .i) 65 (omega arith))
+returns c = c .number .ensures ∙ sym (number-in-row (now (c .before .before .args .tree)) (c .before .before .args .i) tag-revision-offset (omega arith))
 
 pub tag-revision-at-spec : {M : Type 1} → statement M
 tag-revision-at-spec =
