@@ -264,7 +264,7 @@ fn odd_states(bench: &mut Bench) {
 
 /// Right and wrong lengths, with good and with random bytes.
 fn lengths(bench: &mut Bench, stores: &[Vec<u8>]) {
-    for length in [0, 1, 6_142, 6_144, 65_535, STORE, 65_537, 131_072] {
+    for length in [0, 1, ROWS, TABLE, 65_535, STORE, 65_537, 131_072] {
         for from in stores {
             let mut store = from.clone();
             store.resize(length, 0);
