@@ -5,9 +5,10 @@ use mathlib.Core.List.{List, [], _∷_, _++_}
 use mathlib.Core.Bool.{Bool, true, false, cond, not}
 use Prim.Native.Nat.{ℕ, suc, _+_, _-_, _≤_, _<_}
 use lib.Dec.{eqb, ltb}
+use lib.IntN.{ℤ, pos, negsuc}
 use lib.ListN.{length, take}
-use Rattle.buffers.specs.Text.{Text}
-use Rattle.syntax.specs.Pieces.{newline}
+use Rattle.buffers.specs.Text.{Text, same-text}
+use Rattle.syntax.specs.Pieces.{bytes, newline}
 use Rattle.tree.specs.declared.Cause.the-variants.{Missing}
 use Rattle.tree.specs.Causes.{number}
 use Rattle.shell.specs.declared.Answer.the-variants.{WrongLine}
@@ -22,6 +23,10 @@ use Rattle.agenda.specs.declared.Call.{Call}
 use Rattle.agenda.specs.declared.Call.the-variants as call
 use Rattle.agenda.specs.declared.Next.{Next}
 use Rattle.agenda.specs.declared.Next.the-variants as next
+use Rattle.agenda.specs.declared.Step.{Step}
+use Rattle.agenda.specs.declared.Step.the-variants as step
+use Rattle.agenda.specs.declared.Asked.{Asked}
+use Rattle.agenda.specs.declared.Asked.the-variants as asked
 use Rattle.agenda.specs.InputLines.{next-line}
 
 -- a place lies in a window of so many bytes
@@ -151,3 +156,26 @@ report-text (call.List n) t answer = list-report t answer
 unfoldable pub goes-on : Call → Told → Bool
 goes-on (call.Run a e) t = true
 goes-on (call.List n) t = not (eqb (number Missing) (t .number))
+
+-- ---- what a turn comes to
+
+-- a number that `read` answered counts no more bytes than the window has room for behind those that are left
+abbrev pub Read-fits : Place → ℤ → Type 0
+Read-fits at (pos n) = (at .to - at .from) + n ≤ 65536
+Read-fits at (negsuc n) = Unit {0}
+
+-- a negative one is a failure, any other counts the bytes that were read
+unfoldable pub read-step : Place → ℤ → Step
+read-step at (pos n) = step.On (read-place at n)
+read-step at (negsuc n) = step.Failed
+
+-- a report that was not printed is a failure; behind one that was, the program goes on from a place if there is more to do
+unfoldable pub print-step : Bool → Bool → Place → Step
+print-step false more then = step.Failed
+print-step true more then = cond more (step.On then) step.Ended
+
+-- ---- what the program is asked for
+
+-- by how many arguments it was started with, its own name among them, and the first behind that
+unfoldable pub asked-by : ℕ → Text → Asked
+asked-by n first = cond (ltb n 2) asked.Run (cond (ltb 2 n) asked.Wrong (cond (same-text first (bytes "--help")) asked.Help asked.Wrong))

@@ -3,6 +3,7 @@ pub mod InputLinesLaws
 pub mod LongLineLaws
 pub mod Agenda
 pub mod AgendaLaws
+pub mod StepLaws
 pub mod Conversation
 pub mod Due
 pub mod ReadingOnLaws

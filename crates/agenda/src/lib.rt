@@ -1,15 +1,18 @@
 // What the program does next, by what it has read of its input and how far it is, and what it prints for each call.
 // `steps::next` keeps its path, since names that differ only in case, as `next` and `Next`, cannot stand in one module.
+mod asking;
 mod input;
 mod lines_ahead;
 mod reports;
 pub mod steps;
 
+pub use asking::asked_by;
 pub use lines_ahead::lines_from;
 pub use reports::goes_on;
 pub use reports::refuse;
 pub use reports::report;
-pub use steps::after_read;
+pub use steps::after_print;
+pub use steps::read_step;
 pub use steps::setup_from;
 
 // The next line of what has been read.
@@ -64,4 +67,24 @@ pub enum Next {
     Read,
     // All is done.
     Over,
+}
+
+// What a turn comes to.
+pub enum Step {
+    // There is more to do, from this place on.
+    On(Place),
+    // All is done.
+    Ended,
+    // A read or a print has failed.
+    Failed,
+}
+
+// What the program's arguments ask for.
+pub enum Asked {
+    // To run, as there are none.
+    Run,
+    // What it reads and prints.
+    Help,
+    // Nothing that it has.
+    Wrong,
 }

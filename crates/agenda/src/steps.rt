@@ -2,12 +2,13 @@
 ghost use mathlib.Core.Path.{_≡_};
 ghost use Prim.Native.Nat.{_+_, _-_, _≤_};
 ghost use lib.ListN.{length};
-ghost use Rattle.agenda.specs.Agenda.{Place-held, open-line, setup-next, list-next, next-of, setup-from, read-place};
+ghost use Rattle.agenda.specs.Agenda.{Place-held, Read-fits, open-line, setup-next, list-next, next-of, setup-from, read-place, read-step, print-step};
 use crate::Call;
 use crate::Next;
 use crate::NextLine;
 use crate::Phase;
 use crate::Place;
+use crate::Step;
 use crate::input::next_line;
 use crate::lines_ahead::line_next;
 use crate::lines_ahead::listed_from;
@@ -78,7 +79,7 @@ pub fn setup_from(at: Place, from: usize, kind: u8, lines: usize) -> Place
 }
 
 // The place when so many bytes have been read behind those that are left, which stand at the window's front.
-pub fn after_read(at: Place, got: usize) -> Place
+fn after_read(at: Place, got: usize) -> Place
     requires { ⌜ at .from ≤ at .to ⌝ }
     requires { ⌜ (at .to - at .from) + got ≤ 65536 ⌝ }
     ensures { λ r. ⌜ r ≡ read-place at got ⌝ }
@@ -91,4 +92,29 @@ pub fn after_read(at: Place, got: usize) -> Place
         passing: at.passing,
         phase,
     }
+}
+
+// What the number that `read` answered comes to.
+pub fn read_step(at: Place, got: isize) -> Step
+    requires { ⌜ at .from ≤ at .to ⌝ }
+    requires { ⌜ Read-fits at got ⌝ }
+    ensures { λ r. ⌜ r ≡ read-step at got ⌝ }
+{
+    if got < 0 {
+        return Step::Failed;
+    }
+    Step::On(after_read(at, got as usize))
+}
+
+// What a turn that prints comes to, by whether its report was printed and whether there is more to do behind it.
+pub fn after_print(printed: bool, more: bool, then: Place) -> Step
+    ensures { λ r. ⌜ r ≡ print-step printed more then ⌝ }
+{
+    if !printed {
+        return Step::Failed;
+    }
+    if more {
+        return Step::On(then);
+    }
+    Step::Ended
 }

@@ -1,32 +1,57 @@
--- What the program's functions ask of their buffers.
+-- The program's buffers, and what its functions ask of them.
 use mathlib.Core.Path.{_≡_}
 use mathlib.Core.List.{List}
-use Prim.Native.Nat.{ℕ, suc, _≤_, _<_}
+use Prim.Native.Nat.{ℕ, _≤_, _<_}
+use lib.IntN.{ℤ, pos}
 use lib.ListN.{length}
+use Rattle.buffers.specs.Text.{Text}
 use Rattle.setups.specs.LineRead.{Begun-store}
+use Rattle.printing.specs.Printed.{in-front}
+use Rattle.calls.specs.Calls.{Called}
 use Rattle.agenda.specs.declared.Phase.{Phase}
 use Rattle.agenda.specs.declared.Phase.the-variants.{Setup, Lines, Listing}
-use Rattle.agenda.specs.Agenda.{Place-held}
-use Rattle.patterns.specs.declared.Step.{Step}
-use Rattle.patterns.specs.declared.Step.the-variants.{On, Ended, Failed}
+use Rattle.agenda.specs.declared.Place.{Place}
+use Rattle.agenda.specs.declared.Call.{Call}
+use Rattle.agenda.specs.Agenda.{Place-held, report-text}
+use Rattle.agenda.specs.Conversation.{made}
 
--- the buffer that standard input is read into
-abbrev pub Wide-window : List ℕ → Type 0
-Wide-window b = length b ≡ 65536
+-- where reports go, and what is said of a failure
+abbrev pub standard-output : ℤ
+standard-output = pos 1
 
--- the store's
-abbrev pub Wide-store : List ℕ → Type 0
-Wide-store b = length b ≡ 65536
+abbrev pub standard-error : ℤ
+standard-error = pos 2
 
--- the buffer for the library's answers
-abbrev pub Answering : List ℕ → Type 0
-Answering answer = length answer ≡ 4096
+-- what standard input is read into, the store, the library's answers, and what is printed
+pub record Buffers : Type 0 where
+  pub window : List ℕ
+  pub store : List ℕ
+  pub answer : List ℕ
+  pub out : List ℕ
 
--- the place that a turn leaves lies in a window of so many bytes
-abbrev pub Stays : Step → ℕ → Type 0
-Stays (On at) n = Place-held at n
-Stays Ended n = Unit {0}
-Stays Failed n = Unit {0}
+abbrev pub lent : List ℕ → List ℕ → List ℕ → List ℕ → Buffers
+lent w b a o = record { window = w; store = b; answer = a; out = o }
+
+-- ---- changed
+
+abbrev pub with-window : Buffers → List ℕ → Buffers
+with-window s w = lent w (s .store) (s .answer) (s .out)
+
+abbrev pub with-store : Buffers → List ℕ → Buffers
+with-store s b = lent (s .window) b (s .answer) (s .out)
+
+-- a report stands in front of the fourth, to be printed
+abbrev pub with-report : Buffers → Text → Buffers
+with-report s x = lent (s .window) (s .store) (s .answer) (in-front x (s .out))
+
+-- what a call of the library comes to, and the buffers when its report has been made
+abbrev pub called : Buffers → Call → Called
+called s c = made (s .window) (s .store) (s .answer) c
+
+abbrev pub with-call : Buffers → Call → Buffers
+with-call s c = let m = called s c in with-report (lent (s .window) (m .store) (m .answer) (s .out)) (report-text c (m .tells) (m .answer))
+
+-- ---- what is asked of them
 
 -- in the setup the store holds what has been read of it
 abbrev pub Ready : Phase → List ℕ → Type 0
@@ -43,8 +68,24 @@ lines-at (Listing n) = 0
 abbrev pub Countable : Phase → Type 0
 Countable p = lines-at p < 18446744073709551615
 
--- the place that a turn leaves is ready too, and at most one line further
-abbrev pub Stays-ready : Step → Phase → List ℕ → Type 0
-Stays-ready (On at) p b = Ready (at .phase) b × (lines-at (at .phase) ≤ suc (lines-at p))
-Stays-ready Ended p b = Unit {0}
-Stays-ready Failed p b = Unit {0}
+-- the buffers for the library's answers and for reports
+abbrev pub Answering : List ℕ → Type 0
+Answering a = length a ≡ 4096
+
+abbrev pub Reporting : List ℕ → Type 0
+Reporting o = length o ≡ 4128
+
+-- where a turn begins
+pub record Held (at : Place) (s : Buffers) : Type 0 where
+  pub placed : Place-held at (length (s .window))
+  pub answering : Answering (s .answer)
+  pub reporting : Reporting (s .out)
+  pub ready : Ready (at .phase) (s .store)
+  pub countable : Countable (at .phase)
+
+-- and the first
+pub record Wide (s : Buffers) : Type 0 where
+  pub windowed : length (s .window) ≡ 65536
+  pub stored : length (s .store) ≡ 65536
+  pub answering : Answering (s .answer)
+  pub reporting : Reporting (s .out)

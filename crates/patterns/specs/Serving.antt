@@ -11,7 +11,7 @@ use Rattle.agenda.specs.declared.Place.{Place}
 use Rattle.agenda.specs.declared.Next.{Next}
 use Rattle.agenda.specs.declared.Next.the-variants as next
 use Rattle.agenda.specs.Agenda.{next-of, refusal, report-text}
-use Rattle.agenda.specs.Conversation.{made}
+use Rattle.patterns.specs.Buffers.{Buffers, called}
 use Rattle.patterns.specs.Turns.{Serves, spent, ended, failed, goes}
 
 -- what is printed for a setup line, behind so many
@@ -21,20 +21,20 @@ line-report lines ends-it = []
 line-report lines is-wrong = refusal (suc lines)
 
 -- what a turn prints
-unfoldable pub turn-report : Place → List ℕ → List ℕ → List ℕ → Next → Text
-turn-report at w b a (next.Call c then) = let m = made w b a c in report-text c (m .tells) (m .answer)
-turn-report at w b a (next.On then) = []
-turn-report at w b a next.Read = []
-turn-report at w b a next.Over = []
-turn-report at w b a (next.Line e kind lines) = line-report lines (setup-step (part w (at .from) e) (reading-in kind b))
-turn-report at w b a (next.Wrong lines) = refusal (suc lines)
+unfoldable pub turn-report : Place → Buffers → Next → Text
+turn-report at s (next.Call c then) = let m = called s c in report-text c (m .tells) (m .answer)
+turn-report at s (next.On then) = []
+turn-report at s next.Read = []
+turn-report at s next.Over = []
+turn-report at s (next.Line e kind lines) = line-report lines (setup-step (part (s .window) (at .from) e) (reading-in kind (s .store)))
+turn-report at s (next.Wrong lines) = refusal (suc lines)
 
 -- what all turns print
-unfoldable pub reports : {n : ℕ} {at : Place} {w b a w′ b′ a′ : List ℕ} → Serves n at w b a w′ b′ a′ → Text
+unfoldable pub reports : {n : ℕ} {at : Place} {s s′ : Buffers} → Serves n at s s′ → Text
 reports spent = []
-reports {at = at} {w = w} {b = b} {a = a} (ended t) = turn-report at w b a (next-of w at)
-reports {at = at} {w = w} {b = b} {a = a} (failed t) = turn-report at w b a (next-of w at)
-reports {at = at} {w = w} {b = b} {a = a} (goes t x) = turn-report at w b a (next-of w at) ++ reports x
+reports {at = at} {s = s} (ended t) = turn-report at s (next-of (s .window) at)
+reports {at = at} {s = s} (failed t) = turn-report at s (next-of (s .window) at)
+reports {at = at} {s = s} (goes t x) = turn-report at s (next-of (s .window) at) ++ reports x
 
 -- what a turn takes of the input u that is ahead, where u₁ is left: a read the bytes that it leaves in the window, none only at the input's end
 pub record Took (at then : Place) (w₁ : List ℕ) (u u₁ : Text) : Type 0 where
@@ -50,8 +50,8 @@ Takes (next.Line e kind lines) at then w₁ u u₁ = u₁ ≡ u
 Takes (next.Wrong lines) at then w₁ u u₁ = u₁ ≡ u
 
 -- a run that came to its end, in which the reads gave the input u
-unfoldable pub Fed : {n : ℕ} {at : Place} {w b a w′ b′ a′ : List ℕ} → Serves n at w b a w′ b′ a′ → Text → Type 0
+unfoldable pub Fed : {n : ℕ} {at : Place} {s s′ : Buffers} → Serves n at s s′ → Text → Type 0
 Fed spent u = ⊥
 Fed (ended t) u = Unit {0}
 Fed (failed t) u = ⊥
-Fed {at = at} {w = w} (goes {then = then} {w₁ = w₁} t x) u = (u₁ : Text) × Takes (next-of w at) at then w₁ u u₁ × Fed x u₁
+Fed {at = at} {s = s} (goes {then = then} {s₁ = s₁} t x) u = (u₁ : Text) × Takes (next-of (s .window) at) at then (s₁ .window) u u₁ × Fed x u₁

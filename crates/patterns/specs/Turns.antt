@@ -1,87 +1,76 @@
--- What a turn of the program does with its place and its buffers, and its turns one after another: all but what is printed, and which bytes a
--- read gives.
+-- What a turn of the program does with its place and its buffers, and its turns one after another. Free are what `read` answers and leaves,
+-- and whether `write` prints what it is handed: each is named where it stands.
 use mathlib.Core.Path.{_≡_}
-use mathlib.Core.List.{List}
-use mathlib.Core.Bool.{Bool, true, false}
-use Prim.Native.Nat.{ℕ, zero, suc, _-_}
-use lib.ListN.{length, take}
+use mathlib.Core.List.{List, _++_}
+use mathlib.Core.Bool.{Bool, false}
+use Prim.Native.Nat.{ℕ, zero, suc}
+use lib.IntN.{ℤ}
+use lib.ListN.{length}
 use Rattle.syntax.specs.Parts.{part}
 use Rattle.setup.specs.SetupStep.{setup-step}
 use Rattle.setups.specs.declared.LineRead.{LineRead}
 use Rattle.setups.specs.declared.LineRead.the-variants as read
 use Rattle.setups.specs.LineRead.{Line-done, reading-in, line-call}
-use Rattle.calls.specs.Calls.{Called}
 use Rattle.agenda.specs.declared.Place.{Place}
 use Rattle.agenda.specs.declared.Call.{Call}
 use Rattle.agenda.specs.declared.Next.{Next}
 use Rattle.agenda.specs.declared.Next.the-variants as next
-use Rattle.agenda.specs.Agenda.{Place-held, lines-from, setup-from, read-place, next-of, goes-on}
-use Rattle.agenda.specs.Conversation.{made}
-use Rattle.patterns.specs.declared.Step.{Step}
-use Rattle.patterns.specs.declared.Step.the-variants.{On, Ended, Failed}
+use Rattle.agenda.specs.declared.Step.{Step}
+use Rattle.agenda.specs.declared.Step.the-variants.{On, Ended, Failed}
+use Rattle.agenda.specs.Agenda.{Read-fits, lines-from, setup-from, next-of, goes-on, refusal, read-step, print-step}
+use Rattle.patterns.specs.Buffers.{Buffers, with-window, with-store, with-report, called, with-call}
 
--- after a read: the place counts the bytes that it gave, and those that were left stand at the window's front
-pub record Read-behind (then at : Place) (w w′ : List ℕ) : Type 0 where
-  pub got : ℕ
-  pub place : then ≡ read-place at got
-  pub front : take (at .to - at .from) w′ ≡ part w (at .from) (at .to)
-  pub held : Place-held then (length w′)
+-- a read: those bytes that were left stand at the window's front
+pub record Reads (r : Step) (at : Place) (w w′ : List ℕ) : Type 0 where
+  -- what `read` answered, and what it left behind them
+  pub got : ℤ
+  pub behind : List ℕ
+  pub leads : r ≡ read-step at got
+  pub fits : Read-fits at got
+  pub holds : w′ ≡ part w (at .from) (at .to) ++ behind
+  pub long : length w′ ≡ length w
 
-abbrev pub Reads : Step → Place → List ℕ → List ℕ → Type 0
-Reads (On then) at w w′ = Read-behind then at w w′
-Reads Ended at w w′ = ⊥
-Reads Failed at w w′ = take (at .to - at .from) w′ ≡ part w (at .from) (at .to)
+-- a print: on from a place, where there is more to do
+pub record Prints (r : Step) (more : Bool) (then : Place) : Type 0 where
+  -- whether `write` printed all that it was handed
+  pub printed : Bool
+  pub leads : r ≡ print-step printed more then
 
--- where its report was printed it goes on from this place if it may, and else ends
-abbrev pub Goes : Step → Place → Bool → Type 0
-Goes (On at) then may = (at ≡ then) × (may ≡ true)
-Goes Ended then may = may ≡ false
-Goes Failed then may = Unit {0}
+-- a call: the buffers are as it leaves them, with its report
+abbrev pub Makes : Step → Call → Place → Buffers → Buffers → Type 0
+Makes r c then s s′ = Prints r (goes-on c (called s c .tells)) then × (s′ ≡ with-call s c)
 
--- after a call: the two buffers are as the call leaves them
-pub record Call-made (r : Step) (then : Place) (may : Bool) (m : Called) (b answer : List ℕ) : Type 0 where
-  pub stored : b ≡ m .store
-  pub answered : answer ≡ m .answer
-  pub goes : Goes r then may
+-- a wrong line of the setup, behind so many
+abbrev pub Refuses : Step → Place → ℕ → Buffers → Buffers → Type 0
+Refuses r at lines s s′ = Prints r false at × (s′ ≡ with-report s (refusal (suc lines)))
 
-abbrev pub Makes : Step → Call → Place → List ℕ → List ℕ → List ℕ → List ℕ → List ℕ → Type 0
-Makes r c then w b a b′ a′ = let m = made w b a c in Call-made r then (goes-on c (m .tells)) m b′ a′
+-- a setup line that ends at a byte: the store is as the line leaves it, and the place behind it
+abbrev pub Line-goes : Step → Place → ℕ → ℕ → LineRead → Buffers → Buffers → Type 0
+Line-goes r at e lines (read.More kind) s s′ = (r ≡ On (setup-from at (suc e) kind (suc lines))) × (s′ ≡ s)
+Line-goes r at e lines read.End s s′ = (r ≡ On (lines-from at (suc e))) × (s′ ≡ s)
+Line-goes r at e lines read.Wrong s s′ = Refuses r at lines s s′
 
--- it goes on from no place, whether or not its report was printed
-abbrev pub Ends : Step → Type 0
-Ends (On then) = ⊥
-Ends Ended = Unit {0}
-Ends Failed = Unit {0}
-
--- after a setup line: the store is as the line leaves it, and the place behind it
-abbrev pub Line-goes : Step → Place → ℕ → ℕ → LineRead → Type 0
-Line-goes r at e lines (read.More kind) = r ≡ On (setup-from at (suc e) kind (suc lines))
-Line-goes r at e lines read.End = r ≡ On (lines-from at (suc e))
-Line-goes r at e lines read.Wrong = Ends r
-
-pub record Line-made (r : Step) (at : Place) (e lines : ℕ) (m : Line-done) (b : List ℕ) : Type 0 where
-  pub stored : b ≡ m .header
-  pub goes : Line-goes r at e lines (m .answer)
+abbrev pub Line-made : Step → Place → ℕ → ℕ → Line-done → Buffers → Buffers → Type 0
+Line-made r at e lines m s s′ = Line-goes r at e lines (m .answer) (with-store s (m .header)) s′
 
 -- by what is to be done next
-abbrev pub Does : Next → Step → Place → List ℕ → List ℕ → List ℕ → List ℕ → List ℕ → List ℕ → Type 0
-Does (next.Call c then) r at w b a w′ b′ a′ = (w′ ≡ w) × Makes r c then w b a b′ a′
-Does (next.On then) r at w b a w′ b′ a′ = (r ≡ On then) × (w′ ≡ w) × (b′ ≡ b) × (a′ ≡ a)
-Does next.Read r at w b a w′ b′ a′ = Reads r at w w′ × (b′ ≡ b) × (a′ ≡ a)
-Does next.Over r at w b a w′ b′ a′ = (r ≡ Ended) × (w′ ≡ w) × (b′ ≡ b) × (a′ ≡ a)
-Does (next.Line e kind lines) r at w b a w′ b′ a′ = Line-made r at e lines (line-call b (setup-step (part w (at .from) e) (reading-in kind b))) b′ × (w′ ≡ w) × (a′ ≡ a)
-Does (next.Wrong lines) r at w b a w′ b′ a′ = Ends r × (w′ ≡ w) × (b′ ≡ b) × (a′ ≡ a)
+abbrev pub Does : Next → Step → Place → Buffers → Buffers → Type 0
+Does (next.Call c then) r at s s′ = Makes r c then s s′
+Does (next.On then) r at s s′ = (r ≡ On then) × (s′ ≡ s)
+Does next.Read r at s s′ = Reads r at (s .window) (s′ .window) × (s′ ≡ with-window s (s′ .window))
+Does next.Over r at s s′ = (r ≡ Ended) × (s′ ≡ s)
+Does (next.Line e kind lines) r at s s′ = Line-made r at e lines (line-call (s .store) (setup-step (part (s .window) (at .from) e) (reading-in kind (s .store)))) s s′
+Does (next.Wrong lines) r at s s′ = Refuses r at lines s s′
 
-abbrev pub Turns : Step → Place → List ℕ → List ℕ → List ℕ → List ℕ → List ℕ → List ℕ → Type 0
-Turns r at w b a w′ b′ a′ = Does (next-of w at) r at w b a w′ b′ a′
+abbrev pub Turns : Step → Place → Buffers → Buffers → Type 0
+Turns r at s s′ = Does (next-of (s .window) at) r at s s′
 
 -- the turns from a place on, one after another, at most so many: until one ends or fails
-pub data Serves : ℕ → Place → List ℕ → List ℕ → List ℕ → List ℕ → List ℕ → List ℕ → Type 0 where
-  spent : {at : Place} {w b a : List ℕ} → Serves zero at w b a w b a
-  ended : {n : ℕ} {at : Place} {w b a w′ b′ a′ : List ℕ} → Turns Ended at w b a w′ b′ a′ → Serves (suc n) at w b a w′ b′ a′
-  failed : {n : ℕ} {at : Place} {w b a w′ b′ a′ : List ℕ} → Turns Failed at w b a w′ b′ a′ → Serves (suc n) at w b a w′ b′ a′
-  goes : {n : ℕ} {at then : Place} {w b a w₁ b₁ a₁ w′ b′ a′ : List ℕ} → Turns (On then) at w b a w₁ b₁ a₁
-      → Serves n then w₁ b₁ a₁ w′ b′ a′ → Serves (suc n) at w b a w′ b′ a′
+pub data Serves : ℕ → Place → Buffers → Buffers → Type 0 where
+  spent : {at : Place} {s : Buffers} → Serves zero at s s
+  ended : {n : ℕ} {at : Place} {s s′ : Buffers} → Turns Ended at s s′ → Serves (suc n) at s s′
+  failed : {n : ℕ} {at : Place} {s s′ : Buffers} → Turns Failed at s s′ → Serves (suc n) at s s′
+  goes : {n : ℕ} {at then : Place} {s s₁ s′ : Buffers} → Turns (On then) at s s₁ → Serves n then s₁ s′ → Serves (suc n) at s s′
 
 -- more than any run uses
 abbrev pub most-turns : ℕ

@@ -5,7 +5,11 @@ use Prim.Native.Nat.{ℕ}
 use lib.ListN.{length, drop}
 use Rattle.buffers.specs.Text.{Text}
 
--- n is the text's length; of the bytes b it has taken the place of the first, and the others have stayed
+-- a text in the place of a buffer's first bytes; the others stay
+abbrev pub in-front : Text → List ℕ → List ℕ
+in-front x b = x ++ drop (length x) b
+
+-- n is the text's length, and the bytes b have become c
 pub record Printed (x : Text) (b c : List ℕ) (n : ℕ) : Type 0 where
   pub long : n ≡ length x
-  pub holds : c ≡ x ++ drop (length x) b
+  pub holds : c ≡ in-front x b

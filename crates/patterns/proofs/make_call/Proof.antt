@@ -1,89 +1,82 @@
--- `patterns::make_call` meets its contract: what is printed stands in the buffer, and the call alone changes store and answer.
-use mathlib.Core.Path.{_∙_, ap, refl, sym}
+-- `patterns::make_call` meets its contract: the call alone changes store and answer, and its report stands in the fourth buffer.
+use mathlib.Core.Path.{_≡_, refl, _∙_, ap}
+use mathlib.Core.Bool.{Bool}
 use mathlib.Core.List.{List}
 use Prim.Native.Nat.{ℕ}
-use native.Mathlib.Omega.{arith}
+use denote.Ref.{now}
 use Rattle.calls.specs.Calls.{Called}
-use Rattle.agenda.specs.Agenda.{goes-on}
+use Rattle.library.specs.CallBytes.{called-as}
+use Rattle.printing.specs.Printed.{in-front}
 use Rattle.printing.specs.PrintedLaws.{printed-fits, printed-text}
+use Rattle.agenda.specs.declared.Call.{Call}
+use Rattle.agenda.specs.declared.Place.{Place}
+use Rattle.agenda.specs.declared.Step.{Step}
+use Rattle.agenda.specs.Agenda.{report-text, goes-on, print-step}
+use Rattle.patterns.specs.Buffers.{Buffers, lent, called, with-report, with-call}
+use Rattle.patterns.specs.Turns.{Prints}
+use borrow.Author.Needs.{needs}
 use Rattle.patterns.proofs.make_call.Statement.{statement}
 use Rattle.patterns.proofs.make_call.Tie as tie
 
-abbrev stored-by : Called → List ℕ
-stored-by m = m .store
+-- where it goes on, from what the call came to
+prints-as : (c : Call) (then : Place) (printed more : Bool) (r : Step) (m m′ : Called) → m ≡ m′ → more ≡ goes-on c (m .tells) → r ≡ print-step printed more then
+    → Prints r (goes-on c (m′ .tells)) then
+prints-as c then printed more r m m′ e q l =
+    record { printed = printed; leads = l ∙ ap (λ (x : Bool). print-step printed x then) (q ∙ ap (λ (x : Called). goes-on c (x .tells)) e) }
 
-abbrev answered-by : Called → List ℕ
-answered-by m = m .answer
+-- the buffers, from what the call came to
+after-call : (s : Buffers) (c : Call) (m : Called) (o : List ℕ) → m ≡ called s c → o ≡ in-front (report-text c (m .tells) (m .answer)) (s .out)
+    → lent (s .window) (m .store) (m .answer) o ≡ with-call s c
+after-call s c m o e q =
+    ap (lent (s .window) (m .store) (m .answer)) q
+    ∙ ap (λ (x : Called). with-report (lent (s .window) (x .store) (x .answer) (s .out)) (report-text c (x .tells) (x .answer))) e
 
 answer-to-requires : tie.Need-answer-to-requires
-answer-to-requires c κs = c .before .before .before .before .before .pre .0
-
-slice-aggregate-report : tie.Need-slice-aggregate-report
-slice-aggregate-report c = refl
+answer-to-requires c κs = search needs
 
 report-requires : tie.Need-report-requires
-report-requires c κs = omega (arith, c .before .before .before .before .before .before .answer-to .kept .1 .1 .1 .0, c .before .before .before .before .before .before .before .before .before .before .before .before .pre .1 .1)
-
-slice-aggregate-print : tie.Need-slice-aggregate-print
-slice-aggregate-print c = sym (c .before .before .report .kept .1 .1 .1 .0)
+report-requires c κs = search needs
 
 print-requires : tie.Need-print-requires
-print-requires c κs = let p = c .before .before .before .report .ensures in (printed-fits p, printed-text p)
-
-same-length : tie.Need-same-length
-same-length c = c .before .before .before .before .before .before .before .before .before .before .before .before .answer-to .kept .0
-
-same-length-2 : tie.Need-same-length-2
-same-length-2 c = c .before .before .before .before .before .before .before .before .before .before .before .before .answer-to .kept .1 .1 .1 .0
-
-returns : tie.Need-returns
-returns c = let e = c .before .before .before .before .before .before .before .before .before .before .before .before .answer-to .ensures in (tt, record { stored = ap stored-by e; answered = ap answered-by e; goes = tt })
+print-requires c κs = let p = c .before .before .before .before .report .ensures in (refl, (printed-fits p, printed-text p))
 
 goes-on-requires : tie.Need-goes-on-requires
-goes-on-requires c κs = tt
+goes-on-requires c κs = search needs
+
+after-print-requires : tie.Need-after-print-requires
+after-print-requires c κs = search needs
+
+same-length : tie.Need-same-length
+same-length c = search needs
+
+same-length-2 : tie.Need-same-length-2
+same-length-2 c = search needs
 
 same-length-3 : tie.Need-same-length-3
-same-length-3 c = c .before .before .before .before .before .before .before .before .before .before .before .before .before .before .answer-to .kept .0
+same-length-3 c = search needs
 
-same-length-4 : tie.Need-same-length-4
-same-length-4 c = c .before .before .before .before .before .before .before .before .before .before .before .before .before .before .answer-to .kept .1 .1 .1 .0
-
-returns-2 : tie.Need-returns-2
-returns-2 c =
-    let s = c .before .before .before .before .before .before .before .before .before .before .before .before .before .before .before .before .before .before .before .before in
-    let e = c .before .before .before .before .before .before .before .before .before .before .before .before .before .before .answer-to .ensures in
-    let on = sym (c .before .goes-on .ensures) ∙ c .if2 .taken in
-    (s .pre .1 .0, record { stored = ap stored-by e; answered = ap answered-by e; goes = (refl, ap (λ (x : Called). goes-on (s .args .call) (x .tells)) (sym e) ∙ on) })
-
-same-length-5 : tie.Need-same-length-5
-same-length-5 c = c .before .before .before .before .before .before .before .before .before .before .before .before .before .before .answer-to .kept .0
-
-same-length-6 : tie.Need-same-length-6
-same-length-6 c = c .before .before .before .before .before .before .before .before .before .before .before .before .before .before .answer-to .kept .1 .1 .1 .0
-
-returns-3 : tie.Need-returns-3
-returns-3 c =
-    let s = c .before .before .before .before .before .before .before .before .before .before .before .before .before .before .before .before .before .before .before .before in
-    let e = c .before .before .before .before .before .before .before .before .before .before .before .before .before .before .answer-to .ensures in
-    let off = sym (c .before .goes-on .ensures) ∙ c .if2 .left in
-    (tt, record { stored = ap stored-by e; answered = ap answered-by e; goes = ap (λ (x : Called). goes-on (s .args .call) (x .tells)) (sym e) ∙ off })
+returns : tie.Need-returns
+returns c =
+    let a = c .before .before .before .before .before .before .before .before .before .before .before .before .before .before .before .before .before .before .before .before .before .args in
+    let r = c .before .before .before .before .before .before .before .before .before .before .before .before .before .before .answer-to in
+    let s = lent (now (a .window)) (now (a .store)) (now (a .answer)) (now (a .out)) in
+    let m = called-as (r .result) (r .last .0) (r .last .1 .1 .1 .0) in
+    let on = c .before .goes-on in
+    let p = c .before .before .print in (
+      prints-as (a .call) (a .then) (p .result) (on .result) (c .after-print .result) m (called s (a .call)) (r .ensures) (on .ensures) (c .after-print .ensures),
+      after-call s (a .call) m (c .before .before .before .before .before .before .before .report .last .1 .1 .1 .0) (r .ensures) (c .before .before .before .before .before .before .before .report .ensures .holds),
+    )
 
 pub make-call-spec : {M : Type 1} → statement M
 make-call-spec =
     tie.close
     (tie.spec
     answer-to-requires
-    slice-aggregate-report
     report-requires
-    slice-aggregate-print
     print-requires
+    goes-on-requires
+    after-print-requires
     same-length
     same-length-2
-    returns
-    goes-on-requires
     same-length-3
-    same-length-4
-    returns-2
-    same-length-5
-    same-length-6
-    returns-3)
+    returns)
