@@ -8,10 +8,10 @@ pub mod steps;
 
 pub use asking::asked_by;
 pub use lines_ahead::lines_from;
+pub use reports::after_print;
 pub use reports::goes_on;
 pub use reports::refuse;
 pub use reports::report;
-pub use steps::after_print;
 pub use steps::read_step;
 pub use steps::setup_from;
 

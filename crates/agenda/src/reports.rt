@@ -1,11 +1,13 @@
-// What is printed for a call, and whether the program goes on behind it.
+// What is printed for a call, whether the program goes on behind it, and what a turn that prints comes to.
 ghost use mathlib.Core.Path.{_≡_};
 ghost use Prim.Native.Nat.{_+_, _≤_};
 ghost use lib.ListN.{length};
 ghost use Rattle.shell.specs.Replies.{told};
 ghost use Rattle.printing.specs.Printed.{Printed};
-ghost use Rattle.agenda.specs.Agenda.{refusal, list-report, report-text, goes-on};
+ghost use Rattle.agenda.specs.Agenda.{refusal, list-report, report-text, goes-on, print-step};
 use crate::Call;
+use crate::Place;
+use crate::Step;
 use printing::is_missing;
 use printing::write_listed;
 use printing::write_reply;
@@ -49,4 +51,17 @@ pub fn goes_on(call: Call, r: Answer) -> bool
         Call::Run { from: _, end: _ } => true,
         Call::List { n: _ } => !is_missing(r),
     }
+}
+
+// What a turn that prints comes to, by whether its report was printed and whether there is more to do behind it.
+pub fn after_print(printed: bool, more: bool, then: Place) -> Step
+    ensures { λ r. ⌜ r ≡ print-step printed more then ⌝ }
+{
+    if !printed {
+        return Step::Failed;
+    }
+    if more {
+        return Step::On(then);
+    }
+    Step::Ended
 }

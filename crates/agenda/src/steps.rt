@@ -2,7 +2,7 @@
 ghost use mathlib.Core.Path.{_≡_};
 ghost use Prim.Native.Nat.{_+_, _-_, _≤_};
 ghost use lib.ListN.{length};
-ghost use Rattle.agenda.specs.Agenda.{Place-held, Read-fits, open-line, setup-next, list-next, next-of, setup-from, read-place, read-step, print-step};
+ghost use Rattle.agenda.specs.Agenda.{Place-held, Read-fits, open-line, setup-next, list-next, next-of, setup-from, read-place, read-step};
 use crate::Call;
 use crate::Next;
 use crate::NextLine;
@@ -104,17 +104,4 @@ pub fn read_step(at: Place, got: isize) -> Step
         return Step::Failed;
     }
     Step::On(after_read(at, got as usize))
-}
-
-// What a turn that prints comes to, by whether its report was printed and whether there is more to do behind it.
-pub fn after_print(printed: bool, more: bool, then: Place) -> Step
-    ensures { λ r. ⌜ r ≡ print-step printed more then ⌝ }
-{
-    if !printed {
-        return Step::Failed;
-    }
-    if more {
-        return Step::On(then);
-    }
-    Step::Ended
 }

@@ -112,8 +112,8 @@ fn refused(at: Place, lines: usize, answer: &[u8], out: &mut [u8]) -> Step
     let n = refuse(lines + 1, answer, out);
     // A refusal is what is printed for a line that is answered so.
     let call = Call::Run { from: 0, end: 0 };
-    let r = Answer::WrongLine(lines + 1);
-    let printed = print(STDOUT_FILENO, out, n, call, r, answer);
+    let wrong = Answer::WrongLine(lines + 1);
+    let printed = print(STDOUT_FILENO, out, n, call, wrong, answer);
     after_print(printed, false, at)
 }
 

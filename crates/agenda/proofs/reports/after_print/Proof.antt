@@ -1,8 +1,8 @@
--- `agenda::steps::after_print` meets its contract: by its two tests.
+-- `agenda::reports::after_print` meets its contract: by its two tests.
 use borrow.Author.Tests.{not-true, not-false}
 use Rattle.agenda.specs.Agenda.{print-step}
-use Rattle.agenda.proofs.steps.after_print.Statement.{statement}
-use Rattle.agenda.proofs.steps.after_print.Tie as tie
+use Rattle.agenda.proofs.reports.after_print.Statement.{statement}
+use Rattle.agenda.proofs.reports.after_print.Tie as tie
 
 returns : tie.Need-returns
 unfolding print-step
