@@ -7,14 +7,13 @@ use Prim.Native.Nat.{ℕ, zero, suc, _-_}
 use lib.ListN.{length, take, drop}
 use Rattle.buffers.specs.Text.{Text}
 use Rattle.syntax.specs.Parts.{part}
-use Rattle.setup.specs.Setup.{Setup, Reading}
 use Rattle.setup.specs.SetupStep.{Line-answer, leads-on, ends-it, is-wrong, setup-step}
 use Rattle.shell.specs.declared.Answer.the-variants.{Done}
 use Rattle.shell.specs.Replies.{told}
-use Rattle.store.specs.HeaderLayout.{header-width}
 use Rattle.store.specs.State.{state-of}
-use Rattle.store.specs.Initial.{no-sessions, initial-store}
-use Rattle.store.specs.StoreBytes.{header-bytes, setup-of, encode}
+use Rattle.store.specs.Initial.{initial-store}
+use Rattle.store.specs.StoreBytes.{setup-of, encode}
+use Rattle.store.specs.SetupHeader.{reading-in, headed}
 use Rattle.calls.specs.Calls.{Called, run-call, listing-call}
 use Rattle.agenda.specs.declared.Phase.the-variants as phase
 use Rattle.agenda.specs.declared.Place.{Place}
@@ -75,13 +74,6 @@ abbrev pub after-call : Talk → Place → Called → Talk
 after-call s at c =
     record { at = at; window = s .window; store = c .store; answer = c .answer; unread = s .unread; sizes = s .sizes }
 
--- the setup so far stands in the store's header
-abbrev pub reading-at : ℕ → List ℕ → Reading
-reading-at kind b = record { kind = kind; so-far = setup-of b }
-
-abbrev pub headed : Setup → List ℕ → List ℕ
-headed u b = header-bytes u no-sessions ++ drop header-width b
-
 -- a setup line that ends at a byte: one that leads on stands in the header, `end` makes the store, a wrong one ends the program
 unfoldable pub line-turned : (Talk → Text) → Talk → ℕ → ℕ → Line-answer → Text
 line-turned others s e lines (leads-on d) =
@@ -99,7 +91,7 @@ turned others s (next.Call c then) =
 turned others s (next.On then) = others (moved s then)
 turned others s next.Read = others (read-on s)
 turned others s next.Over = []
-turned others s (next.Line e kind lines) = line-turned others s e lines (setup-step (part (s .window) (s .at .from) e) (reading-at kind (s .store)))
+turned others s (next.Line e kind lines) = line-turned others s e lines (setup-step (part (s .window) (s .at .from) e) (reading-in kind (s .store)))
 turned others s (next.Wrong lines) = refusal (suc lines)
 
 -- what is printed in so many turns

@@ -13,17 +13,17 @@ use Rattle.buffers.specs.Text.{Text}
 use Rattle.syntax.specs.Pieces.{newline, pieces}
 use Rattle.syntax.specs.Parts.{part}
 use Rattle.syntax.specs.PartsLaws.{pieces-some}
-use Rattle.setup.specs.Setup.{Setup as Whole, Reading, accounts, no-setup, wrong-line, is-setup}
+use Rattle.setup.specs.Setup.{Setup as Whole, Reading, no-setup, wrong-line, is-setup}
 use Rattle.setup.specs.SetupLaws.{nothing}
 use Rattle.setup.specs.SetupStep.{Line-answer, leads-on, ends-it, is-wrong, setup-step}
 use Rattle.setup.specs.SetupStepLaws.{step-keeps}
 use Rattle.shell.specs.declared.Answer.the-variants.{Done}
 use Rattle.shell.specs.Replies.{told}
-use Rattle.store.specs.HeaderLayout.{header-width}
 use Rattle.store.specs.State.{state-of}
-use Rattle.store.specs.Initial.{no-sessions, initial-store}
+use Rattle.store.specs.Initial.{initial-store}
 use Rattle.store.specs.StoreBytes.{setup-of, encode}
-use Rattle.store.specs.HeaderLaws.{setup-of-header}
+use Rattle.store.specs.SetupHeader.{headed}
+use Rattle.store.specs.SetupHeaderLaws.{headed-holds}
 use Rattle.tree.specs.declared.Cause.the-variants.{Missing}
 use Rattle.tree.specs.Causes.{number}
 use Rattle.calls.specs.Calls.{listing-call}
@@ -42,10 +42,10 @@ use Rattle.agenda.specs.declared.NextLine.the-variants as found
 use Rattle.agenda.specs.InputLines.{next-line}
 use Rattle.agenda.specs.InputLinesLaws.{line-is-piece, next-is-last, next-is-none, next-is-more, pieces-glue}
 use Rattle.agenda.specs.Agenda.{lines-from, listed-from, setup-from, open-line, found-setup-line, setup-next, list-next, by-phase, next-of, refusal, list-report, report-text, goes-on}
-use Rattle.agenda.specs.Conversation.{Talk, ahead, made, after-call, headed, line-turned, turned, talk, first-place}
+use Rattle.agenda.specs.Conversation.{Talk, ahead, made, after-call, line-turned, turned, talk, first-place}
 use Rattle.agenda.specs.Due.{lines-due, due-in, due, busy, later, turns-due, Ready, Talking, Prints}
 use Rattle.agenda.specs.ReadingOnLaws.{read-prints}
-use Rattle.agenda.specs.LinesDueLaws.{part-read, either-turned, lines-print}
+use Rattle.agenda.specs.LinesDueLaws.{part-read, some-piece, either-turned, lines-print}
 
 -- ---- the listing
 
@@ -89,20 +89,10 @@ module _ (f : Talk → Text) (m : ℕ) (others : Prints f m) (s : Talk) (h : Tal
 
 -- ---- the setup
 
--- there is a first piece
-some-piece : (l : List Text) → 1 ≤ length l → (p : Text) × (ps : List Text) × (l ≡ p ∷ ps)
-some-piece [] h = let z : ⊥ = omega arith in absurd z
-some-piece (p ∷ ps) h = (p, ps, refl)
-
 -- the refusal is what is printed for a wrong line
 refused-is : (answer : List ℕ) (n : ℕ) → refusal n ≡ set-up-and-run answer (wrong-line n) []
 unfolding refusal set-up-and-run lines-text
 refused-is answer n = refl
-
--- the setup in a header
-pub headed-holds : (u : Whole) (b : List ℕ) → is-setup u ≡ true → setup-of (headed u b) ≡ u
-unfolding no-sessions accounts
-headed-holds u b h = setup-of-header u no-sessions (drop header-width b) h refl
 
 module _ (f : Talk → Text) (m : ℕ) (others : Prints f m) (s : Talk) (h : Talking s) (c : turns-due (s .at) (length (s .unread)) ≤ suc m) (kind lines : ℕ) (k : s .at .phase ≡ Setup kind lines) where
   abbrev text-read : Text

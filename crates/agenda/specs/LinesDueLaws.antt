@@ -64,7 +64,7 @@ run-first b answer l ls =
     sym (append-assoc (call-line (c .tells) (c .answer)) (newline ∷ []) (run-and-list (c .store) (c .answer) ls))
 
 -- there is a first piece
-some-piece : (l : List Text) → 1 ≤ length l → (p : Text) × (ps : List Text) × (l ≡ p ∷ ps)
+pub some-piece : (l : List Text) → 1 ≤ length l → (p : Text) × (ps : List Text) × (l ≡ p ∷ ps)
 some-piece [] h = let z : ⊥ = omega arith in absurd z
 some-piece (p ∷ ps) h = (p, ps, refl)
 

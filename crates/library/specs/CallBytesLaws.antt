@@ -1,8 +1,8 @@
 -- What the calls are where the code answers: at each refusal before a command, and where a command or a listing was carried out.
 --
--- In order: setup (unset-elsewhere, unset-wrong, set-done); before a command or a listing (short-call, unsound-call, sound-call); a command
+-- In order: setup (unset-elsewhere, made-called); before a command or a listing (short-call, unsound-call, sound-call); a command
 -- carried out (carried-call) and a line of the listing written (line-called).
-use mathlib.Core.Path.{_≡_, sym, _∙_, ap}
+use mathlib.Core.Path.{_≡_, refl, sym, _∙_, ap}
 use mathlib.Core.List.{List, _++_}
 use mathlib.Core.Option.{none, some}
 use mathlib.Core.Bool.{true, false}
@@ -15,10 +15,10 @@ use Rattle.buffers.specs.Text.{Text}
 use Rattle.syntax.specs.Form.{is-some}
 use Rattle.syntax.specs.FormLaws.{the-some}
 use Rattle.arguments.specs.KindsLaws.{is-none}
-use Rattle.setup.specs.Setup.{Setup, accepted, wrong-line, setup}
+use Rattle.setup.specs.Setup.{Setup, Setup-answer, accepted, wrong-line, setup}
 use Rattle.tree.specs.declared.Cause.{Cause}
 use Rattle.tree.specs.declared.Cause.the-variants.{Missing, Unsound, ShortAnswer}
-use Rattle.tree.specs.Result.{Result, refused, done, _>>=_, _>>_, Outcome}
+use Rattle.tree.specs.Result.{Result, refused, done, _>>=_, Outcome}
 use Rattle.tree.specs.ResultLaws.{present-of, present-none, done-bind, refused-bind, done-then, refused-then, require-true, require-false}
 use Rattle.tree.specs.TreeBytes.{Encodes}
 use Rattle.shell.specs.declared.Answer.{Answer}
@@ -27,35 +27,42 @@ use Rattle.shell.specs.declared.Answer.the-variants
 use Rattle.shell.specs.Replies.{reply, after, answer-of, written}
 use Rattle.shell.specs.CommandBytes.{bytes-after, Carries}
 use Rattle.store.specs.HeaderLayout.{header-width}
-use Rattle.store.specs.State.{Store, State, state-of}
-use Rattle.store.specs.Initial.{initial-store}
-use Rattle.store.specs.StoreBytes.{store-width, encode, decode}
+use Rattle.store.specs.State.{Store, State}
+use Rattle.store.specs.StoreBytes.{store-width, decode}
 use Rattle.store.specs.StoreBytesLaws.{decode-length}
 use Rattle.store.specs.DecodeLaws.{tree-read}
 use Rattle.machine.specs.RunsLaws.{least-room-is}
 use Rattle.listing.specs.Listing.{listing}
 use Rattle.calls.specs.Calls.{set-up, setup-call, Called, called, encoded, on-state, listing-on, listing-result, listing-call}
 use Rattle.stored_header.specs.Stored.{bytes-with}
+use Rattle.setups.specs.declared.TextRead.{TextRead}
+use Rattle.setups.specs.declared.TextRead.the-variants.{Accepted, Wrong}
+use Rattle.setups.specs.Making.{Text-done, text-as, store-made}
 use Rattle.library.specs.CallBytes.{set-up-as, called-as}
 
 -- ---- setup
 
+-- the answer to a setup text that was read
+unfoldable pub setup-told : TextRead → Answer
+setup-told Accepted = Done
+setup-told (Wrong n) = WrongLine n
+
 module _ (b : List ℕ) (text : Text) where
+  -- what is made of a text is what the call says of its answer
+  set-up-made : (a : Setup-answer) → set-up-as (setup-told (store-made b a .answer)) (store-made b a .bytes) ≡ set-up b a
+  unfolding store-made set-up setup-told
+  set-up-made (accepted u) = refl
+  set-up-made (wrong-line n) = refl
+
   -- a buffer of another length is refused by 18
   pub unset-elsewhere : (length b ≡ 65536 → ⊥) → set-up-as (Refused Unsound) b ≡ setup-call b text
   unfolding setup-call store-width
   unset-elsewhere h = rw (ne-eqb (length b) 65536 h)
 
-  -- a wrong line by 17
-  pub unset-wrong : (n : ℕ) → length b ≡ 65536 → setup text ≡ wrong-line n → set-up-as (WrongLine n) b ≡ setup-call b text
-  unfolding setup-call store-width set-up
-  unset-wrong n h e = rw (eq-eqb (length b) 65536 h, e)
-
-  -- an accepted setup leaves the bytes of its initial state
-  pub set-done : (u : Setup) (b′ : List ℕ) → length b ≡ 65536 → setup text ≡ accepted u → b′ ≡ encode (state-of u (initial-store u))
-      → set-up-as Done b′ ≡ setup-call b text
-  unfolding setup-call store-width set-up
-  set-done u b′ h e q = rw (eq-eqb (length b) 65536 h, e, q)
+  -- the code's answer to a text of the right length, whatever it is
+  pub made-called : (r : TextRead) (b′ : List ℕ) → length b ≡ 65536 → text-as r b′ ≡ store-made b (setup text) → set-up-as (setup-told r) b′ ≡ setup-call b text
+  unfolding setup-call store-width
+  made-called r b′ h e = ap (λ (x : Text-done). set-up-as (setup-told (x .answer)) (x .bytes)) e ∙ set-up-made (setup text) ∙ rw (eq-eqb (length b) 65536 h)
 
 -- ---- before a command or a listing
 

@@ -2,8 +2,8 @@
 ghost use mathlib.Core.Path.{_≡_};
 ghost use Rattle.calls.specs.Calls.{setup-call};
 ghost use Rattle.library.specs.CallBytes.{set-up-as};
-use setup::read_setup;
-use setups::write_store;
+use setups::TextRead;
+use setups::make_store;
 use shell::Answer;
 use store::STORE;
 use tree::Cause;
@@ -15,10 +15,8 @@ pub fn setup(store: &mut [u8], text: &[u8]) -> Answer
     if store.len() != STORE {
         return Answer::Refused(Cause::Unsound);
     }
-    let read = read_setup(text);
-    if read.wrong != 0 {
-        return Answer::WrongLine(read.wrong);
+    match make_store(store, text) {
+        TextRead::Accepted => Answer::Done,
+        TextRead::Wrong(number) => Answer::WrongLine(number),
     }
-    write_store(store, text, read.setup);
-    Answer::Done
 }

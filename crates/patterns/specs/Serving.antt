@@ -6,7 +6,7 @@ use Prim.Native.Nat.{ℕ, suc, _-_}
 use Rattle.buffers.specs.Text.{Text}
 use Rattle.syntax.specs.Parts.{part}
 use Rattle.setup.specs.SetupStep.{Line-answer, leads-on, ends-it, is-wrong, setup-step}
-use Rattle.setups.specs.LineRead.{reading-in}
+use Rattle.store.specs.SetupHeader.{reading-in}
 use Rattle.agenda.specs.declared.Place.{Place}
 use Rattle.agenda.specs.declared.Next.{Next}
 use Rattle.agenda.specs.declared.Next.the-variants as next

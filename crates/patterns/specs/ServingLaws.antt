@@ -16,7 +16,9 @@ use Rattle.setup.specs.Setup.{Setup, no-setup, is-setup}
 use Rattle.setup.specs.SetupLaws.{nothing}
 use Rattle.setup.specs.SetupStep.{Line-answer, leads-on, ends-it, is-wrong, setup-step}
 use Rattle.setup.specs.SetupStepLaws.{step-keeps}
-use Rattle.setups.specs.LineRead.{reading-in, headed, line-call}
+use Rattle.store.specs.SetupHeader.{reading-in, headed}
+use Rattle.store.specs.SetupHeaderLaws.{headed-holds}
+use Rattle.setups.specs.LineRead.{line-call}
 use Rattle.printing.specs.Printed.{in-front}
 use Rattle.calls.specs.Transcript.{transcript}
 use Rattle.calls.specs.ProgramLaws.{program-is-transcript}
@@ -38,7 +40,7 @@ use Rattle.agenda.specs.StepLaws.{print-ends, print-goes, read-not-ended, read-
 use Rattle.agenda.specs.Conversation.{Talk, ahead, after-call, line-turned, turned, first-place}
 use Rattle.agenda.specs.Due.{due-in, due, Ready, Talking}
 use Rattle.agenda.specs.LinesDueLaws.{part-kept}
-use Rattle.agenda.specs.ConversationLaws.{headed-holds, due-turns}
+use Rattle.agenda.specs.ConversationLaws.{due-turns}
 use Rattle.agenda.specs.declared.Step.the-variants.{On, Ended}
 use Rattle.patterns.specs.Buffers.{Buffers, lent, with-window, called}
 use Rattle.patterns.specs.Turns.{Line-made, Does, Serves, spent, ended, failed, goes}

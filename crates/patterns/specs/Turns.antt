@@ -10,7 +10,8 @@ use Rattle.syntax.specs.Parts.{part}
 use Rattle.setup.specs.SetupStep.{setup-step}
 use Rattle.setups.specs.declared.LineRead.{LineRead}
 use Rattle.setups.specs.declared.LineRead.the-variants as read
-use Rattle.setups.specs.LineRead.{Line-done, reading-in, line-call}
+use Rattle.store.specs.SetupHeader.{reading-in}
+use Rattle.setups.specs.LineRead.{Line-done, line-call}
 use Rattle.agenda.specs.declared.Place.{Place}
 use Rattle.agenda.specs.declared.Call.{Call}
 use Rattle.agenda.specs.declared.Next.{Next}

@@ -4,7 +4,5 @@ pub mod SetupStep
 pub mod SetupStepLaws
 pub mod SoundSetup
 pub mod SoundSetupLaws
-pub mod Reader
-pub mod ReaderLaws
 pub mod LinesLaws
 pub mod Compute

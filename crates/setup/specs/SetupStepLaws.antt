@@ -74,10 +74,15 @@ pub line-leads-on : (t : Text) (ts : List Text) (n : ℕ) (d d′ : Reading) →
 unfolding answered-by
 line-leads-on t ts n d d′ h e = by-step t ts n d (leads-on d′) h e ∙ lines-read (suc n) d′ ts
 
--- `end`, with nothing behind its byte 10
+-- `end`: nothing may stand behind its byte 10
+pub line-ends : (t : Text) (ts : List Text) (n : ℕ) (d : Reading) → 1 ≤ length ts → setup-step t d ≡ ends-it →
+    read-lines (t ∷ ts) (suc n) d ≡ cond (stops ts) (accepted (d .so-far)) (wrong-line (suc (suc n)))
+unfolding answered-by
+line-ends t ts n d h e = by-step t ts n d ends-it h e ∙ behind-end-stops (suc n) (d .so-far) ts h
+
 pub line-ends-it : (t : Text) (n : ℕ) (d : Reading) → setup-step t d ≡ ends-it → read-lines (t ∷ ([] ∷ [])) (suc n) d ≡ accepted (d .so-far)
-unfolding answered-by read-on stopped
-line-ends-it t n d e = by-step t ([] ∷ []) n d ends-it (omega arith) e
+unfolding stops
+line-ends-it t n d e = line-ends t ([] ∷ []) n d (omega arith) e
 
 -- a wrong one decides, whatever stands behind it
 pub line-is-wrong : (t : Text) (ts : List Text) (n : ℕ) (d : Reading) → setup-step t d ≡ is-wrong → read-lines (t ∷ ts) (suc n) d ≡ wrong-line (suc n)

@@ -6,7 +6,7 @@ use mathlib.Core.Bool.{Bool, true}
 use Prim.Native.Nat.{ℕ, zero, suc, _+_, _-_, _*_, _≤_, _<_}
 use native.Mathlib.Omega.{arith}
 use native.Mathlib.Numerals.{add-one}
-use native.Mathlib.Nat.{zero-add, suc-add, mul-zero, mul-suc, suc-mul, add-comm}
+use native.Mathlib.Nat.{mul-zero, mul-suc, suc-mul, add-comm}
 use lib.ListN.{length, getD, set, replicate, length-append, length-replicate}
 use lib.Seq.{paste}
 use Rattle.buffers.specs.Cases.{and-both}
@@ -24,6 +24,7 @@ use Rattle.store.specs.HeaderLayout.{spare-width}
 use Rattle.store.specs.Initial.{no-sessions}
 use Rattle.store.specs.StoreBytes.{slot-bytes, session-byte, grant-bytes, header-bytes}
 use Rattle.store.specs.HeaderLaws.{grant-password, part-widths}
+use Rattle.store.specs.SetupHeaderLaws.{zeros-split}
 
 -- ---- values one after another
 
@@ -74,10 +75,6 @@ all-bytes-append : {A : Type 0} (f : A → List ℕ) (k l : List A) → all-byte
 unfolding all-bytes
 all-bytes-append f [] l = refl
 all-bytes-append f (a ∷ k) l = ap (λ (r : List ℕ). f a ++ r) (all-bytes-append f k l) ∙ sym (append-assoc (f a) (all-bytes f k) (all-bytes f l))
-
-pub zeros-split : (n m : ℕ) → replicate {A = ℕ} (n + m) 0 ≡ replicate n 0 ++ replicate m 0
-zeros-split zero m = rw (zero-add m)
-zeros-split (suc n) m = rw (suc-add n m) (ap (λ (x : List ℕ). 0 ∷ x) (zeros-split n m))
 
 one-more : {A : Type 0} (f : A → List ℕ) (l : List A) (x : A) → all-bytes f (l ++ (x ∷ [])) ≡ all-bytes f l ++ f x
 unfolding all-bytes

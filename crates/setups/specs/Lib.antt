@@ -1,7 +1,7 @@
-pub mod Writable
+pub mod HeaderValuesLaws
 pub mod HeaderGrowsLaws
 pub mod LineRead
 pub mod LineReadLaws
 pub mod OpeningLaws
-pub mod WritableLaws
-pub mod HeaderWrittenLaws
+pub mod Making
+pub mod MakingLaws

@@ -1,15 +1,14 @@
 -- One line of a setup read into the header of its store: what the header holds before it, and what it leaves.
 use mathlib.Core.Path.{_≡_}
-use mathlib.Core.List.{List, _++_}
+use mathlib.Core.List.{List}
 use mathlib.Core.Bool.{true}
 use Prim.Native.Nat.{ℕ}
-use lib.ListN.{length, drop}
-use Rattle.setup.specs.Setup.{Setup, Reading, is-setup}
+use lib.ListN.{length}
+use Rattle.setup.specs.Setup.{is-setup}
 use Rattle.setup.specs.SetupStep.{Line-answer, leads-on, ends-it, is-wrong}
 use Rattle.store.specs.Initial.{no-sessions}
-use Rattle.store.specs.HeaderLayout.{header-width}
 use Rattle.store.specs.StoreBytes.{store-width, header-bytes, setup-of}
-use Rattle.setups.specs.Writable.{first-store}
+use Rattle.store.specs.SetupHeader.{headed, first-store}
 use Rattle.setups.specs.declared.LineRead.{LineRead}
 use Rattle.setups.specs.declared.LineRead.the-variants.{More, End, Wrong}
 
@@ -17,10 +16,6 @@ use Rattle.setups.specs.declared.LineRead.the-variants.{More, End, Wrong
 pub record Begun (b : List ℕ) : Type 0 where
   pub in-range : is-setup (setup-of b) ≡ true
   pub whole : header-bytes (setup-of b) no-sessions ≡ b
-
--- what has been read: the kind of the last line, and what the header holds
-abbrev pub reading-in : ℕ → List ℕ → Reading
-reading-in kind b = record { kind = kind; so-far = setup-of b }
 
 -- what is answered, and the header, or the whole store, afterwards
 pub record Line-done : Type 0 where
@@ -37,10 +32,6 @@ after-line b ends-it = record { answer = End; header = b }
 after-line b is-wrong = record { answer = Wrong; header = b }
 
 -- ---- in a store
-
--- the header of a setup without sessions, before the bytes behind a store's header
-abbrev pub headed : Setup → List ℕ → List ℕ
-headed u b = header-bytes u no-sessions ++ drop header-width b
 
 -- a store whose header holds the setup so far
 pub record Begun-store (b : List ℕ) : Type 0 where

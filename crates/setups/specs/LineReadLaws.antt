@@ -10,7 +10,7 @@ use lib.Dec.{leb}
 use lib.ListN.{length, getD, take, drop, set}
 use lib.Seq.{paste, take-all}
 use borrow.Author.Tests.{eq-eqb, ne-eqb, lt-ltb, le-ltb, le-leb, lt-leb}
-use Rattle.buffers.specs.Cases.{case}
+use Rattle.buffers.specs.Cases.{case, contra}
 use Rattle.buffers.specs.Text.{Text, same-text}
 use Rattle.buffers.specs.TextLaws.{every-getD}
 use Rattle.buffers.specs.PasteLaws.{set-paste}
@@ -39,16 +39,15 @@ use Rattle.lines.specs.LineLaws.{told-none, told-line, grant-told}
 use Rattle.lines.specs.SetupLines.{Setup-line, p-line, g-line, r-line, l-line, setup-line}
 use Rattle.setup.specs.Setup.{Person, Grant, Setup, Reading, accounts, most-pairs, most-grants, person, with-person, with-pair, with-grant, joining, accept, is-slot, is-person, is-setup}
 use Rattle.setup.specs.SetupLaws.{one-to-15, new-person as newly-named, joining-person, apart, l-name}
-use Rattle.setup.specs.SetupStep.{ends-it, is-wrong, fitting, setup-step}
-use Rattle.setup.specs.declared.Person.{Person as Slot}
-use Rattle.setup.specs.Reader.{slot-value}
+use Rattle.setup.specs.SetupStep.{Line-answer, leads-on, ends-it, is-wrong, fitting, setup-step}
+use Rattle.store.specs.declared.Person.{Person as Slot}
 use Rattle.store.specs.HeaderLayout.{Wide-header}
+use Rattle.store.specs.InitialRows.{slot-value}
 use Rattle.store.specs.Initial.{no-sessions}
 use Rattle.store.specs.StoreBytes.{slot-bytes, slot-of, grant-bytes, grant-of, header-bytes, setup-of}
-use Rattle.store.specs.HeaderLaws.{length-header}
-use Rattle.setups.specs.declared.LineRead.the-variants.{More, Wrong}
-use Rattle.setups.specs.Writable.{Password-fits}
-use Rattle.setups.specs.LineRead.{Begun, read-as, after-line}
+use Rattle.store.specs.SetupHeaderLaws.{setup-header-wide, header-holds}
+use Rattle.setups.specs.declared.LineRead.the-variants.{More, End, Wrong}
+use Rattle.setups.specs.LineRead.{Begun, Line-done, read-as, after-line}
 use Rattle.setups.specs.HeaderGrowsLaws.{slot-written, pair-written, grant-written}
 
 -- ---- what a line comes to, by what has been read
@@ -127,8 +126,7 @@ module _ (k : ℕ) (s : Setup) where
 module _ (b : List ℕ) (w : Begun b) where
   -- it has its width
   pub begun-wide : Wide-header b
-  unfolding no-sessions accounts
-  begun-wide = ap length (sym (w .whole)) ∙ length-header (setup-of b) no-sessions (w .in-range) refl
+  begun-wide = ap length (sym (w .whole)) ∙ setup-header-wide (setup-of b) (w .in-range)
 
   slot-read : (v : Uid) → v .0 < 16 → person (setup-of b) v ≡ slot-of (take 3 (drop (3 * v .0) b))
   unfolding person setup-of accounts
@@ -258,8 +256,9 @@ module _ (t : Text) (n : ℕ) (r : SetupLine) (all : n ≡ length t) (told : lin
   pub told-wrong : r ≡ line.Wrong → setup-line t ≡ none
   told-wrong e = told-none t _ (rw e at whole-told)
 
-pub password-fits : (t : Text) (u : Uid) (role : Role) (w : Span) → (setup-line t ≡ some (l-line u role (span-text t w))) × (Inside w t) → Password-fits t (record { uid = u; role = role; password = w })
-password-fits t u role w i = record { inside = i .1; short = name-fits (span-text t w) (l-name t u role (span-text t w) (i .0)) .0 }
+-- a password fits its field
+pub password-short : (t : Text) (u : Uid) (role : Role) (w : Text) → setup-line t ≡ some (l-line u role w) → length w ≤ 8
+password-short t u role w e = name-fits w (l-name t u role w e) .0
 
 -- the step that it is
 module _ (t : Text) (d : Reading) where
@@ -275,3 +274,43 @@ module _ (t : Text) (d : Reading) where
     pub is-no-line : setup-line t ≡ none → setup-step t d ≡ is-wrong
     unfolding setup-step _>>=_ fitting
     is-no-line e = rw (other, e)
+
+-- ---- what was answered tells what the line comes to
+
+-- the header of a setup in range
+pub header-begun : (u : Setup) → is-setup u ≡ true → Begun (header-bytes u no-sessions)
+header-begun u h = record {
+  in-range = ap is-setup (header-holds u h) ∙ h;
+  whole = ap (λ (v : Setup). header-bytes v no-sessions) (header-holds u h);
+}
+
+-- what a line led on to, by the kind and the header that were answered
+pub record Led (a : Line-answer) (k : ℕ) (H : List ℕ) : Type 0 where
+  pub to : Reading
+  pub is : a ≡ leads-on to
+  pub of-kind : k ≡ to .kind
+  pub holds : H ≡ header-bytes (to .so-far) no-sessions
+
+module _ (b H : List ℕ) where
+  pub more-led : (a : Line-answer) (k : ℕ) → read-as (More k) H ≡ after-line b a → Led a k H
+  unfolding after-line
+  more-led (leads-on d) k e = record {
+    to = d;
+    is = refl;
+    of-kind = let z : More k ≡ More (d .kind) = ap (λ (x : Line-done). x .answer) e in cc;
+    holds = ap (λ (x : Line-done). x .header) e;
+  }
+  more-led ends-it k e = let z : More k ≡ End = ap (λ (x : Line-done). x .answer) e in contra {b = true} refl (cc)
+  more-led is-wrong k e = let z : More k ≡ Wrong = ap (λ (x : Line-done). x .answer) e in contra {b = true} refl (cc)
+
+  pub end-ended : (a : Line-answer) → read-as End H ≡ after-line b a → (a ≡ ends-it) × (H ≡ b)
+  unfolding after-line
+  end-ended (leads-on d) e = let z : End ≡ More (d .kind) = ap (λ (x : Line-done). x .answer) e in contra {b = true} refl (cc)
+  end-ended ends-it e = (refl, ap (λ (x : Line-done). x .header) e)
+  end-ended is-wrong e = let z : End ≡ Wrong = ap (λ (x : Line-done). x .answer) e in contra {b = true} refl (cc)
+
+  pub wrong-stayed : (a : Line-answer) → read-as Wrong H ≡ after-line b a → (a ≡ is-wrong) × (H ≡ b)
+  unfolding after-line
+  wrong-stayed (leads-on d) e = let z : Wrong ≡ More (d .kind) = ap (λ (x : Line-done). x .answer) e in contra {b = true} refl (cc)
+  wrong-stayed ends-it e = let z : Wrong ≡ End = ap (λ (x : Line-done). x .answer) e in contra {b = true} refl (cc)
+  wrong-stayed is-wrong e = (refl, ap (λ (x : Line-done). x .header) e)

@@ -10,26 +10,25 @@ use native.Mathlib.Nat.{mul-zero, mul-suc, add-comm}
 use lib.Dec.{eqb}
 use lib.ListN.{length, getD, take, drop, set, replicate, length-append, length-drop, length-replicate, length-set, drop-of-length-le, take-append-drop}
 use lib.Seq.{paste, take-all, take-at, drop-at, drop-drop, take-suc-set}
-use Rattle.buffers.specs.Fields.{number-at, all-bytes, all-from, table-bytes}
-use Rattle.buffers.specs.FieldsLaws.{byte-there, number-there}
-use Rattle.setup.specs.declared.Person.{Person as Slot}
-use Rattle.setup.specs.Setup.{Person, Setup, accounts, most-pairs, most-grants, no-setup, is-setup, Reading}
-use Rattle.setup.specs.SetupLaws.{nothing}
-use Rattle.setup.specs.SetupStepLaws.{step-keeps}
-use Rattle.setup.specs.Reader.{slot-value}
-use Rattle.store.specs.HeaderLayout.{header-width, spare-width}
-use Rattle.tree.specs.Encoding.{encode-tree}
-use Rattle.store.specs.Initial.{no-sessions, initial-tree, initial-store}
-use Rattle.store.specs.StoreBytes.{store-width, slot-bytes, session-byte, slot-of, header-bytes, setup-of, encode}
-use Rattle.store.specs.HeaderLaws.{length-header, setup-of-header}
-use Rattle.setups.specs.Writable.{first-store}
-use Rattle.buffers.specs.Cases.{contra}
 use Rattle.buffers.specs.Text.{Text}
-use Rattle.setup.specs.SetupStep.{Line-answer, leads-on, ends-it, is-wrong, setup-step}
+use Rattle.buffers.specs.Fields.{number-at, all-from}
+use Rattle.buffers.specs.FieldsLaws.{byte-there, number-there}
+use Rattle.setup.specs.Setup.{Person, Setup, Reading, accounts, no-setup, is-setup}
+use Rattle.setup.specs.SetupLaws.{nothing}
+use Rattle.setup.specs.SetupStep.{Line-answer, leads-on, ends-it, setup-step}
+use Rattle.setup.specs.SetupStepLaws.{step-keeps}
+use Rattle.tree.specs.Encoding.{encode-tree}
+use Rattle.store.specs.declared.Person.{Person as Slot}
+use Rattle.store.specs.HeaderLayout.{header-width}
+use Rattle.store.specs.Initial.{no-sessions, initial-tree, initial-store}
+use Rattle.store.specs.InitialRows.{slot-value}
+use Rattle.store.specs.StoreBytes.{store-width, slot-of, header-bytes, setup-of, encode}
+use Rattle.store.specs.SetupHeader.{reading-in, headed, first-store}
+use Rattle.store.specs.SetupHeaderLaws.{setup-header-wide, headed-holds, header-holds, nothing-is-zeros}
 use Rattle.setups.specs.declared.LineRead.{LineRead}
 use Rattle.setups.specs.declared.LineRead.the-variants.{More, End, Wrong}
-use Rattle.setups.specs.LineRead.{headed, Begun, Begun-store, reading-in, Line-done, read-as, after-line, line-call}
-use Rattle.setups.specs.HeaderGrowsLaws.{zeros-split}
+use Rattle.setups.specs.LineRead.{Begun, Begun-store, read-as, after-line, line-call}
+use Rattle.setups.specs.LineReadLaws.{header-begun, more-led, end-ended, wrong-stayed}
 
 -- ---- the slots
 
@@ -83,22 +82,10 @@ all-slots b persons k r h =
 
 -- ---- the header of nothing
 
--- parts of zeros are zeros
-five-zeros : (k l m n o : ℕ) (S Z P G U : List ℕ) → S ≡ replicate k 0 → Z ≡ replicate l 0 → P ≡ replicate m 0 → G ≡ replicate n 0 → U ≡ replicate o 0 →
-    S ++ (Z ++ (P ++ (G ++ U))) ≡ replicate (k + (l + (m + (n + o)))) 0
-five-zeros k l m n o S Z P G U s z p g u =
-    rw (s, z, p, g, u, zeros-split k (l + (m + (n + o))), zeros-split l (m + (n + o)), zeros-split m (n + o), zeros-split n o)
-
-nothing-is-zeros : (U : List ℕ) → U ≡ replicate spare-width 0 →
-    all-bytes slot-bytes (no-setup .persons) ++ (all-bytes (λ z. session-byte z ∷ []) no-sessions ++ (table-bytes 2 28 Rattle.accounts.specs.PairBytes.pair-bytes (no-setup .pairs) ++ (table-bytes 10 32 Rattle.store.specs.StoreBytes.grant-bytes (no-setup .grants) ++ U)))
-    ≡ replicate header-width 0
-unfolding no-setup accounts all-bytes slot-bytes no-sessions session-byte table-bytes
-nothing-is-zeros U e = five-zeros 48 16 57 321 spare-width _ _ _ _ U refl refl refl refl e
-
-pub nothing-cleared : (b : List ℕ) → length b ≡ 65536 → paste b 0 (replicate header-width 0) header-width ≡ headed no-setup b
-unfolding header-bytes most-pairs most-grants
-nothing-cleared b w =
-    ap (λ (x : List ℕ). x ++ drop header-width b) (take-all header-width (replicate header-width 0) (omega (arith, length-replicate {A = ℕ} header-width 0)) ∙ sym (nothing-is-zeros (replicate spare-width 0) refl))
+-- zeros in front of any bytes are the header of nothing before what stood behind it
+pub nothing-cleared : (b : List ℕ) → paste b 0 (replicate header-width 0) header-width ≡ headed no-setup b
+nothing-cleared b =
+    ap (λ (x : List ℕ). x ++ drop header-width b) (take-all header-width (replicate header-width 0) (omega (arith, length-replicate {A = ℕ} header-width 0)) ∙ sym nothing-is-zeros)
 
 -- ---- the store opened
 
@@ -107,13 +94,10 @@ module _ (b : List ℕ) (w : Begun-store b) where
   unfolding store-width
   store-wide = w .wide
 
-  header-wide : length (header-bytes (setup-of b) no-sessions) ≡ header-width
-  unfolding no-sessions accounts
-  header-wide = length-header (setup-of b) no-sessions (w .in-range) refl
-
   -- the header stands in front
   pub header-in : take header-width b ≡ header-bytes (setup-of b) no-sessions
-  header-in = ap (take header-width) (sym (w .whole)) ∙ take-at (header-bytes (setup-of b) no-sessions) (drop header-width b) header-width header-wide
+  header-in =
+      ap (take header-width) (sym (w .whole)) ∙ take-at (header-bytes (setup-of b) no-sessions) (drop header-width b) header-width (setup-header-wide (setup-of b) (w .in-range))
 
   -- the tree's bytes behind it
   pub tree-wide : length (take (length b - header-width) (drop header-width b)) ≡ 58114
@@ -132,85 +116,62 @@ module _ (b : List ℕ) (w : Begun-store b) where
 module _ (b : List ℕ) (w : Begun-store b) where
   -- the header holds the setup that the store holds
   same-setup : setup-of (take header-width b) ≡ setup-of b
-  unfolding no-sessions accounts
-  same-setup =
-      ap setup-of (header-in b w ∙ sym (append-nil (header-bytes (setup-of b) no-sessions)))
-      ∙ setup-of-header (setup-of b) no-sessions [] (w .in-range) refl
+  same-setup = ap setup-of (header-in b w) ∙ header-holds (setup-of b) (w .in-range)
 
-  pub header-begun : Begun (take header-width b)
-  header-begun = record {
-    in-range = ap is-setup same-setup ∙ w .in-range;
-    whole = ap (λ (u : Setup). header-bytes u no-sessions) same-setup ∙ sym (header-in b w);
-  }
+  pub front-begun : Begun (take header-width b)
+  front-begun = subst Begun (sym (header-in b w)) (header-begun (setup-of b) (w .in-range))
 
-  -- the reading of the header, and of the store
-  same-step : (t : Text) (kind : ℕ) → setup-step t (reading-in kind (take header-width b)) ≡ setup-step t (reading-in kind b)
-  same-step t kind = ap (λ (u : Setup). setup-step t (record { kind = kind; so-far = u })) same-setup
+  module _ (t : Text) (kind : ℕ) (H : List ℕ) (r : LineRead) (h : read-as r H ≡ after-line (take header-width b) (setup-step t (reading-in kind (take header-width b)))) where
+    abbrev step : Line-answer
+    step = setup-step t (reading-in kind b)
 
-  back : take header-width b ++ drop header-width b ≡ b
-  back = take-append-drop header-width b
+    -- the header's answer is one to the store's reading
+    by-step : {x : LineRead} → r ≡ x → read-as x H ≡ after-line (take header-width b) step
+    by-step e =
+        ap (λ (y : LineRead). read-as y H) (sym e) ∙ h
+        ∙ ap (λ (u : Setup). after-line (take header-width b) (setup-step t (record { kind = kind; so-far = u }))) same-setup
 
-  -- a line that leads on, and a wrong one
-  more-by : (a : Line-answer) (k : ℕ) (H : List ℕ) → read-as (More k) H ≡ after-line (take header-width b) a → read-as (More k) (H ++ drop header-width b) ≡ line-call b a
-  unfolding after-line line-call
-  more-by (leads-on d) k H e = λ i. record { answer = e i .answer; header = e i .header ++ drop header-width b }
-  more-by ends-it k H e = let z : More k ≡ End = ap (λ (x : Line-done). x .answer) e in contra {b = true} refl (cc)
-  more-by is-wrong k H e = let z : More k ≡ Wrong = ap (λ (x : Line-done). x .answer) e in contra {b = true} refl (cc)
+    -- what is left as it was
+    stayed : H ≡ take header-width b → H ++ drop header-width b ≡ b
+    stayed e = ap (λ (x : List ℕ). x ++ drop header-width b) e ∙ take-append-drop header-width b
 
-  wrong-by : (a : Line-answer) (H : List ℕ) → read-as Wrong H ≡ after-line (take header-width b) a → read-as Wrong (H ++ drop header-width b) ≡ line-call b a
-  unfolding after-line line-call
-  wrong-by (leads-on d) H e = let z : Wrong ≡ More (d .kind) = ap (λ (x : Line-done). x .answer) e in contra {b = true} refl (cc)
-  wrong-by ends-it H e = let z : Wrong ≡ End = ap (λ (x : Line-done). x .answer) e in contra {b = true} refl (cc)
-  wrong-by is-wrong H e = λ i. record { answer = Wrong; header = (ap (λ (x : Line-done). x .header ++ drop header-width b) e ∙ back) i }
+    pub more-called : (k : ℕ) → r ≡ More k → read-as (More k) (H ++ drop header-width b) ≡ line-call b step
+    unfolding line-call
+    more-called k e =
+        let l = more-led (take header-width b) H step k (by-step e) in
+        (λ i. record { answer = More (l .of-kind i); header = l .holds i ++ drop header-width b }) ∙ sym (ap (line-call b) (l .is))
 
-  -- `end` leaves the store as it was, to be opened
-  end-by : (a : Line-answer) (H : List ℕ) → read-as End H ≡ after-line (take header-width b) a → (a ≡ ends-it) × (H ++ drop header-width b ≡ b)
-  unfolding after-line
-  end-by (leads-on d) H e = let z : End ≡ More (d .kind) = ap (λ (x : Line-done). x .answer) e in contra {b = true} refl (cc)
-  end-by ends-it H e = (refl, ap (λ (x : Line-done). x .header ++ drop header-width b) e ∙ back)
-  end-by is-wrong H e = let z : End ≡ Wrong = ap (λ (x : Line-done). x .answer) e in contra {b = true} refl (cc)
+    pub wrong-called : r ≡ Wrong → read-as Wrong (H ++ drop header-width b) ≡ line-call b step
+    unfolding line-call
+    wrong-called e =
+        let l = wrong-stayed (take header-width b) H step (by-step e) in
+        (λ i. record { answer = Wrong; header = stayed (l .1) i }) ∙ sym (ap (line-call b) (l .0))
 
-  module _ (t : Text) (kind : ℕ) (H : List ℕ) where
-    pub more-called : (r : LineRead) (k : ℕ) → r ≡ More k → read-as r H ≡ after-line (take header-width b) (setup-step t (reading-in kind (take header-width b))) →
-        read-as (More k) (H ++ drop header-width b) ≡ line-call b (setup-step t (reading-in kind b))
-    more-called r k e h =
-        more-by (setup-step t (reading-in kind b)) k H (ap (λ (x : LineRead). read-as x H) (sym e) ∙ h ∙ ap (after-line (take header-width b)) (same-step t kind))
-
-    pub wrong-called : (r : LineRead) → r ≡ Wrong → read-as r H ≡ after-line (take header-width b) (setup-step t (reading-in kind (take header-width b))) →
-        read-as Wrong (H ++ drop header-width b) ≡ line-call b (setup-step t (reading-in kind b))
-    wrong-called r e h =
-        wrong-by (setup-step t (reading-in kind b)) H (ap (λ (x : LineRead). read-as x H) (sym e) ∙ h ∙ ap (after-line (take header-width b)) (same-step t kind))
-
-    module _ (r : LineRead) (e : r ≡ End) (h : read-as r H ≡ after-line (take header-width b) (setup-step t (reading-in kind (take header-width b)))) where
-      ended : (setup-step t (reading-in kind b) ≡ ends-it) × (H ++ drop header-width b ≡ b)
-      ended = end-by (setup-step t (reading-in kind b)) H (ap (λ (x : LineRead). read-as x H) (sym e) ∙ h ∙ ap (after-line (take header-width b)) (same-step t kind))
+    module _ (e : r ≡ End) where
+      ended : (step ≡ ends-it) × (H ++ drop header-width b ≡ b)
+      ended = let l = end-ended (take header-width b) H step (by-step e) in (l .0, stayed (l .1))
 
       pub still-begun : Begun-store (H ++ drop header-width b)
       still-begun = subst Begun-store (sym (ended .1)) w
 
-      pub end-called : (b′ : List ℕ) → b′ ≡ first-store (setup-of (H ++ drop header-width b)) → read-as End b′ ≡ line-call b (setup-step t (reading-in kind b))
+      pub end-called : (b′ : List ℕ) → b′ ≡ first-store (setup-of (H ++ drop header-width b)) → read-as End b′ ≡ line-call b step
       unfolding line-call
       end-called b′ q =
           (λ i. record { answer = End; header = (q ∙ ap (λ (x : List ℕ). first-store (setup-of x)) (ended .1)) i }) ∙ sym (ap (line-call b) (ended .0))
 
 -- ---- a store stays begun
 
-module _ (u : Setup) (b : List ℕ) (h : is-setup u ≡ true) (w : length b ≡ 65536) where
-  front-wide : length (header-bytes u no-sessions) ≡ header-width
-  unfolding no-sessions accounts
-  front-wide = length-header u no-sessions h refl
-
-  held-there : setup-of (headed u b) ≡ u
-  unfolding no-sessions accounts
-  held-there = setup-of-header u no-sessions (drop header-width b) h refl
-
-  pub headed-begun : Begun-store (headed u b)
-  unfolding store-width
-  headed-begun = record {
-    wide = length-append (header-bytes u no-sessions) (drop header-width b) ∙ omega (arith, front-wide, length-drop header-width b, w);
-    in-range = ap is-setup held-there ∙ h;
-    whole = ap₂ (λ (v : Setup) (x : List ℕ). header-bytes v no-sessions ++ x) held-there (drop-at (header-bytes u no-sessions) (drop header-width b) header-width front-wide);
-  }
+pub headed-begun : (u : Setup) (b : List ℕ) → is-setup u ≡ true → length b ≡ 65536 → Begun-store (headed u b)
+unfolding store-width
+headed-begun u b h w =
+    let H = header-bytes u no-sessions in
+    let wide = setup-header-wide u h in
+    let back = headed-holds u b h in
+    record {
+      wide = length-append H (drop header-width b) ∙ omega (arith, wide, length-drop header-width b, w);
+      in-range = ap is-setup back ∙ h;
+      whole = ap₂ (λ (v : Setup) (x : List ℕ). header-bytes v no-sessions ++ x) back (drop-at H (drop header-width b) header-width wide);
+    }
 
 -- before the first line
 pub nothing-begun : (b : List ℕ) → length b ≡ 65536 → Begun-store (headed no-setup b)

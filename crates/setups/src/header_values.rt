@@ -6,19 +6,19 @@ ghost use Prim.Native.Nat.{_+_, _≤_};
 ghost use lib.ListN.{length};
 ghost use lib.Seq.{paste};
 ghost use Rattle.setup.specs.Setup.{is-slot};
-ghost use Rattle.setup.specs.Reader.{slot-value, grant-value};
-ghost use Rattle.store.specs.HeaderLayout.{slot-width, pair-width, grant-width};
+ghost use Rattle.store.specs.HeaderLayout.{slot-width, pair-width, grant-width, password-width};
 ghost use Rattle.accounts.specs.PairBytes.{pair-bytes};
+ghost use Rattle.store.specs.InitialRows.{slot-value};
 ghost use Rattle.store.specs.StoreBytes.{slot-bytes, grant-bytes};
-ghost use Rattle.setups.specs.Writable.{Password-fits};
 use accounts::Pair;
+use accounts::Role;
+use accounts::Uid;
 use buffers::clear;
 use buffers::write_number;
 use buffers::write_padded;
-use setup::Grant;
-use setup::Person;
 use store::PASSWORD;
 use store::PASSWORD_WIDTH;
+use store::Person;
 use store::SLOT;
 
 // Writes the slot of an account: a person's groups, or zeros.
@@ -57,16 +57,11 @@ pub fn write_pair(header: &mut [u8], at: usize, pair: Pair)
 }
 
 // Writes a grant: uid, role, and the password filled up with zeros.
-pub fn write_grant(header: &mut [u8], at: usize, text: &[u8], grant: Grant)
+pub fn write_grant(header: &mut [u8], at: usize, uid: Uid, role: Role, password: &[u8])
     requires { ⌜ at + grant-width ≤ length (now header) ⌝ }
-    requires { ⌜ Password-fits (now text) grant ⌝ }
-    ensures { λ _. ⌜ now (header .exit) ≡ paste (now (header .entry)) at (grant-bytes (grant-value (now (text .entry)) grant)) grant-width ⌝ }
+    requires { ⌜ length (now password) ≤ password-width ⌝ }
+    ensures { λ _. ⌜ now (header .exit) ≡ paste (now (header .entry)) at (grant-bytes (record { uid = uid; role = role; password = now (password .entry) })) grant-width ⌝ }
 {
-    let uid = grant.uid;
-    let role = grant.role;
-    let password = grant.password;
-    let start = password.start;
-    let end = password.end;
     write_two(header, at, uid.0, role.0);
-    write_padded(header, at + PASSWORD, PASSWORD_WIDTH, &text[start..end]);
+    write_padded(header, at + PASSWORD, PASSWORD_WIDTH, password);
 }

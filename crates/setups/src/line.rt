@@ -2,15 +2,16 @@
 ghost use mathlib.Core.Path.{_≡_};
 ghost use mathlib.Core.Bool.{_||_};
 ghost use Prim.Native.Nat.{_≤_, _<_};
+ghost use lib.ListN.{length};
 ghost use Rattle.accounts.specs.Access.{is-root};
 ghost use Rattle.syntax.specs.Form.{is-some};
-ghost use Rattle.syntax.specs.Parts.{span-text};
 ghost use Rattle.lines.specs.SetupLines.{p-line, g-line, r-line, l-line};
 ghost use Rattle.setup.specs.Setup.{person, accept};
 ghost use Rattle.setup.specs.SetupStep.{fitting, setup-step};
+ghost use Rattle.store.specs.HeaderLayout.{password-width};
 ghost use Rattle.store.specs.StoreBytes.{setup-of};
-ghost use Rattle.setups.specs.Writable.{Password-fits};
-ghost use Rattle.setups.specs.LineRead.{Begun, reading-in, read-as, after-line};
+ghost use Rattle.store.specs.SetupHeader.{reading-in};
+ghost use Rattle.setups.specs.LineRead.{Begun, read-as, after-line};
 use crate::LineRead;
 use crate::header_values::write_grant;
 use crate::header_values::write_pair;
@@ -23,12 +24,11 @@ use accounts::Uid;
 use buffers::number;
 use lines::SetupLine;
 use lines::line_at;
-use setup::Grant;
-use setup::Person;
 use store::GRANT;
 use store::GRANTS;
 use store::PAIR;
 use store::PAIRS;
+use store::Person;
 use store::SLOT;
 use syntax::Span;
 use syntax::word_is;
@@ -114,16 +114,14 @@ fn is_known(header: &[u8], uid: Uid) -> bool
     header[at] != 0
 }
 
-// A login grant behind the others, whose password is a part of the line.
-fn add_grant(header: &mut [u8], kind: u8, line: &[u8], grant: Grant) -> LineRead
+// A login grant behind the others.
+fn add_grant(header: &mut [u8], kind: u8, uid: Uid, role: Role, password: &[u8]) -> LineRead
     requires { ⌜ Begun (now header) ⌝ }
     requires { ⌜ kind ≤ 3 ⌝ }
-    requires { ⌜ grant .uid .0 < 16 ⌝ }
-    requires { ⌜ Password-fits (now line) grant ⌝ }
-    ensures { λ r. ⌜ read-as r (now (header .exit))
-        ≡ after-line (now (header .entry)) (fitting (accept (l-line (grant .uid) (grant .role) (span-text (now (line .entry)) (grant .password))) (reading-in kind (now (header .entry))))) ⌝ }
+    requires { ⌜ uid .0 < 16 ⌝ }
+    requires { ⌜ length (now password) ≤ password-width ⌝ }
+    ensures { λ r. ⌜ read-as r (now (header .exit)) ≡ after-line (now (header .entry)) (fitting (accept (l-line uid role (now (password .entry))) (reading-in kind (now (header .entry))))) ⌝ }
 {
-    let uid = grant.uid;
     if !is_known(header, uid) {
         return LineRead::Wrong;
     }
@@ -131,7 +129,7 @@ fn add_grant(header: &mut [u8], kind: u8, line: &[u8], grant: Grant) -> LineRead
     if 32 <= n {
         return LineRead::Wrong;
     }
-    write_grant(header, GRANTS + 1 + GRANT * n as usize, line, grant);
+    write_grant(header, GRANTS + 1 + GRANT * n as usize, uid, role, password);
     header[GRANTS] = n + 1;
     LineRead::More(3)
 }
@@ -154,16 +152,11 @@ pub fn read_line(header: &mut [u8], kind: u8, line: &[u8]) -> LineRead
             uid,
             role,
             password,
-        } => add_grant(
-            header,
-            kind,
-            line,
-            Grant {
-                uid,
-                role,
-                password,
-            },
-        ),
+        } => {
+            let start = password.start;
+            let end = password.end;
+            add_grant(header, kind, uid, role, &line[start..end])
+        }
         SetupLine::Wrong => LineRead::Wrong,
     }
 }

@@ -2,13 +2,12 @@
 use mathlib.Core.Path.{_≡_}
 use mathlib.Core.List.{List}
 use mathlib.Core.Option.{Option, none, some}
-use mathlib.Core.Bool.{Bool, true}
+use mathlib.Core.Bool.{Bool, true, cond}
 use Prim.Native.Nat.{ℕ, _<_}
-use lib.Dec.{ltb}
+use lib.Dec.{eqb, ltb}
 use Rattle.buffers.specs.Text.{Text}
 use Rattle.accounts.specs.declared.Uid.{Uid}
 use Rattle.syntax.specs.Path.{Name, root, _▹_, is-name, path}
-use Rattle.setup.specs.declared.Person.{Person as Slot}
 use Rattle.setup.specs.Setup.{Person, Setup}
 use Rattle.tree.specs.Layout.{most-rows}
 use Rattle.tree.specs.Forest.{Forest, Place, get, put, leaf}
@@ -16,7 +15,15 @@ use Rattle.tree.specs.Node.{Node}
 use Rattle.tree.specs.WellFormed.{nodes}
 use Rattle.tree.specs.Encoding.{encode-tree}
 use Rattle.tree.specs.TreeBytes.{Encodes}
+use Rattle.store.specs.declared.Person.{Person as Slot}
 use Rattle.store.specs.Initial.{home-name, with-home, topped, initial-tree}
+
+-- the person whose slot it is, if it is one's
+unfoldable pub slot-value : Slot → Option Person
+slot-value p = cond (eqb (p .primary .0) 0) none (some (record { primary = p .primary; further = p .further }))
+
+abbrev pub no-slot : Slot
+no-slot = record { primary = record { 0 = 0 }; further = record { 0 = 0 } }
 
 -- the primary group is one of 0 to 15
 unfoldable pub slot-in-range : Slot → Bool

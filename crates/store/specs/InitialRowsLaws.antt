@@ -23,10 +23,7 @@ use Rattle.syntax.specs.Number.{octal, digits-before, decimal-text}
 use Rattle.syntax.specs.Path.{Name, root, _▹_, parent, last, depth, is-top, rep, is-name, most-names, has-names, is-path, path, names-text, path-text}
 use Rattle.syntax.specs.PathLaws.{path-of-text}
 use Rattle.syntax.specs.FormLaws.{no-answer, answered}
-use Rattle.setup.specs.declared.Person.{Person as Slot}
 use Rattle.setup.specs.Setup.{Person, Setup, accounts, person, is-setup}
-use Rattle.setup.specs.Reader.{slot-value}
-use Rattle.setup.specs.ReaderLaws.{no-slot}
 use Rattle.tree.specs.declared.Cause.{Cause}
 use Rattle.tree.specs.Layout.{name-width}
 use Rattle.tree.specs.Result.{done}
@@ -49,8 +46,9 @@ use Rattle.gaps.specs.declared.Room.{Room}
 use Rattle.gaps.specs.declared.Room.the-variants
 use Rattle.gaps.specs.Gaps.{gap-from, gap-told, behind-slash}
 use Rattle.gaps.specs.GapsLaws.{last-in-text, last-fits, Standing, room-to, room-not, stands-insertable, stands-child}
+use Rattle.store.specs.declared.Person.{Person as Slot}
 use Rattle.store.specs.Initial.{directory-of, top-node, rep-node, home-node, home-name, with-home, homes, topped, initial-tree}
-use Rattle.store.specs.InitialRows.{slot-in-range, Opens, Opens-at}
+use Rattle.store.specs.InitialRows.{no-slot, slot-value, slot-in-range, Opens, Opens-at}
 use Rattle.store.specs.InitialLaws.{top-alone, rep-alone, Primaries, setup-primaries, top-whole, rep-open, homes-whole, home-open, initial-by-persons}
 use Rattle.tree.specs.declared.Kind.the-variants.{Directory}
 

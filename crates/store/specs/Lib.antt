@@ -9,7 +9,9 @@ pub mod InitialRows
 pub mod InitialLaws
 pub mod InitialRowsLaws
 pub mod StoreBytes
+pub mod SetupHeader
 pub mod HeaderLaws
+pub mod SetupHeaderLaws
 pub mod StoreBytesLaws
 pub mod DecodeLaws
 pub mod SoundStore

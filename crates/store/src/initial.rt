@@ -6,13 +6,13 @@ ghost use Prim.Native.Nat.{_<_};
 ghost use Rattle.buffers.specs.Text.{every};
 ghost use Rattle.syntax.specs.Path.{Name};
 ghost use Rattle.setup.specs.Setup.{Setup};
-ghost use Rattle.setup.specs.Reader.{slot-value};
 ghost use Rattle.tree.specs.Forest.{Forest, Place};
 ghost use Rattle.tree.specs.Node.{Node};
 ghost use Rattle.tree.specs.Encoding.{encode-tree};
 ghost use Rattle.tree.specs.TreeBytes.{Wide};
 ghost use Rattle.store.specs.Initial.{directory-of, home-name, homes, topped};
-ghost use Rattle.store.specs.InitialRows.{slot-in-range, Opens, Opens-at, Node-put, Home-put, Initial-written};
+ghost use Rattle.store.specs.InitialRows.{slot-value, slot-in-range, Opens, Opens-at, Node-put, Home-put, Initial-written};
+use crate::Person;
 use accounts::Account;
 use accounts::Gid;
 use accounts::Groups;
@@ -23,7 +23,6 @@ use edits::put_child;
 use gaps::Room;
 use gaps::last_name;
 use gaps::room_for;
-use setup::Person;
 use tree::Kind;
 
 // The mode of a home, 0755.

@@ -2,6 +2,8 @@
 mod initial;
 mod layout;
 
+use accounts::Gid;
+use accounts::Groups;
 pub use initial::write_initial;
 pub use layout::GRANT;
 pub use layout::GRANTS;
@@ -14,3 +16,9 @@ pub use layout::SESSIONS;
 pub use layout::SLOT;
 pub use layout::SPARE;
 pub use layout::STORE;
+
+// What an account's slot holds: a person's primary group and further groups; where the primary group is 0 it is no person's.
+pub struct Person {
+    pub primary: Gid,
+    pub further: Groups,
+}

@@ -6,8 +6,7 @@ use native.Mathlib.Omega.{arith}
 use lib.ListN.{length-set}
 use lib.Seq.{paste}
 use denote.Ref.{now}
-use Rattle.setups.specs.HeaderWrittenLaws.{slot-cleared, slot-stored}
-use Rattle.setups.specs.WritableLaws.{further-fits}
+use Rattle.setups.specs.HeaderValuesLaws.{slot-cleared, slot-stored, further-fits}
 use borrow.Author.Needs.{needs}
 use Rattle.setups.proofs.header_values.write_slot.Statement.{statement}
 use Rattle.setups.proofs.header_values.write_slot.Tie as tie

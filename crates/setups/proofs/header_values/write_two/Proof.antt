@@ -2,7 +2,7 @@
 use native.Mathlib.Omega.{arith}
 use lib.ListN.{length-set}
 use denote.Ref.{now}
-use Rattle.setups.specs.HeaderWrittenLaws.{two-stored}
+use Rattle.setups.specs.HeaderValuesLaws.{two-stored}
 use borrow.Author.Needs.{needs}
 use Rattle.setups.proofs.header_values.write_two.Statement.{statement}
 use Rattle.setups.proofs.header_values.write_two.Tie as tie

@@ -9,7 +9,7 @@ use Rattle.accounts.specs.declared.Gid.{Gid}
 use Rattle.accounts.specs.declared.Groups.{Groups}
 use Rattle.accounts.specs.Groups.{no-groups, no-groups-is}
 use Rattle.setup.specs.Setup.{Person, is-slot}
-use Rattle.setup.specs.Reader.{slot-value}
+use Rattle.store.specs.InitialRows.{slot-value}
 use Rattle.store.specs.StoreBytes.{slot-bytes, setup-of}
 use Rattle.setups.specs.LineReadLaws.{late-person, known-person, new-person, begun-wide, slot-empty, slot-filled, wrong-done, slot-done, slot-of-person, first-groups}
 use borrow.Author.Needs.{needs}

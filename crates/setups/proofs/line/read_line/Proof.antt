@@ -1,10 +1,13 @@
 -- `setups::line::read_line` meets its contract: `end`, a line of each kind, or one of no form.
 use mathlib.Core.Path.{refl, sym, ap, _∙_}
 use denote.Ref.{now}
+use native.Mathlib.Omega.{arith}
 use Rattle.syntax.specs.Pieces.{bytes}
+use Rattle.syntax.specs.Parts.{part, span-text}
 use Rattle.setup.specs.SetupLaws.{p-range, g-range, l-range}
-use Rattle.setups.specs.LineRead.{reading-in, after-line}
-use Rattle.setups.specs.LineReadLaws.{told-person, told-group, told-pair, told-grant, told-wrong, password-fits, word-whole, is-the-end, is-a-line, is-no-line}
+use Rattle.store.specs.SetupHeader.{reading-in}
+use Rattle.setups.specs.LineRead.{after-line}
+use Rattle.setups.specs.LineReadLaws.{told-person, told-group, told-pair, told-grant, told-wrong, password-short, word-whole, is-the-end, is-a-line, is-no-line}
 use borrow.Author.Needs.{needs}
 use Rattle.setups.proofs.line.read_line.Statement.{statement}
 use Rattle.setups.proofs.line.read_line.Tie as tie
@@ -50,11 +53,30 @@ add-pair-requires c κs = search needs
 enum-known-uid-3 : tie.Need-enum-known-uid-3
 enum-known-uid-3 c = search needs
 
-add-grant-requires : tie.Need-add-grant-requires
-add-grant-requires c κs =
+sub-add-grant : tie.Need-sub-add-grant
+sub-add-grant c =
     let t = now (c .before .before .before .before .before .before .before .before .before .before .args .line) in
     let i = told-grant t _ _ refl (c .before .before .before .before .line-at .ensures) (c .before .before .uid3 .given .1) in
-    (c .before .before .before .before .before .before .before .before .before .before .pre .0, (c .before .before .before .before .before .before .before .before .before .before .pre .1, (l-range t _ _ _ (i .0), password-fits t _ _ _ i)))
+    i .1 .ordered
+
+part-add-grant-start : tie.Need-part-add-grant-start
+part-add-grant-start c =
+    let t = now (c .before .before .before .before .before .before .before .before .before .before .args .line) in
+    let i = told-grant t _ _ refl (c .before .before .before .before .line-at .ensures) (c .before .before .uid3 .given .1) in
+    omega (arith, i .1 .ordered, i .1 .ends)
+
+part-add-grant-end : tie.Need-part-add-grant-end
+part-add-grant-end c =
+    let t = now (c .before .before .before .before .before .before .before .before .before .before .args .line) in
+    let i = told-grant t _ _ refl (c .before .before .before .before .line-at .ensures) (c .before .before .uid3 .given .1) in
+    omega (arith, i .1 .ordered, i .1 .ends)
+
+add-grant-requires : tie.Need-add-grant-requires
+unfolding span-text part
+add-grant-requires c κs =
+    let t = now (c .before .before .before .before .before .before .before .before .before .before .before .args .line) in
+    let i = told-grant t _ _ refl (c .before .before .before .before .before .line-at .ensures) (c .before .before .before .uid3 .given .1) in
+    (c .before .before .before .before .before .before .before .before .before .before .before .pre .0, (c .before .before .before .before .before .before .before .before .before .before .before .pre .1, (l-range t _ _ _ (i .0), password-short t _ _ _ (i .0))))
 
 enum-told : tie.Need-enum-told
 enum-told c = search needs
@@ -99,13 +121,13 @@ same-length-4 : tie.Need-same-length-4
 same-length-4 c = search needs
 
 returns-5 : tie.Need-returns-5
-unfolding bytes
+unfolding bytes span-text part
 returns-5 c =
-    let a = c .before .before .before .before .before .before .before .before .before .before .before .before .before .args in
+    let a = c .before .before .before .before .before .before .before .before .before .before .before .before .before .before .args in
     let t = now (a .line) in
-    let other = sym (c .before .before .before .before .before .before .before .before .before .word-is .ensures ∙ word-whole t _) ∙ c .before .before .before .before .before .before .before .before .if1 .left in
+    let other = sym (c .before .before .before .before .before .before .before .before .before .before .word-is .ensures ∙ word-whole t _) ∙ c .before .before .before .before .before .before .before .before .before .if1 .left in
     c .before .before .add-grant .ensures
-    ∙ ap (after-line (now (a .header))) (sym (is-a-line t (reading-in (a .kind) (now (a .header))) other (told-grant t _ _ refl (c .before .before .before .before .before .before .before .line-at .ensures) (c .before .before .before .before .before .uid3 .given .1) .0)))
+    ∙ ap (after-line (now (a .header))) (sym (is-a-line t (reading-in (a .kind) (now (a .header))) other (told-grant t _ _ refl (c .before .before .before .before .before .before .before .before .line-at .ensures) (c .before .before .before .before .before .before .uid3 .given .1) .0)))
 
 returns-6 : tie.Need-returns-6
 unfolding bytes after-line
@@ -130,6 +152,9 @@ read-line-spec =
     enum-known-senior
     add-pair-requires
     enum-known-uid-3
+    sub-add-grant
+    part-add-grant-start
+    part-add-grant-end
     add-grant-requires
     enum-told
     same-length

@@ -16,8 +16,7 @@ same-length : tie.Need-same-length
 same-length c = search needs
 
 returns : tie.Need-returns
-unfolding store-width
-returns c = c .before .before .clear .ensures ∙ nothing-cleared (now (c .before .before .before .before .before .args .store)) (c .before .before .before .before .before .pre)
+returns c = c .before .before .clear .ensures ∙ nothing-cleared (now (c .before .before .before .before .before .args .store))
 
 pub begin-store-spec : {M : Type 1} → statement M
 begin-store-spec = tie.close (tie.spec clear-requires same-length returns)

@@ -4,7 +4,7 @@ use native.Mathlib.Omega.{arith}
 use lib.Seq.{length-take-le}
 use denote.Ref.{now}
 use Rattle.store.specs.HeaderLayout.{header-width}
-use Rattle.setups.specs.OpeningLaws.{store-wide, header-begun, more-called, wrong-called, still-begun, end-called}
+use Rattle.setups.specs.OpeningLaws.{store-wide, front-begun, more-called, wrong-called, still-begun, end-called}
 use borrow.Author.Needs.{needs}
 use Rattle.setups.proofs.opening.setup_line.Statement.{statement}
 use Rattle.setups.proofs.opening.setup_line.Tie as tie
@@ -16,7 +16,7 @@ slice-aggregate-read-line : tie.Need-slice-aggregate-read-line
 slice-aggregate-read-line c = sym (length-take-le header-width (now (c .before .before .before .args .store)) (omega (arith, store-wide (now (c .before .before .before .args .store)) (c .before .before .before .pre .0))))
 
 read-line-requires : tie.Need-read-line-requires
-read-line-requires c κs = (header-begun (now (c .before .before .before .args .store)) (c .before .before .before .pre .0), c .before .before .before .pre .1)
+read-line-requires c κs = (front-begun (now (c .before .before .before .args .store)) (c .before .before .before .pre .0), c .before .before .before .pre .1)
 
 enum-known-next : tie.Need-enum-known-next
 enum-known-next c = search needs
@@ -25,7 +25,11 @@ enum-told : tie.Need-enum-told
 enum-told c = search needs
 
 open-store-requires : tie.Need-open-store-requires
-open-store-requires c κs = let b = now (c .before .before .before .before .before .before .before .before .before .args .store) in let t = now (c .before .before .before .before .before .before .before .before .before .args .line) in let k = c .before .before .before .before .before .before .before .before .before .args .kind in still-begun b (c .before .before .before .before .before .before .before .before .before .pre .0) t k (c .before .before .before .before .before .read-line .last .0) (c .before .before .before .before .before .read-line .result) (c .before .enum-told .given .1) (c .before .before .before .before .before .read-line .ensures)
+open-store-requires c κs =
+    let s = c .before .before .before .before .before .before .before .before .before in
+    let a = s .args in
+    let l = c .before .before .before .before .before .read-line in
+    still-begun (now (a .store)) (s .pre .0) (now (a .line)) (a .kind) (l .last .0) (l .result) (l .ensures) (c .before .enum-told .given .1)
 
 enum-told-2 : tie.Need-enum-told-2
 enum-told-2 c = search needs
@@ -34,19 +38,32 @@ same-length : tie.Need-same-length
 same-length c = search needs
 
 returns : tie.Need-returns
-returns c = let b = now (c .before .before .before .before .before .before .before .before .before .args .store) in let t = now (c .before .before .before .before .before .before .before .before .before .args .line) in let k = c .before .before .before .before .before .before .before .before .before .args .kind in more-called b (c .before .before .before .before .before .before .before .before .before .pre .0) t k (c .before .before .before .before .before .read-line .last .0) (c .before .before .before .before .before .read-line .result) (c .before .next .given .0 .0) (c .before .next .given .1) (c .before .before .before .before .before .read-line .ensures)
+returns c =
+    let s = c .before .before .before .before .before .before .before .before .before in
+    let a = s .args in
+    let l = c .before .before .before .before .before .read-line in
+    more-called (now (a .store)) (s .pre .0) (now (a .line)) (a .kind) (l .last .0) (l .result) (l .ensures) (c .before .next .given .0 .0) (c .before .next .given .1)
 
 same-length-2 : tie.Need-same-length-2
 same-length-2 c = search needs
 
 returns-2 : tie.Need-returns-2
-returns-2 c = let b = now (c .before .before .before .before .before .before .before .before .before .before .before .before .args .store) in let t = now (c .before .before .before .before .before .before .before .before .before .before .before .before .args .line) in let k = c .before .before .before .before .before .before .before .before .before .before .before .before .args .kind in end-called b (c .before .before .before .before .before .before .before .before .before .before .before .before .pre .0) t k (c .before .before .before .before .before .before .before .before .read-line .last .0) (c .before .before .before .before .before .before .before .before .read-line .result) (c .before .before .before .before .enum-told .given .1) (c .before .before .before .before .before .before .before .before .read-line .ensures) (c .before .before .open-store .last .0) (c .before .before .open-store .ensures)
+returns-2 c =
+    let s = c .before .before .before .before .before .before .before .before .before .before .before .before in
+    let a = s .args in
+    let l = c .before .before .before .before .before .before .before .before .read-line in
+    let o = c .before .before .open-store in
+    end-called (now (a .store)) (s .pre .0) (now (a .line)) (a .kind) (l .last .0) (l .result) (l .ensures) (c .before .before .before .before .enum-told .given .1) (o .last .0) (o .ensures)
 
 same-length-3 : tie.Need-same-length-3
 same-length-3 c = search needs
 
 returns-3 : tie.Need-returns-3
-returns-3 c = let b = now (c .before .before .before .before .before .before .before .before .args .store) in let t = now (c .before .before .before .before .before .before .before .before .args .line) in let k = c .before .before .before .before .before .before .before .before .args .kind in wrong-called b (c .before .before .before .before .before .before .before .before .pre .0) t k (c .before .before .before .before .read-line .last .0) (c .before .before .before .before .read-line .result) (c .enum-told2 .given .1) (c .before .before .before .before .read-line .ensures)
+returns-3 c =
+    let s = c .before .before .before .before .before .before .before .before in
+    let a = s .args in
+    let l = c .before .before .before .before .read-line in
+    wrong-called (now (a .store)) (s .pre .0) (now (a .line)) (a .kind) (l .last .0) (l .result) (l .ensures) (c .enum-told2 .given .1)
 
 pub setup-line-spec : {M : Type 1} → statement M
 setup-line-spec =

@@ -3,11 +3,11 @@ use mathlib.Core.Path.{_≡_, _∙_, ap}
 use mathlib.Core.List.{List, map}
 use Prim.Native.Nat.{ℕ, _-_, _≤_, _<_}
 use native.Mathlib.Omega.{arith}
-use Rattle.setup.specs.declared.Person.{Person as Slot}
-use Rattle.setup.specs.Reader.{slot-value}
 use Rattle.tree.specs.Encoding.{encode-tree}
 use Rattle.tree.specs.TreeBytes.{Wide}
+use Rattle.store.specs.declared.Person.{Person as Slot}
 use Rattle.store.specs.Initial.{homes, topped}
+use Rattle.store.specs.InitialRows.{slot-value}
 use Rattle.store.specs.InitialRowsLaws.{with-persons, turn-opens, turn-home, turned-all}
 use borrow.Author.Needs.{needs}
 use Rattle.store.proofs.initial.write_initial.Statement.{statement}
