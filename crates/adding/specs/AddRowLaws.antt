@@ -3,18 +3,18 @@
 -- In order: the row as the code writes it (entry-written); the bytes of a place without children; the bytes once the tag is written, and
 -- what is asked of them; the entry put in (add-law).
 use mathlib.Core.Path.{_≡_, sym, _∙_, ap}
-use mathlib.Core.List.{List, [], _++_, append-assoc, append-nil}
+use mathlib.Core.List.{List, [], _++_, append-nil}
 use mathlib.Core.Option.{none}
 use mathlib.Core.Bool.{true}
 use Prim.Native.Nat.{ℕ, suc, _+_, _*_, _≤_}
 use native.Mathlib.Omega.{arith}
-use lib.ListN.{length, take, drop, replicate, length-append, length-replicate, drop-of-length-le}
+use lib.ListN.{length, take, drop, replicate, length-append, length-replicate}
 use lib.Seq.{paste, take-all}
 use borrow.Author.Tests.{le-leb}
 use Rattle.buffers.specs.Text.{Text}
 use Rattle.buffers.specs.Fields.{padded, all-bytes}
 use Rattle.buffers.specs.FieldsLaws.{length-padded}
-use Rattle.buffers.specs.PasteLaws.{paste-piece}
+use Rattle.buffers.specs.PasteLaws.{paste-piece, paste-whole}
 use Rattle.accounts.specs.declared.Role.{Role}
 use Rattle.accounts.specs.Dominance.{Bounded-role}
 use Rattle.syntax.specs.Path.{Name, Path, parent, last, depth, in-rep, entry-location, is-entry-path}
@@ -36,7 +36,7 @@ use Rattle.tree.specs.AlterLaws.{nodes-bare, lesser-bare, unused-bare, Altered-
 use Rattle.tree.specs.Rows.{Row}
 use Rattle.tree.specs.RowPlaces.{place-rows, lesser}
 use Rattle.tree.specs.Encoding.{tag-bytes, row-bytes, encode-tree, row-head, row-spare}
-use Rattle.tree.specs.RowBytesLaws.{row-parts}
+use Rattle.tree.specs.RowBytesLaws.{row-parts, before-content}
 use Rattle.tree.specs.EncodingLaws.{length-fitting}
 use Rattle.tree.specs.RowAt.{row-count, row-at}
 use Rattle.tree.specs.TreeBytes.{Insertable, At}
@@ -55,16 +55,6 @@ use Rattle.entries.specs.LinkLaws.{at-node}
 use Rattle.adding.specs.AddSteps.{after-add, fresh-entry, filled-node, Addition}
 
 -- ---- the row
-
--- the parts of a row before its content gathered
-before-content : (H N T X : List ℕ) → H ++ (N ++ (T ++ X)) ≡ (H ++ (N ++ T)) ++ X
-before-content H N T X = simp append-assoc
-
--- bytes written over all there were
-paste-all : (s r : List ℕ) (n : ℕ) → length s ≡ n → length r ≡ n → paste s 0 r n ≡ r
-paste-all s r n ls lr =
-    ap (λ (x : List ℕ). x ++ drop (0 + n) s) (take-all n r (omega arith))
-    ∙ ap (λ (x : List ℕ). r ++ x) (drop-of-length-le s {i = 0 + n} (omega arith)) ∙ append-nil r
 
 module _ (k : ℕ) (name content : List ℕ) (f : Fresh) (fits : length name ≤ name-width) (short : length content ≤ content-width) where
   -- the content written into the row of a new node
@@ -92,7 +82,7 @@ module _ (k : ℕ) (name content : List ℕ) (f : Fresh) (fits : length name ≤
   entry-written s {s₁} {s₂} {s₃} wide h₁ h₂ h₃ e h₄ =
       let r = row-bytes (fresh-row k name f) in
       let fresh : s₃ ≡ r =
-      h₃ ∙ rw (h₂, h₁) (row-written k name f s 0 (omega (arith, wide)) fits) ∙ paste-all s r row-width wide (length-fresh k name f fits) in
+      h₃ ∙ rw (h₂, h₁) (row-written k name f s 0 (omega (arith, wide)) fits) ∙ paste-whole s r row-width wide (length-fresh k name f fits) in
       h₄ ∙ rw (e, fresh) content-filled
 
 -- ---- a place without children

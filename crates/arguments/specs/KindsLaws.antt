@@ -6,28 +6,22 @@ use mathlib.Core.Option.{Option, none, some}
 use mathlib.Core.Bool.{Bool, true, false, _&&_}
 use Prim.Native.Nat.{ℕ, zero, suc, _/_, _%_, _≤_, _<_}
 use native.Mathlib.Omega.{arith}
-use borrow.Author.Tests.{ne-eqb, lt-ltb, le-ltb, le-leb, leb-true, leb-false}
+use borrow.Author.Tests.{lt-ltb, le-ltb, le-leb, leb-true, leb-false}
 use lib.Dec.{leb, ltb}
 use lib.ListN.{length, take, getD}
-use Rattle.buffers.specs.Cases.{case, and-both, contra}
+use Rattle.buffers.specs.Cases.{case, and-both}
 use Rattle.buffers.specs.Text.{Text}
-use Rattle.syntax.specs.Number.{decimal, between, mode, set-gid, is-mode}
+use Rattle.syntax.specs.Number.{decimal, between, mode, set-gid}
 use Rattle.syntax.specs.Form.{_>>=_, _>>_, check, is-some}
 use Rattle.syntax.specs.Path.{is-name, path, entry-path}
 use Rattle.syntax.specs.Field.{uid, gid, bounded-by, bounded, role, plain-mode, password, is-content, content}
 use Rattle.syntax.specs.Parts.{span-text, Inside}
-use Rattle.syntax.specs.FormLaws.{no-answer, then-none, the-some}
-use Rattle.syntax.specs.FieldLaws.{between-gives, mode-gives, read-byte}
+use Rattle.syntax.specs.FormLaws.{no-answer, is-none, then-none, the-some}
+use Rattle.syntax.specs.FieldLaws.{between-gives, read-byte}
 use Rattle.syntax.specs.PartsLaws.{inside-text}
 use Rattle.arguments.specs.declared.ArgumentKind.{ArgumentKind}
 use Rattle.arguments.specs.declared.ArgumentKind.the-variants as a
 use Rattle.arguments.specs.Kinds.{reader, Makes, arguments-of, zero-if, number-in, path-in, entry-in, Argument, value, values-of}
-
--- what is no answer is none
-pub is-none : {A : Type 0} (m : Option A) → is-some m ≡ false → m ≡ none
-unfolding is-some
-is-none none e = refl
-is-none (some a) e = contra {b = true} refl e
 
 bounded-some : (n : ℕ) → is-some (bounded n) ≡ ltb n 8
 unfolding bounded bounded-by is-some
@@ -56,18 +50,14 @@ role-read n t e =
     let i : _ = and-both (leb 0 n) (leb n 7) (between-gives 0 7 t n (sym e)) in
     (rw (read-byte 0 7 n t e (omega arith)) same, ap is-some same ∙ (bounded-some n ∙ lt-ltb n 8 (omega (arith, leb-true n 7 (i .1)))))
 
--- the mode of a new file is a mode less than 512
-pub plain-read : (m : ℕ) (t : Text) → some m ≡ mode t → m < 512 → some m ≡ plain-mode t
-unfolding plain-mode set-gid check _>>=_ _>>_
-plain-read m t e h = rw (← e, ne-eqb (m / 512) 2 (λ k. omega arith))
-
-great-mode : (m : ℕ) → is-mode m ≡ true → 512 ≤ m → set-gid m ≡ true
-unfolding is-mode
-great-mode m e h = rw (le-ltb m 512 h) at e
-
-pub plain-not-read : (m : ℕ) (t : Text) → some m ≡ mode t → 512 ≤ m → none ≡ plain-mode t
+-- the mode of a new file is a mode without set-gid
+pub plain-read : (m : ℕ) (t : Text) → some m ≡ mode t → set-gid m ≡ false → some m ≡ plain-mode t
 unfolding plain-mode check _>>=_ _>>_
-plain-not-read m t e h = rw (← e, great-mode m (mode-gives t m (sym e)) h)
+plain-read m t e h = rw (← e, h)
+
+pub plain-not-read : (m : ℕ) (t : Text) → some m ≡ mode t → set-gid m ≡ true → none ≡ plain-mode t
+unfolding plain-mode check _>>=_ _>>_
+plain-not-read m t e h = rw (← e, h)
 
 pub no-plain-mode : (t : Text) → none ≡ mode t → none ≡ plain-mode t
 unfolding plain-mode _>>=_

@@ -9,6 +9,7 @@ ghost use Rattle.arguments.specs.Kinds.{zero-if, number-in};
 use crate::ArgumentKind;
 use syntax::Number;
 use syntax::Span;
+use syntax::has_set_gid;
 use syntax::is_content;
 use syntax::is_entry_path;
 use syntax::is_path;
@@ -46,17 +47,17 @@ fn mode_at(line: &[u8], s: Span) -> Number
     mode(&line[start..end])
 }
 
-// The mode of a new file that a part of the line is: one that begins with 0.
+// The mode of a new file that a part of the line is: one without set-gid.
 fn file_mode_at(line: &[u8], s: Span) -> Number
     requires { ⌜ Inside s (now line) ⌝ }
     ensures { λ r. ⌜ number-of r ≡ plain-mode (span-text (now (line .entry)) s) ⌝ }
 {
     match mode_at(line, s) {
         Number::Value(m) => {
-            if m < 512 {
-                Number::Value(m)
-            } else {
+            if has_set_gid(m) {
                 Number::Nothing
+            } else {
+                Number::Value(m)
             }
         }
         Number::Nothing => Number::Nothing,

@@ -13,8 +13,10 @@ use crate::Deed;
 use accounts::Account;
 use accounts::Gid;
 use accounts::Right;
+use syntax::has_set_gid;
 use tree::Cause;
 use tree::Kind;
+use tree::is_directory;
 use tree::kind_at;
 use tree::owner_at;
 use walks::Walked;
@@ -49,22 +51,12 @@ fn judged_twice(
     judged(second, other, row, above)
 }
 
-// Whether a kind is a file's.
-fn is_file(kind: Kind) -> bool
-    ensures { λ r. ⌜ r ≡ not (is-directory kind) ⌝ }
-{
-    match kind {
-        Kind::File => true,
-        Kind::Directory => false,
-    }
-}
-
 // Whether a kind allows a mode: set-gid on directories only.
 fn fits_mode(kind: Kind, mode: u16) -> bool
     ensures { λ r. ⌜ r ≡ (is-directory kind || not (set-gid mode)) ⌝ }
 {
     match kind {
-        Kind::File => mode / 512 != 2,
+        Kind::File => !has_set_gid(mode),
         Kind::Directory => true,
     }
 }
@@ -90,7 +82,7 @@ fn test_write(tree: &[u8], account: Account, row: usize, above: usize) -> Walked
     requires { ⌜ Has-row (now tree) row ⌝ }
     ensures { λ r. ⌜ outcome r ≡ passed (tests account Write (row-at (now (tree .entry)) row .here)) row above ⌝ }
 {
-    let file = is_file(kind_at(tree, row));
+    let file = !is_directory(kind_at(tree, row));
     let may = may_at(tree, row, account, Right::W);
     judged_twice(file, Cause::WrongKind, may, Cause::Access, row, above)
 }

@@ -1,7 +1,9 @@
 -- Case analysis on a test, keeping what it came to, and what a call answered by the test of its answer.
 use mathlib.Core.Path.{_≡_, refl, sym, _∙_}
 use mathlib.Core.Bool.{Bool, true, false, true≢false, _&&_, _||_, not}
-use borrow.Author.Tests.{not-true, not-false}
+use Prim.Native.Nat.{ℕ}
+use lib.Dec.{eqb}
+use borrow.Author.Tests.{not-true, not-false, eqb-true, eqb-false, eq-eqb, ne-eqb}
 
 -- by a test, with what it came to
 pub case : {P : Type 0} (b : Bool) → (b ≡ true → P) → (b ≡ false → P) → P
@@ -22,6 +24,12 @@ pub neither : (a b : Bool) → not (a || b) ≡ true → (a ≡ false) × (b ≡
 neither true b e = contra refl (sym e)
 neither false true e = contra refl (sym e)
 neither false false e = (refl, refl)
+
+-- numbers are equal either way round
+pub eqb-flip : (a b : ℕ) → eqb a b ≡ eqb b a
+eqb-flip a b = case (eqb b a)
+    (λ t. eq-eqb a b (sym (eqb-true b a t)) ∙ sym t)
+    (λ t. ne-eqb a b (λ e. eqb-false b a t (sym e)) ∙ sym t)
 
 -- what a call answered, from a test of its answer turned round
 pub answers-false : {r t : Bool} → r ≡ t → not r ≡ true → t ≡ false

@@ -1,11 +1,11 @@
 -- Stretches of bytes replaced: what the loop that clears does turn by turn, and several pastes as one.
 use mathlib.Core.Path.{_≡_, refl, ap, sym, _∙_}
-use mathlib.Core.List.{List, [], _∷_, _++_, append-assoc}
+use mathlib.Core.List.{List, [], _∷_, _++_, append-assoc, append-nil}
 use Prim.Native.Nat.{ℕ, suc, _+_, _-_, _/_, _%_, _≤_, _<_}
 use native.Mathlib.Omega.{arith}
 use native.Mathlib.Numerals.{add-one}
 use native.Mathlib.Nat.{zero-add}
-use lib.ListN.{length, take, drop, set, replicate, length-append, length-replicate, getD-replicate}
+use lib.ListN.{length, take, drop, set, replicate, length-append, length-replicate, getD-replicate, drop-of-length-le}
 use lib.Seq.{paste, paste-suc, length-take-le, take-append-le, take-take, take-at, drop-at, length-paste, take-paste, drop-paste, drop-drop, take-all, set-split}
 use Rattle.buffers.specs.Fields.{two-bytes, padded}
 
@@ -46,6 +46,12 @@ paste-piece A B old new at n l e f =
     let rest : drop (at + n) (A ++ (old ++ B)) ≡ B =
     ap (drop (at + n)) (sym (append-assoc A old B)) ∙ drop-at (A ++ old) B (at + n) (length-append A old ∙ omega arith) in
     rw (first, all, rest) (append-assoc A new B)
+
+-- bytes written over all there were
+pub paste-whole : (s x : List ℕ) (n : ℕ) → length s ≡ n → length x ≡ n → paste s 0 x n ≡ x
+paste-whole s x n e f =
+    ap (λ (y : List ℕ). y ++ drop (0 + n) s) (take-all n x (omega arith))
+    ∙ ap (λ (y : List ℕ). x ++ y) (drop-of-length-le s {i = 0 + n} (omega arith)) ∙ append-nil x
 
 -- a byte stored is a piece of one
 pub set-paste : (s : List ℕ) (i v : ℕ) → i < length s → set s i v ≡ paste s i (v ∷ []) 1

@@ -14,6 +14,11 @@ use Rattle.buffers.specs.declared.Order.the-variants.{Before, Same, Afte
 use Rattle.buffers.specs.Cases.{case, and-both, contra}
 use Rattle.buffers.specs.Text.{Text, same-text, precedes, every, order-of}
 
+-- a text without length has no bytes
+pub no-bytes : (s : Text) → length s ≡ 0 → s ≡ []
+no-bytes [] e = refl
+no-bytes (b ∷ s) e = let z : ⊥ = omega arith in absurd z
+
 -- a text is the same as itself
 pub same-text-refl : (s : Text) → same-text s s ≡ true
 unfolding same-text
@@ -65,6 +70,10 @@ precedes-trans (a ∷ s) (b ∷ t) (c ∷ u) h k = first-bytes a b s t h
     (λ d j. first-bytes b c t u k
     (λ m. first-less a c s u (omega arith))
     (λ e i. rw (first-equal a c s u (omega arith)) (precedes-trans s t u j i)))
+
+-- of two texts only one precedes the other
+pub precedes-asym : (s t : Text) → precedes s t ≡ true → precedes t s ≡ false
+precedes-asym s t h = case (precedes t s) (λ k. contra (precedes-trans s t s h k) (precedes-irrefl s)) (λ k. k)
 
 -- of two different texts one precedes the other
 pub precedes-total : (s t : Text) → same-text s t ≡ false → precedes s t ≡ false → precedes t s ≡ true

@@ -19,7 +19,7 @@ use Rattle.line_fields.specs.declared.Fields.{Fields}
 use Rattle.line_fields.specs.FieldsRead.{argument-texts, Fields-inside}
 use Rattle.syntax.specs.Pieces.{comma, pieces}
 use Rattle.arguments.specs.Kinds.{arguments-of, number-in, path-in, entry-in, Argument}
-use Rattle.arguments.specs.KindsLaws.{is-none, count-refused, one-refused, three-read}
+use Rattle.arguments.specs.KindsLaws.{count-refused, one-refused, three-read}
 use Rattle.commands.specs.declared.Word.{Word}
 use Rattle.arguments.specs.declared.ArgumentKind.the-variants as a
 use Rattle.commands.specs.declared.Shape.{Shape}
@@ -30,7 +30,7 @@ use Rattle.commands.specs.declared.Parsed.{Parsed}
 use Rattle.commands.specs.declared.Parsed.the-variants.{Line as Is-line, NoForm}
 use Rattle.syntax.specs.Number.{between}
 use Rattle.syntax.specs.Form.{_>>=_, is-some, by-form}
-use Rattle.syntax.specs.FormLaws.{no-answer, both-read, answered, then-none, the-some}
+use Rattle.syntax.specs.FormLaws.{no-answer, is-none, both-read, answered, then-none, the-some}
 use Rattle.syntax.specs.Path.{Path, Entry-path, path, entry-path}
 use Rattle.syntax.specs.Field.{uid, bounded-by, bounded}
 use Rattle.syntax.specs.FieldLaws.{read-byte}

@@ -21,7 +21,7 @@ use Rattle.tree.specs.Layout.{row-width, row-start, name-width, tag-offset, tag
 use Rattle.tree.specs.Node.{Tag, Node, set-tag}
 use Rattle.tree.specs.Rows.{Row}
 use Rattle.tree.specs.Encoding.{tag-bytes, row-bytes, read-row, row-spare, row-head}
-use Rattle.tree.specs.RowBytesLaws.{length-tag-bytes, node-parts, row-parts, length-row-head}
+use Rattle.tree.specs.RowBytesLaws.{regroup-tag, length-tag-bytes, node-parts, row-parts, length-row-head}
 use Rattle.tree.specs.RowAt.{row-bytes-at, row-at, tag-text-at}
 use Rattle.tree.specs.TreeBytes.{Has-row}
 use Rattle.tree.specs.RowAtLaws.{row-name-fits}
@@ -190,9 +190,6 @@ pub depth-of-bytes : (r : Row Node) → read-row (row-bytes r) .depth ≡ r .dep
 unfolding read-row row-bytes two-bytes
 depth-of-bytes r = refl
 
-before-number : (H N P L R : List ℕ) → H ++ (N ++ ((P ++ L) ++ R)) ≡ (H ++ N) ++ (P ++ (L ++ R))
-before-number H N P L R = simp append-assoc
-
 -- the row of a copy
 module _ (w : Copier) (k : ℕ) (n : Name) (g : Gid) (e : Entry-path) (x : Node) where
   pub copy-fitting : length n ≤ name-width → length (x .content) ≤ content-width → is-entry-path e ≡ true → Fitting (tagged-row w k n g e x)
@@ -211,7 +208,7 @@ module _ (w : Copier) (k : ℕ) (n : Name) (g : Gid) (e : Entry-path) (x : Node)
       let R = padded content-width (x .content) ++ row-spare in
       let fit = entry-text-fits e valid in
       let l : length (H ++ N) ≡ 16 = length-append H N ∙ omega (arith, length-row-head r, length-padded name-width n ln) in
-      ap (text-at tag-offset tag-width) (row-parts r ∙ before-number H N P L R) ∙ text-at-padded (H ++ N) (L ++ R) tag-offset tag-width (entry-text e) l (fit .0) (fit .1)
+      ap (text-at tag-offset tag-width) (row-parts r ∙ regroup-tag H N P L R) ∙ text-at-padded (H ++ N) (L ++ R) tag-offset tag-width (entry-text e) l (fit .0) (fit .1)
 
   module _ (o : List ℕ) (to : ℕ) (ln : length n ≤ name-width) (lc : length (x .content) ≤ content-width) (valid : is-entry-path e ≡ true) (room : row-start to ≤ length o) where
     -- and where it was written

@@ -16,6 +16,7 @@ use edits::Fresh;
 use edits::write_head;
 use node_fields::set_tag;
 use node_fields::set_tag_below;
+use syntax::MOST_NAMES;
 use tree::FIRST;
 use tree::Kind;
 use tree::NAME;
@@ -27,9 +28,6 @@ use tree::name_at;
 use tree::revision_at;
 use tree::subtree_end;
 use walks::readable_at;
-
-// A path has at most six names, so there are no more levels below an entry.
-const LEVELS: usize = 6;
 
 // The copy of a file is 0600, of a directory 0700.
 fn copy_mode(kind: Kind) -> u16
@@ -179,5 +177,6 @@ pub fn copy_entry(
         → Written (now (out .entry)) 0 (entry-rows j depth (now (name .entry))) r (now (out .exit))) ⌝ }
 {
     copy_first(tree, at, who, group, depth, name, path, out);
-    copy_children(tree, at, LEVELS, who, out, 0, 1)
+    // a path has no more names, so there are no more levels below an entry
+    copy_children(tree, at, MOST_NAMES, who, out, 0, 1)
 }

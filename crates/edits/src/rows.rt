@@ -16,6 +16,8 @@ use buffers::write_many;
 use buffers::write_number;
 use buffers::write_padded;
 use tree::BEHIND_NAME;
+use tree::DIRECTORY;
+use tree::FILE;
 use tree::FIRST;
 use tree::Kind;
 use tree::MODE;
@@ -57,8 +59,8 @@ fn kind_byte(kind: Kind) -> u8
     ensures { λ r. ⌜ r ≡ kind-byte kind ⌝ }
 {
     match kind {
-        Kind::File => b'f',
-        Kind::Directory => b'd',
+        Kind::File => FILE,
+        Kind::Directory => DIRECTORY,
     }
 }
 

@@ -2,7 +2,7 @@
 -- steps lead to, and each change of the bytes is that of the tree.
 --
 -- In order:
---   a step that was refused, and tests before an answer: refused-first, tests-then;
+--   tests before an answer: tests-then;
 --   the walk to a node that passes tests, as to a file: judged-came to file-walked;
 --   from a working file to its entry: has-tag to entry-refused;
 --   both: link-came, link-refused, links-not, links-to, and what a link is: Link-facts to linked-above;
@@ -17,6 +17,7 @@ use native.Mathlib.Omega.{arith}
 use lib.Dec.{eqb}
 use lib.ListN.{length}
 use borrow.Author.Tests.{not-true, eqb-false, leb-true, le-leb}
+use Rattle.buffers.specs.TextLaws.{no-bytes}
 use Rattle.buffers.specs.Fields.{two-bytes}
 use Rattle.accounts.specs.declared.Account.{Account}
 use Rattle.accounts.specs.declared.Right.{Right}
@@ -27,7 +28,7 @@ use Rattle.tree.specs.declared.Cause.{Cause}
 use Rattle.tree.specs.declared.Cause.the-variants.{Access, WrongKind, Stale, Untagged, RevisionsSpent}
 use Rattle.tree.specs.Layout.{revision-offset, tag-revision-offset, content-offset}
 use Rattle.tree.specs.Result.{Result, refused, done, _>>=_, _>>_, require, present}
-use Rattle.tree.specs.ResultLaws.{not-done, present-some, present-of, present-none, required, bind-done, then-done, done-bind, refused-bind, then-bind}
+use Rattle.tree.specs.ResultLaws.{present-some, present-of, present-none, required, bind-done, then-done, refused-before, done-bind, refused-bind, then-bind}
 use Rattle.tree.specs.Forest.{Place, update, alter}
 use Rattle.tree.specs.Node.{is-directory, Tag, Node, allows, set-revision, set-tag, set-content}
 use Rattle.tree.specs.NodeLaws.{node-ranges, node-of-revision, node-of-tag, node-of-content, kind-of-set-revision, kind-of-set-tag, kind-of-set-content}
@@ -50,7 +51,7 @@ use Rattle.walks.specs.declared.Walked.{Walked}
 use Rattle.walks.specs.declared.Walked.the-variants
 use Rattle.walks.specs.RowWalk.{Spot, spot, outcome}
 use Rattle.walks.specs.WalkBytes.{spot-of, Came, spot-from}
-use Rattle.walks.specs.WalkBytesLaws.{by-result, came-to, came-not, came-spot}
+use Rattle.walks.specs.WalkBytesLaws.{came-to, came-not, came-spot}
 use Rattle.machine.specs.Machine.{tagged}
 use Rattle.machine.specs.StoreMachine.{next-node}
 use Rattle.entries.specs.declared.Links.{Links}
@@ -58,12 +59,6 @@ use Rattle.entries.specs.declared.Links.the-variants.{To, Refused}
 use Rattle.entries.specs.EntrySteps.{file-tests, judged-walk, file-walk, Link, link-on, link, commit-tests, commit-link, after-commit, after-up, Link-rows, link-rows, three-rows, link-rows-from, passing, links-told, Linked}
 
 -- ---- steps and tests
-
--- a step that cannot fail is refused only before
-refused-first : {A B : Type 0} (w : Result A) (f : A → B) {k : Cause} → (w >>= λ d. done (f d)) ≡ refused k → w ≡ refused k
-refused-first w f {k} e = by-result w
-    (λ c q. let i = rw (q, refused-bind) at e in let j : c ≡ k = cc in q ∙ ap refused j)
-    (λ d q. let i = rw (q, done-bind) at e in not-done (sym i))
 
 -- tests before an answer, and before the step to it
 pub tests-then : {A B : Type 0} (r : Result (Unit {0})) (d : A) (f : A → B) → (r >> done (f d)) ≡ ((r >> done d) >>= λ y. done (f y))
@@ -122,10 +117,6 @@ file-walked a right t p {d} e =
     (w .0, not-true (is-directory (d .here .kind)) (required (not (is-directory (d .here .kind))) WrongKind (i .0)))
 
 -- ---- from a working file to its entry
-
-no-bytes : (s : List ℕ) → length s ≡ 0 → s ≡ []
-no-bytes [] e = refl
-no-bytes (x ∷ s) e = let z : ⊥ = omega arith in absurd z
 
 -- no tag
 pub link-on-missing : (account : Account) (t : Place Node) (p : Path) (d : Place Node) → d .here .tag ≡ none → link-on account t p d ≡ refused Untagged
@@ -206,7 +197,7 @@ module _ (person account : Account) (right : Right) (t : Place Node) (w : Path) 
 module _ (t : Place Node) (steps : Result Link) {r : Links} (o : links-told r ≡ link-rows-from t steps) where
   pub links-not : {k : Cause} → r ≡ Refused k → steps ≡ refused k
   unfolding links-told
-  links-not e = refused-first steps (link-rows t) (sym o ∙ ap links-told e)
+  links-not e = refused-before steps (link-rows t) (sym o ∙ ap links-told e)
 
   pub links-to : {i k a : ℕ} → r ≡ To i k a → (l : Link) × (steps ≡ done l) × (link-rows t l ≡ three-rows i k a)
   unfolding links-told

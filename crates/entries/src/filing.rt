@@ -19,12 +19,10 @@ use node_fields::set_revision;
 use node_fields::set_tag_revision;
 use shell::Answer;
 use tree::Cause;
+use tree::LAST_REVISION;
 use tree::revision_at;
 use tree::tag_revision_at;
 use walks::may_at;
-
-// No entry has a revision past this.
-const LAST_REVISION: u16 = 9999;
 
 // Whether the working file may be filed: w above the entry, the entry's revision the tag's, and not the last.
 fn judge_commit(tree: &[u8], account: Account, working: usize, entry: usize, above: usize) -> Links

@@ -5,6 +5,7 @@ ghost use Rattle.tree.specs.RowAt.{row-at};
 ghost use Rattle.tree.specs.TreeBytes.{Has-row};
 use accounts::Caller;
 use accounts::Gid;
+use syntax::has_set_gid;
 use tree::group_at;
 use tree::mode_at;
 
@@ -13,7 +14,7 @@ pub fn new_group(tree: &[u8], row: usize, caller: Caller) -> Gid
     requires { ⌜ Has-row (now tree) row ⌝ }
     ensures { λ r. ⌜ r ≡ new-group caller (row-at (now (tree .entry)) row .here) ⌝ }
 {
-    if mode_at(tree, row) / 512 == 2 {
+    if has_set_gid(mode_at(tree, row)) {
         return group_at(tree, row);
     }
     caller.primary

@@ -13,8 +13,7 @@ use lib.ListN.{length, take, drop, getElem?, length-drop}
 use lib.Seq.{take-all}
 use Rattle.buffers.specs.Text.{Text}
 use Rattle.syntax.specs.Form.{is-some}
-use Rattle.syntax.specs.FormLaws.{the-some}
-use Rattle.arguments.specs.KindsLaws.{is-none}
+use Rattle.syntax.specs.FormLaws.{is-none, the-some}
 use Rattle.setup.specs.Setup.{Setup, Setup-answer, accepted, wrong-line, setup}
 use Rattle.tree.specs.declared.Cause.{Cause}
 use Rattle.tree.specs.declared.Cause.the-variants.{Missing, Unsound, ShortAnswer}

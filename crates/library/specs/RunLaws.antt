@@ -10,7 +10,7 @@ use Rattle.buffers.specs.Text.{Text}
 use Rattle.accounts.specs.declared.Caller.{Caller}
 use Rattle.accounts.specs.declared.Uid.{Uid}
 use Rattle.syntax.specs.Form.{is-some}
-use Rattle.arguments.specs.KindsLaws.{is-none}
+use Rattle.syntax.specs.FormLaws.{is-none}
 use Rattle.commands.specs.Command.{Command, line}
 use Rattle.tree.specs.declared.Cause.the-variants.{NoForm, UnknownCaller, Unsound, ShortAnswer}
 use Rattle.tree.specs.Result.{refused, done, _>>=_}

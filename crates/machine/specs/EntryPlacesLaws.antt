@@ -4,7 +4,7 @@ use mathlib.Core.Option.{Option, none, some, Option·map, map-eq-some-iff}
 use mathlib.Core.Bool.{true, false, not}
 use Prim.Native.Nat.{ℕ}
 use lib.ListN.{getD}
-use Rattle.buffers.specs.Cases.{and-both, contra}
+use Rattle.buffers.specs.Cases.{and-both}
 use Rattle.buffers.specs.Text.{Text}
 use Rattle.accounts.specs.declared.Caller.{Caller}
 use Rattle.accounts.specs.declared.Uid.{Uid}
@@ -16,7 +16,7 @@ use Rattle.commands.specs.Command.{Command}
 use Rattle.setup.specs.Setup.{Setup}
 use Rattle.setup.specs.SetupLaws.{accepted-is-setup}
 use Rattle.tree.specs.declared.Kind.{Kind}
-use Rattle.tree.specs.declared.Kind.the-variants.{File, Directory}
+use Rattle.tree.specs.JudgeLaws.{a-directory}
 use Rattle.tree.specs.declared.Cause.the-variants.{NoSession}
 use Rattle.tree.specs.Result.{done, Outcome}
 use Rattle.tree.specs.ResultLaws.{present-some}
@@ -26,7 +26,6 @@ use Rattle.tree.specs.ForestLaws.{leaf-map}
 use Rattle.tree.specs.RootedLaws.{rooted-put, rooted-drop, rooted-alter}
 use Rattle.tree.specs.Node.{is-directory, Node, set-tag, owns}
 use Rattle.tree.specs.Walk.{Judge, by-modes, walk, parent-walk, unused}
-use Rattle.tree.specs.JudgeLaws.{file-is-none}
 use Rattle.tree.specs.StepLaws.{was-unused, parent-walked}
 use Rattle.tree.specs.UpdateLaws.{place-at-child, walked-at}
 use Rattle.tree.specs.OtherPathLaws.{changed-at}
@@ -181,11 +180,6 @@ tagged-tied {h} t t′ {w} o e revision made d there = (
   place-tied t o ∙ there,
   place-tied t′ o ∙ ap (λ b. place-at b w) made ∙ changed-at (h .workspace) w (alter (set-tag (record { path = e; revision = revision }))) d there,
 )
-
--- what is of a directory's kind
-a-directory : (k : Kind) → is-directory k ≡ true → k ≡ Directory
-a-directory File b = contra b file-is-none
-a-directory Directory b = refl
 
 -- a role writes in the store where the abstract machine says so
 writes-met : (u : Setup) (z : Bounded-role) (x : Filed) → filed-writable u z x ≡ true → Writes-in u z (met x)

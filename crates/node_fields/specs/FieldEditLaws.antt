@@ -25,7 +25,7 @@ use Rattle.tree.specs.RowPlaces.{index-of}
 use Rattle.tree.specs.RowPlacesLaws.{around}
 use Rattle.tree.specs.RowChangesLaws.{alter-rows}
 use Rattle.tree.specs.Encoding.{kind-byte, tag-bytes, row-bytes, encode-rows, encode-tree, row-head, row-spare}
-use Rattle.tree.specs.RowBytesLaws.{length-tag-bytes, node-parts, length-row-head, row-parts}
+use Rattle.tree.specs.RowBytesLaws.{before-content, length-tag-bytes, node-parts, length-row-head, row-parts}
 use Rattle.tree.specs.EncodingLaws.{fits, fits-parts}
 use Rattle.tree.specs.TreeBytes.{At}
 use Rattle.edits.specs.Changes.{field-bytes, field-put}
@@ -100,9 +100,6 @@ abbrev name-of : Row Node → List ℕ
 name-of r = padded name-width (r .name)
 
 -- the parts of a row gathered around one of them
-regroup-three : (H N T R : List ℕ) → H ++ (N ++ (T ++ R)) ≡ (H ++ (N ++ T)) ++ R
-regroup-three H N T R = simp append-assoc
-
 regroup-four : (H N T B R : List ℕ) → H ++ (N ++ ((T ++ B) ++ R)) ≡ (H ++ (N ++ T)) ++ (B ++ R)
 regroup-four H N T B R = simp append-assoc
 
@@ -160,7 +157,7 @@ module _ (t : Place Node) (p : Path) (d : Place Node) (h : is-tree t ≡ true) (
 
   -- the content, where it stands
   content-parts : (x : Node) → row-bytes (row-there p x) ≡ (row-head (row-there p x) ++ (name-of (row-there p (d .here)) ++ tag-bytes (x .tag))) ++ (padded content-width (x .content) ++ row-spare)
-  content-parts x = row-parts (row-there p x) ∙ regroup-three (row-head (row-there p x)) (name-of (row-there p (d .here))) (tag-bytes (x .tag)) (padded content-width (x .content) ++ row-spare)
+  content-parts x = row-parts (row-there p x) ∙ before-content (row-head (row-there p x)) (name-of (row-there p (d .here))) (tag-bytes (x .tag)) (padded content-width (x .content) ++ row-spare)
 
   length-before-content : length (row-head (row-there p (d .here)) ++ (name-of (row-there p (d .here)) ++ tag-bytes (d .here .tag))) ≡ content-offset
   length-before-content = length-so-far (d .here) (tag-bytes (d .here .tag)) whole-tag-width (length-tag-bytes (d .here .tag) tag-fits-there)

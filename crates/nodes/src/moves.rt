@@ -14,14 +14,12 @@ use gaps::Room;
 use gaps::room_for;
 use moving::move_place;
 use shell::Answer;
+use syntax::MOST_NAMES;
 use tree::Cause;
 use walks::Walked;
 use walks::height_below;
 use walks::may_at;
 use walks::walk;
-
-// A path has so many names at most.
-const MOST_NAMES: usize = 6;
 
 // Whether the node of a row may be moved out of the directory above to a path: room there, w above, not into itself, not too deep.
 fn may_move_row(

@@ -16,15 +16,11 @@ use edits::put_rows;
 use gaps::last_name;
 use gaps::new_group;
 use shell::Answer;
+use syntax::MOST_NAMES;
 use tree::Cause;
 use tree::FIRST;
+use tree::MOST_ROWS;
 use tree::count;
-
-// A path has at most six names.
-const MOST_NAMES: u8 = 6;
-
-// A tree has at most 256 nodes.
-const MOST_NODES: usize = 256;
 
 // Makes the copies in a buffer: too deep 19, then too many 10.
 fn copies_for(
@@ -47,10 +43,10 @@ fn copies_for(
     let caller = who.caller;
     let group = new_group(tree, row, caller);
     let n = copy_entry(tree, filed, who, group, depth, last_name(to), entry, out);
-    if deepest_copy(out, n) > MOST_NAMES {
+    if deepest_copy(out, n) as usize > MOST_NAMES {
         return Copies::Refused(Cause::TooDeep);
     }
-    if count(tree) + n > MOST_NODES {
+    if count(tree) + n > MOST_ROWS {
         return Copies::Refused(Cause::Full);
     }
     Copies::Ready(n)

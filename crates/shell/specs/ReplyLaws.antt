@@ -1,13 +1,13 @@
--- Laws of replies: a text leaves the answer buffer its length, and its own length is told.
-use mathlib.Core.Path.{_≡_, refl, _∙_, ap}
+-- Laws of replies: a text leaves the answer buffer its length.
+use mathlib.Core.Path.{_≡_, refl, _∙_}
 use mathlib.Core.List.{List, _++_}
 use mathlib.Core.Option.{none, some}
 use Prim.Native.Nat.{ℕ, _≤_}
 use native.Mathlib.Omega.{arith}
-use lib.ListN.{length, getD, drop, length-append, length-drop}
+use lib.ListN.{length, drop, length-append, length-drop}
 use Rattle.buffers.specs.Text.{Text}
 use Rattle.shell.specs.declared.Answer.the-variants
-use Rattle.shell.specs.Replies.{Reply, ok, refusal, written, Told, told}
+use Rattle.shell.specs.Replies.{Reply, ok, refusal, written}
 
 -- a text that fits leaves the answer buffer's length
 fits-length : (t answer : Text) → length t ≤ length answer → length (t ++ drop (length t) answer) ≡ length answer
@@ -23,8 +23,3 @@ unfolding written
 written-length (ok none) answer h = refl
 written-length (ok (some t)) answer h = fits-length t answer (h t refl)
 written-length (refusal why) answer h = refl
-
--- the length of a text is told
-pub told-length : (n m : ℕ) → told (the-variants.Text n) ≡ told (the-variants.Text m) → n ≡ m
-unfolding told
-told-length n m e = ap (λ (t : Told). getD (t .values) 0 0) e

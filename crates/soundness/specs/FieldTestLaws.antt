@@ -1,7 +1,7 @@
 -- What the code goes by where it tests one row: each test by the bytes at the row's place among all.
 use mathlib.Core.Path.{_≡_, sym, _∙_, ap, ap₂}
 use mathlib.Core.List.{List}
-use mathlib.Core.Bool.{Bool, true, false, _&&_, _||_, and-false}
+use mathlib.Core.Bool.{Bool, true, false, _&&_, and-false}
 use Prim.Native.Nat.{ℕ, _+_, _-_, _≤_, _<_}
 use native.Mathlib.Omega.{arith}
 use lib.Dec.{eqb, leb, ltb}
@@ -20,7 +20,7 @@ use Rattle.tree.specs.Encoding.{read-row}
 use Rattle.tree.specs.RowAt.{row-bytes-at, row-at, tag-text-at, tag-number-at}
 use Rattle.tree.specs.RowAtLaws.{byte-in-row}
 use Rattle.soundness.specs.Sound.{is-row}
-use Rattle.soundness.specs.Tests.{has-numbers, has-tag, has-content, may-fill, may-stand, neighbours-pass, row-test}
+use Rattle.soundness.specs.Tests.{is-kind-byte, has-numbers, has-tag, has-content, may-fill, may-stand, neighbours-pass, row-test}
 use Rattle.soundness.specs.RowTestLaws.{length-text-at, row-test-is}
 use Rattle.soundness.specs.NeighbourLaws.{pass-alike}
 use Rattle.soundness.specs.FilledLaws.{filled-by-bytes, empty-by-first, content-by-bytes}
@@ -44,9 +44,9 @@ module _ (b : List ℕ) (i : ℕ) where
       zeros-between (k + n) l h j ∙ ap (λ (m : ℕ). zeros-at m (row-start i + l - m) b) q
 
   -- the numbers: kind
-  pub numbers-kind : (eqb (getD b (row-start i + kind-offset) 0) 100 || eqb (getD b (row-start i + kind-offset) 0) 102) ≡ false → has-numbers (row-bytes-at b i) ≡ false
+  pub numbers-kind : is-kind-byte (getD b (row-start i + kind-offset) 0) ≡ false → has-numbers (row-bytes-at b i) ≡ false
   unfolding has-numbers
-  numbers-kind e = rw (ap (λ (k : ℕ). eqb k 100 || eqb k 102) (byte-in-row b i 1 (omega arith)) ∙ e)
+  numbers-kind e = rw (ap is-kind-byte (byte-in-row b i 1 (omega arith)) ∙ e)
 
   -- owner
   pub numbers-owner : 23 < getD b (row-start i + owner-offset) 0 → has-numbers (row-bytes-at b i) ≡ false
@@ -64,12 +64,12 @@ module _ (b : List ℕ) (i : ℕ) where
   numbers-mode e = simp (e, and-false)
 
   -- and revision
-  pub numbers-revision : (eqb (getD b (row-start i + kind-offset) 0) 100 || eqb (getD b (row-start i + kind-offset) 0) 102) ≡ true → getD b (row-start i + owner-offset) 0 ≤ 23 → getD b (row-start i + group-offset) 0 ≤ 24
-      → is-mode (row-at b i .here .mode) ≡ true → has-numbers (row-bytes-at b i) ≡ leb (row-at b i .here .revision) 9999
-  unfolding has-numbers row-at read-row last-revision
+  pub numbers-revision : is-kind-byte (getD b (row-start i + kind-offset) 0) ≡ true → getD b (row-start i + owner-offset) 0 ≤ 23 → getD b (row-start i + group-offset) 0 ≤ 24
+      → is-mode (row-at b i .here .mode) ≡ true → has-numbers (row-bytes-at b i) ≡ leb (row-at b i .here .revision) last-revision
+  unfolding has-numbers row-at read-row
   numbers-revision k o g m =
       rw (
-        ap (λ (k : ℕ). eqb k 100 || eqb k 102) (byte-in-row b i 1 (omega arith)) ∙ k,
+        ap is-kind-byte (byte-in-row b i 1 (omega arith)) ∙ k,
         lt-ltb (getD (row-bytes-at b i) 2 0) 24 (omega (arith, byte-in-row b i 2 (omega arith))),
         lt-ltb (getD (row-bytes-at b i) 3 0) 25 (omega (arith, byte-in-row b i 3 (omega arith))),
         m,
@@ -119,8 +119,8 @@ module _ (b : List ℕ) (i : ℕ) where
 
     -- and one that is
     pub tag-filled : (n : ℕ) → is-some (entry-path (tag-text-at b i)) ≡ true → n ≡ length (tag-text-at b i)
-        → zeros-at (row-start i + tag-offset + n) (row-start i + tag-revision-offset - (row-start i + tag-offset + n)) b ≡ true → has-tag (row-bytes-at b i) ≡ leb (tag-number-at b i) 9999
-    unfolding has-tag tag-text-at tag-number-at last-revision
+        → zeros-at (row-start i + tag-offset + n) (row-start i + tag-revision-offset - (row-start i + tag-offset + n)) b ≡ true → has-tag (row-bytes-at b i) ≡ leb (tag-number-at b i) last-revision
+    unfolding has-tag tag-text-at tag-number-at
     tag-filled n s e z = rw s (rw (filled-in-row tag-offset tag-width n (omega arith) e ∙ z))
 
     -- the content: its bytes, what the kind allows, and the zeros behind

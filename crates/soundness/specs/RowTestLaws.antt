@@ -10,8 +10,8 @@ use native.Mathlib.Omega.{arith}
 use lib.Dec.{eqb, leb, ltb}
 use lib.ListN.{length, getD, take, drop, replicate, take-append-drop, length-drop, length-append}
 use lib.Seq.{take-add, drop-drop, drop-cons, length-take-le, take-nil, take-all}
-use borrow.Author.Tests.{eqb-true, eq-eqb, eqb-false, ne-eqb}
-use Rattle.buffers.specs.Cases.{case}
+use borrow.Author.Tests.{eqb-true, eq-eqb}
+use Rattle.buffers.specs.Cases.{case, eqb-flip}
 use Rattle.buffers.specs.Text.{Text, same-text, every}
 use Rattle.buffers.specs.TextLaws.{same-text-refl, every-append}
 use Rattle.buffers.specs.Fields.{two-bytes, number-at, padded, unpadded, text-at, all-zero, zeros-at, is-filled}
@@ -27,7 +27,7 @@ use Rattle.tree.specs.WellFormed.{last-revision, is-tag, fits-kind, is-node}
 use Rattle.syntax.specs.ParentLaws.{text-of-entry}
 use Rattle.tree.specs.Encoding.{kind-byte, kind-of, tag-bytes, tag-of, row-bytes, read-row}
 use Rattle.soundness.specs.Sound.{is-row}
-use Rattle.soundness.specs.Tests.{has-numbers, has-tag, has-content, row-test}
+use Rattle.soundness.specs.Tests.{is-kind-byte, has-numbers, has-tag, has-content, row-test}
 
 -- ---- bytes written and read
 
@@ -47,11 +47,6 @@ same-part i w a b x h l =
     ap (same-text (a ++ b)) (sym (take-append-drop w (drop i x)))
     ∙ same-append a b (take w (drop i x)) (drop w (drop i x)) (h ∙ sym n)
     ∙ ap (λ (y : List ℕ). same-text a (take w (drop i x)) && same-text b y) (drop-drop w i x)
-
-pub eqb-flip : (a b : ℕ) → eqb a b ≡ eqb b a
-eqb-flip a b = case (eqb b a)
-    (λ t. eq-eqb a b (sym (eqb-true b a t)) ∙ sym t)
-    (λ t. ne-eqb a b (λ e. eqb-false b a t (sym e)) ∙ sym t)
 
 same-zeros : (l : List ℕ) → same-text (replicate (length l) 0) l ≡ all-zero l
 unfolding same-text all-zero every
@@ -124,8 +119,8 @@ shuffled true true true true true c z = refl
 -- ---- the parts of a row
 
 -- a kind is written as it is read where its byte is one of a kind
-same-kind-byte : (b : ℕ) → eqb (kind-byte (kind-of b)) b ≡ (eqb b 100 || eqb b 102)
-unfolding kind-byte kind-of
+same-kind-byte : (b : ℕ) → eqb (kind-byte (kind-of b)) b ≡ is-kind-byte b
+unfolding kind-byte kind-of is-kind-byte
 same-kind-byte b = case (eqb b 100)
     (λ t. rw t (eq-eqb 100 b (sym (eqb-true b 100 t))))
     (λ t. rw t (eqb-flip 102 b))
@@ -185,7 +180,7 @@ module _ (x : List ℕ) (h : length x ≡ row-width) (small : (k : ℕ) → getD
 
   -- the whole row, part by part
   same-row : same-text (row-bytes (read-row x)) x
-      ≡ ((eqb (getD x 1 0) 100 || eqb (getD x 1 0) 102)
+      ≡ (is-kind-byte (getD x 1 0)
       && (is-filled name-offset name-width x && (same-text (tag-bytes (tag-of (text-at tag-offset tag-width x) (number-at tag-revision-offset x))) (take whole-tag-width (drop tag-offset x)) && (is-filled content-offset content-width x && zeros-at base-offset base-width x))))
   unfolding row-bytes read-row
   same-row =
@@ -217,7 +212,7 @@ module _ (x : List ℕ) (h : length x ≡ row-width) (small : (k : ℕ) → getD
   unfolding row-test is-row is-node has-numbers has-content read-row
   row-test-is =
       let T = tag-of (text-at tag-offset tag-width x) (number-at tag-revision-offset x) in
-      let k = eqb (getD x 1 0) 100 || eqb (getD x 1 0) 102 in
+      let k = is-kind-byte (getD x 1 0) in
       let a = (ltb (getD x 2 0) 24 && ltb (getD x 3 0) 25) && (is-mode (number-at mode-offset x) && leb (number-at revision-offset x) last-revision) in
       let f = is-filled name-offset name-width x in
       let t = is-tag T in

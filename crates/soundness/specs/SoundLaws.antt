@@ -12,7 +12,7 @@ use lib.Seq.{take-add, take-at, drop-at, drop-drop}
 use borrow.Author.Tests.{leb-true, le-leb, eqb-true, eq-eqb}
 use Rattle.buffers.specs.Cases.{case, and-both, contra}
 use Rattle.buffers.specs.Text.{same-text, every}
-use Rattle.buffers.specs.TextLaws.{same-text-refl, same-text-sound}
+use Rattle.buffers.specs.TextLaws.{no-bytes, same-text-refl, same-text-sound}
 use Rattle.buffers.specs.Fields.{two-bytes, all-bytes, all-from, all-zero}
 use Rattle.buffers.specs.TableLaws.{length-all-bytes}
 use Rattle.syntax.specs.Form.{is-some}
@@ -73,10 +73,6 @@ stretches-of (r ∷ rs) Q h =
 
 -- ---- the rows of a tree
 
-no-name : (n : List ℕ) → length n ≡ 0 → n ≡ []
-no-name [] h = refl
-no-name (b ∷ n) h = let z : ⊥ = omega arith in absurd z
-
 -- rows that form a tree are those of a well-formed one
 tree-of-form : (rs : List (Row Node)) → form-tree rs ≡ true → every (λ r. is-node (r .here)) rs ≡ true → length rs ≤ 256
     → (t : Place Node) × ((is-tree t ≡ true) × (rows t ≡ rs))
@@ -91,7 +87,7 @@ tree-of-form (r ∷ rs) h v l =
     let f = forest-of-rows k rs (w .1) (i .1) in
     let t : Place Node = record { here = r .here; below = f .0 } in
     let d = eqb-true (r .depth) 0 (m .0) in
-    let n = no-name (r .name) (eqb-true (length (r .name)) 0 (m .1)) in
+    let n = no-bytes (r .name) (eqb-true (length (r .name)) 0 (m .1)) in
     let e : rows t ≡ r ∷ rs = ap₂ _∷_ (λ i. record { depth = sym d i; name = sym n i; here = r .here }) (sym (f .1 .0)) in
     let q = length-rows t in
     let c : length (rows t) ≡ length (r ∷ rs) = ap length e in (

@@ -12,15 +12,20 @@ use Rattle.syntax.specs.Field.{content-byte, is-content}
 use Rattle.syntax.specs.Form.{is-some}
 use Rattle.tree.specs.Layout.{mode-offset, revision-offset, name-offset, name-width, tag-offset, tag-width, tag-revision-offset, whole-tag-width, content-offset, content-width, tail-width}
 use Rattle.tree.specs.WellFormed.{last-revision, fits-kind}
-use Rattle.tree.specs.Encoding.{kind-of}
+use Rattle.tree.specs.Encoding.{kind-byte, kind-of}
 use Rattle.tree.specs.declared.Kind.{Kind}
+use Rattle.tree.specs.declared.Kind.the-variants.{File, Directory}
 use Rattle.tree.specs.RowAt.{all-rows, row-at}
 use Rattle.soundness.specs.Sound.{is-row, row-stretches, in-order, may-follow}
+
+-- a byte says what a node is
+unfoldable pub is-kind-byte : ℕ → Bool
+is-kind-byte b = eqb b (kind-byte Directory) || eqb b (kind-byte File)
 
 -- kind, owner, group, mode and revision are in range
 unfoldable pub has-numbers : List ℕ → Bool
 has-numbers x =
-    (eqb (getD x 1 0) 100 || eqb (getD x 1 0) 102)
+    is-kind-byte (getD x 1 0)
     && ((ltb (getD x 2 0) 24 && ltb (getD x 3 0) 25) && (is-mode (number-at mode-offset x) && leb (number-at revision-offset x) last-revision))
 
 -- the tag's fields are zero, or an entry path filled up and a revision

@@ -11,12 +11,12 @@ mod row;
 mod zeros;
 
 use order::in_order;
-use row::is_directory;
 use row::is_row;
 use tree::FIRST;
 use tree::MOST_ROWS;
 use tree::ROW;
 use tree::TREE;
+use tree::is_directory;
 pub use zeros::is_zero_in_blocks;
 
 // Whether the first row is that of `/`.

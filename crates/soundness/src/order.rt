@@ -5,9 +5,10 @@ ghost use Prim.Native.Nat.{_-_, _≤_, _<_};
 ghost use Rattle.tree.specs.RowAt.{row-count, row-at};
 ghost use Rattle.tree.specs.TreeBytes.{Has-row, Sized};
 ghost use Rattle.soundness.specs.Tests.{may-follow-at, rest-in-order};
-use crate::row::is_directory;
 use crate::row::is_row;
 use buffers::Order;
+use syntax::MOST_NAMES;
+use tree::is_directory;
 
 // Whether a row may follow the one before it, where the row at its depth last seen is given.
 fn may_follow(tree: &[u8], i: usize, beside: usize) -> bool
@@ -53,7 +54,7 @@ pub fn in_order(tree: &[u8], n: usize) -> bool
             return false;
         }
         let depth = tree::depth_at(tree, i) as usize;
-        if 6 < depth {
+        if MOST_NAMES < depth {
             return false;
         }
         if !may_follow(tree, i, last[depth]) {

@@ -1,6 +1,5 @@
 // The bytes of one row, field by field.
 ghost use mathlib.Core.Path.{_≡_};
-ghost use mathlib.Core.Bool.{_||_};
 ghost use mathlib.Core.List.{List};
 ghost use Prim.Native.Nat.{ℕ, _+_, _-_, _<_};
 ghost use lib.Dec.{eqb};
@@ -8,18 +7,21 @@ ghost use lib.ListN.{length};
 ghost use Rattle.buffers.specs.Fields.{is-filled};
 ghost use Rattle.syntax.specs.Number.{is-mode};
 ghost use Rattle.tree.specs.Layout.{name-offset, name-width};
-ghost use Rattle.tree.specs.Node.{is-directory};
 ghost use Rattle.tree.specs.WellFormed.{fits-kind};
 ghost use Rattle.tree.specs.RowAt.{row-bytes-at};
 ghost use Rattle.tree.specs.TreeBytes.{Has-row};
 ghost use Rattle.soundness.specs.Sound.{is-row};
-ghost use Rattle.soundness.specs.Tests.{has-numbers, has-tag, has-content, may-stand, neighbours-pass};
+ghost use Rattle.soundness.specs.Tests.{is-kind-byte, has-numbers, has-tag, has-content, may-stand, neighbours-pass};
 use buffers::is_zero;
+use syntax::has_set_gid;
 use tree::CONTENT;
+use tree::DIRECTORY;
+use tree::FILE;
 use tree::FIRST;
 use tree::GROUP;
 use tree::KIND;
 use tree::Kind;
+use tree::LAST_REVISION;
 use tree::NAME;
 use tree::NAME_WIDTH;
 use tree::OWNER;
@@ -32,12 +34,12 @@ const LONGEST: usize = 64;
 
 // Whether a byte says what a node is.
 fn is_kind(b: u8) -> bool
-    ensures { λ r. ⌜ r ≡ (eqb b 100 || eqb b 102) ⌝ }
+    ensures { λ r. ⌜ r ≡ is-kind-byte b ⌝ }
 {
-    if b == b'd' {
+    if b == DIRECTORY {
         return true;
     }
-    b == b'f'
+    b == FILE
 }
 
 // Whether a number is a mode.
@@ -47,17 +49,7 @@ fn is_mode(mode: u16) -> bool
     if mode < 512 {
         return true;
     }
-    mode / 512 == 2
-}
-
-// Whether a kind is that of a directory.
-pub fn is_directory(kind: Kind) -> bool
-    ensures { λ r. ⌜ r ≡ is-directory kind ⌝ }
-{
-    match kind {
-        Kind::File => false,
-        Kind::Directory => true,
-    }
+    has_set_gid(mode)
 }
 
 // Whether a kind allows a mode and a content, empty or not: set-gid on directories only, content in files only.
@@ -65,7 +57,7 @@ fn fits_kind(kind: Kind, mode: u16, empty: bool) -> bool
     ensures { λ r. ⌜ ((t : List ℕ) → empty ≡ eqb (length t) 0 → r ≡ fits-kind kind mode t) ⌝ }
 {
     match kind {
-        Kind::File => mode / 512 != 2,
+        Kind::File => !has_set_gid(mode),
         Kind::Directory => empty,
     }
 }
@@ -88,7 +80,7 @@ fn has_numbers(tree: &[u8], i: usize) -> bool
     if !is_mode(tree::mode_at(tree, i)) {
         return false;
     }
-    tree::revision_at(tree, i) <= 9999
+    tree::revision_at(tree, i) <= LAST_REVISION
 }
 
 // Whether zeros fill up the name: behind a zero stands none but a zero. All bytes are looked at, as in `all_stand`.
@@ -120,7 +112,7 @@ fn has_tag(tree: &[u8], i: usize) -> bool
     if !is_zero(tree, at + TAG + n, at + TAG_REVISION) {
         return false;
     }
-    tree::tag_revision_at(tree, i) <= 9999
+    tree::tag_revision_at(tree, i) <= LAST_REVISION
 }
 
 // Whether a byte may stand before the next in a content filled up: a byte of a content before any, a zero before a zero.

@@ -14,6 +14,12 @@ use Rattle.syntax.specs.Form.{_>>=_, _>>_, check, is-some, Form, none-of
 pub no-answer : {A P : Type 0} {a : A} → none ≡ some a → P
 no-answer e = contra {b = true} refl (cc)
 
+-- what is no answer is none
+pub is-none : {A : Type 0} (m : Option A) → is-some m ≡ false → m ≡ none
+unfolding is-some
+is-none none e = refl
+is-none (some a) e = contra {b = true} refl e
+
 -- two steps that answer have both answered
 pub both-read : {A B : Type 0} (m : Option A) (f : A → Option B) (b : B) → (m >>= f) ≡ some b → (a : A) × (m ≡ some a) × (f a ≡ some b)
 unfolding _>>=_

@@ -7,6 +7,7 @@ mod render;
 mod text;
 
 pub use numerals::between;
+pub use numerals::has_set_gid;
 pub use numerals::mode;
 pub use parts::name_at;
 pub use parts::number_at;
@@ -20,6 +21,9 @@ pub use text::field_at;
 pub use text::is_content;
 pub use text::is_name;
 pub use text::piece_end;
+
+// A path has at most so many names.
+pub const MOST_NAMES: usize = 6;
 
 // A part of a text: the bytes from start up to end.
 pub struct Span {

@@ -4,7 +4,7 @@ ghost use mathlib.Core.Bool.{true};
 ghost use Prim.Native.Nat.{_≤_, _<_};
 ghost use lib.ListN.{length};
 ghost use Rattle.buffers.specs.Text.{every};
-ghost use Rattle.syntax.specs.Number.{digit, value-after, no-leading-zero, between as between-of, mode as mode-of};
+ghost use Rattle.syntax.specs.Number.{digit, value-after, no-leading-zero, between as between-of, mode as mode-of, set-gid};
 ghost use Rattle.syntax.specs.Parts.{number-of};
 use crate::Class;
 use crate::Number;
@@ -80,4 +80,11 @@ pub fn mode(s: &[u8]) -> Number
         return Number::Nothing;
     }
     Number::Value(value(s, 8))
+}
+
+// Whether a mode has set-gid: its first octal digit is 2.
+pub fn has_set_gid(mode: u16) -> bool
+    ensures { λ r. ⌜ r ≡ set-gid mode ⌝ }
+{
+    mode / 512 == 2
 }

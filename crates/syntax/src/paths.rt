@@ -5,6 +5,7 @@ ghost use lib.ListN.{length};
 ghost use Rattle.syntax.specs.Form.{is-some};
 ghost use Rattle.syntax.specs.Path.{path, entry-path};
 ghost use Rattle.syntax.specs.Parts.{next-name, last-slash};
+use crate::MOST_NAMES;
 use crate::Names;
 use crate::NextName;
 use crate::text::is_name;
@@ -28,7 +29,7 @@ pub fn is_path(s: &[u8]) -> bool
     let mut count: usize = 0;
     loop {
         let end = piece_end(s, at, 47);
-        if count == 6 {
+        if count == MOST_NAMES {
             return false;
         }
         if !is_name(&s[at..end]) {

@@ -24,7 +24,7 @@ kind-byte File = 102
 kind-byte Directory = 100
 
 unfoldable pub kind-of : ℕ → Kind
-kind-of b = cond (eqb b 100) Directory File
+kind-of b = cond (eqb b (kind-byte Directory)) Directory File
 
 unfoldable pub tag-bytes : Option Tag → List ℕ
 tag-bytes none = replicate whole-tag-width 0

@@ -3,6 +3,7 @@ use mathlib.Core.Path.{_≡_, refl, sym}
 use mathlib.Core.Option.{some}
 use mathlib.Core.Bool.{true, false, _&&_, _||_, not}
 use Prim.Native.Nat.{ℕ}
+use Rattle.buffers.specs.Cases.{contra}
 use Rattle.buffers.specs.Text.{Text}
 use Rattle.syntax.specs.Path.{Path, last, is-top}
 use Rattle.accounts.specs.declared.Right.{Right}
@@ -20,6 +21,11 @@ use Rattle.tree.specs.Walk.{by-modes, unused, parent-walk, room}
 pub file-is-none : is-directory File ≡ false
 unfolding is-directory
 file-is-none = refl
+
+-- what is of a directory's kind
+pub a-directory : (k : Kind) → is-directory k ≡ true → k ≡ Directory
+a-directory File h = contra h file-is-none
+a-directory Directory h = refl
 
 pub directory-is-one : is-directory Directory ≡ true
 unfolding is-directory

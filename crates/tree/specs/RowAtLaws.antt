@@ -30,7 +30,7 @@ use Rattle.tree.specs.Rows.{Row, rows}
 use Rattle.tree.specs.WellFormed.{is-tree}
 use Rattle.tree.specs.RowScan.{span, is-deeper, first-depth, depth-of, end-of-subtree, order-in, child-by, child-from, child-in}
 use Rattle.tree.specs.RowScanLaws.{span-go, span-stop, span-end, child-from-row, child-from-end}
-use Rattle.tree.specs.Encoding.{kind-of, read-row, encode-tree}
+use Rattle.tree.specs.Encoding.{kind-byte, kind-of, read-row, encode-tree}
 use Rattle.tree.specs.EncodingLaws.{rows-of-encoded}
 use Rattle.tree.specs.RowAt.{row-count, row-bytes-at, row-at, all-rows, tag-text-at}
 
@@ -65,12 +65,12 @@ module _ (b : List ℕ) (i : ℕ) where
 
   -- the kind is the second: `d` for a directory
   pub directory-in-row : getD b (row-start i + kind-offset) 0 ≡ 100 → row-at b i .here .kind ≡ Directory
-  unfolding row-at read-row kind-of
+  unfolding row-at read-row kind-of kind-byte
   directory-in-row e = rw (eq-eqb (getD (row-bytes-at b i) 1 0) 100 (byte-in-row 1 (omega arith) ∙ e))
 
   -- and anything else for a file
   pub file-in-row : (getD b (row-start i + kind-offset) 0 ≡ 100 → ⊥) → row-at b i .here .kind ≡ File
-  unfolding row-at read-row kind-of
+  unfolding row-at read-row kind-of kind-byte
   file-in-row e = rw (ne-eqb (getD (row-bytes-at b i) 1 0) 100 (λ q. e (sym (byte-in-row 1 (omega arith)) ∙ q)))
 
 -- its texts have no more bytes than their fields

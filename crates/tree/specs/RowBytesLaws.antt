@@ -66,10 +66,15 @@ tag-of-parts none h = rw no-entry
 tag-of-parts (some t) h =
     rw (entry-of-text (t .path) (and-both (is-entry-path (t .path)) (leb (t .revision) last-revision) h .0))
 
-regroup-tag : (h n t v q : List ℕ) → h ++ (n ++ ((t ++ v) ++ q)) ≡ (h ++ n) ++ (t ++ (v ++ q))
+-- the parts of a row before its tag's path gathered
+pub regroup-tag : (h n t v q : List ℕ) → h ++ (n ++ ((t ++ v) ++ q)) ≡ (h ++ n) ++ (t ++ (v ++ q))
 regroup-tag h n t v q = simp append-assoc
 
--- a tag takes 56 bytes
+-- those before its content
+pub before-content : (h n t q : List ℕ) → h ++ (n ++ (t ++ q)) ≡ (h ++ (n ++ t)) ++ q
+before-content h n t q = simp append-assoc
+
+-- a tag takes its path's width and two bytes
 pub length-tag-bytes : (o : Option Tag) → is-tag o ≡ true → length (tag-bytes o) ≡ whole-tag-width
 unfolding two-bytes
 length-tag-bytes o h =

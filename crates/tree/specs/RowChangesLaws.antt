@@ -12,9 +12,9 @@ use mathlib.Core.Bool.{true, false}
 use Prim.Native.Nat.{ℕ, suc, _+_}
 use native.Mathlib.Omega.{arith}
 use lib.ListN.{length, length-append}
-use Rattle.buffers.specs.Cases.{case, and-both, contra}
+use Rattle.buffers.specs.Cases.{case, and-both}
 use Rattle.buffers.specs.Text.{same-text, precedes}
-use Rattle.buffers.specs.TextLaws.{same-text-sound, precedes-irrefl, precedes-trans, precedes-total, precedes-differ}
+use Rattle.buffers.specs.TextLaws.{same-text-sound, precedes-irrefl, precedes-trans, precedes-asym, precedes-total, precedes-differ}
 use Rattle.syntax.specs.Path.{Name, Path, _▹_, last, depth}
 use Rattle.syntax.specs.FormLaws.{no-answer}
 use Rattle.tree.specs.Forest.{Forest, nil, node, Place, get, insert, remove, under, update, place-at, alter, put, drop, size}
@@ -38,10 +38,6 @@ forest-sorted (node n x cs rest) h = let v = forest-parts n (record { here = x; 
 -- and so do those anywhere in a well-formed tree
 pub tree-sorted : (t : Place Node) (p : Path) (d : Place Node) → is-tree t ≡ true → place-at t p ≡ some d → sorted (d .below) ≡ true
 tree-sorted t p d h e = forest-sorted (d .below) (place-parts d (place-below t p d (tree-parts t h .whole) e) .forest)
-
--- of two names only one precedes the other
-precedes-asym : (n m : Name) → precedes n m ≡ true → precedes m n ≡ false
-precedes-asym n m h = case (precedes m n) (λ t. contra (precedes-trans n m n h t) (precedes-irrefl n)) (λ t. t)
 
 module _ {A : Type 0} (n : Name) where
   -- a name that leads siblings in order precedes each of theirs

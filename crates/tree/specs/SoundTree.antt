@@ -14,7 +14,7 @@ use Rattle.syntax.specs.Field.{is-content}
 use Rattle.tree.specs.declared.Kind.the-variants.{Directory}
 use Rattle.tree.specs.Forest.{Forest, nil, node, Place, is-empty, height, names}
 use Rattle.tree.specs.Node.{Tag, Node}
-use Rattle.tree.specs.WellFormed.{nodes}
+use Rattle.tree.specs.WellFormed.{last-revision, nodes}
 
 -- what holds of every place in a forest: of each node with all that lies below it
 unfoldable pub Throughout : {A : Type 0} → Forest A → (Place A → Type 0) → Type 0
@@ -35,7 +35,7 @@ pub record Tag-in-range (t : Tag) : Type 0 where
   -- "an entry path"
   pub path : is-entry-path (t .path) ≡ true
   -- "with a revision": 0 to 9999
-  pub revision : t .revision ≤ 9999
+  pub revision : t .revision ≤ last-revision
 
 -- the ranges of a node's values
 pub record In-range (n : Node) : Type 0 where
@@ -48,7 +48,7 @@ pub record In-range (n : Node) : Type 0 where
   -- "2 is set-gid, directories only"
   pub set-gid-on-directories-only : set-gid (n .mode) ≡ true → n .kind ≡ Directory
   -- 0 to 9999, where "revisions spent"
-  pub revision : n .revision ≤ 9999
+  pub revision : n .revision ≤ last-revision
   -- "a tag: an entry path with a revision, or none"
   pub tag : (t : Tag) → n .tag ≡ some t → Tag-in-range t
   -- "Content is 0 to 64 bytes of 32 to 126 without comma"

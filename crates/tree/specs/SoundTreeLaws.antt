@@ -8,12 +8,12 @@ use native.Mathlib.Omega.{arith}
 use borrow.Author.Tests.{ltb-true, lt-ltb, leb-true, le-leb, not-true}
 use Rattle.buffers.specs.Cases.{case, and-both, contra}
 use Rattle.buffers.specs.Text.{same-text, precedes, every}
-use Rattle.buffers.specs.TextLaws.{precedes-irrefl, precedes-trans, precedes-total, precedes-differ, every-implies}
+use Rattle.buffers.specs.TextLaws.{precedes-asym, precedes-total, precedes-differ, every-implies}
 use Rattle.syntax.specs.Number.{set-gid}
 use Rattle.syntax.specs.Path.{Name, Path, root, _▹_, depth, is-name}
 use Rattle.syntax.specs.FormLaws.{no-answer, answered, both}
 use Rattle.tree.specs.declared.Kind.{Kind}
-use Rattle.tree.specs.declared.Kind.the-variants.{File, Directory}
+use Rattle.tree.specs.declared.Kind.the-variants.{Directory}
 use Rattle.tree.specs.Forest.{Forest, nil, node, Place, get, is-empty, place-at, names}
 use Rattle.tree.specs.ForestLaws.{differ-sym}
 use Rattle.tree.specs.Node.{is-directory, Node}
@@ -21,6 +21,8 @@ use Rattle.tree.specs.WellFormed.{last-revision, is-node, leads, is-fore
 use Rattle.tree.specs.UpdateLaws.{place-at-parent, height-below}
 use Rattle.tree.specs.NodeLaws.{node-ranges, node-of-ranges}
 use Rattle.tree.specs.WellFormedLaws.{place-parts, place-of-parts, forest-parts, forest-of-parts, tree-parts, tree-of-parts, forest-nil, leads-nil, leads-node, leads-before}
+use Rattle.tree.specs.SizeLaws.{names-are-names}
+use Rattle.tree.specs.JudgeLaws.{a-directory}
 use Rattle.tree.specs.SoundTree.{Throughout, Everywhere, no-two, In-range, Sound-tree}
 
 -- ---- kinds
@@ -29,14 +31,9 @@ test-of : (k : Kind) → k ≡ Directory → is-directory k ≡ true
 unfolding is-directory
 test-of k e = rw e
 
-tested : (k : Kind) → is-directory k ≡ true → k ≡ Directory
-unfolding is-directory
-tested File h = contra refl (sym h)
-tested Directory h = refl
-
 -- what only directories have
 only : (k : Kind) (b : Bool) → (is-directory k || not b) ≡ true → b ≡ true → k ≡ Directory
-only k true h e = case (is-directory k) (tested k) (λ f. contra refl (sym (rw f at h)))
+only k true h e = case (is-directory k) (a-directory k) (λ f. contra refl (sym (rw f at h)))
 only k false h e = contra e refl
 
 test-of-only : (k : Kind) (b : Bool) → (b ≡ true → k ≡ Directory) → (is-directory k || not b) ≡ true
@@ -46,7 +43,6 @@ test-of-only k false h = case (is-directory k) (λ d. rw d) (λ f. rw f)
 -- ---- the values of a node
 
 in-range : (n : Node) → is-node n ≡ true → In-range n
-unfolding last-revision
 in-range n h =
     let r = node-ranges n h in
     record {
@@ -54,22 +50,21 @@ in-range n h =
       group = omega (arith, ltb-true (n .group .0) 25 (r .group));
       mode = r .mode;
       set-gid-on-directories-only = only (n .kind) (set-gid (n .mode)) (r .gid);
-      revision = leb-true (n .revision) 9999 (r .revision);
-      tag = λ t e. let i = r .tag t e in record { path = i .0; revision = leb-true (t .revision) 9999 (i .1) };
+      revision = leb-true (n .revision) last-revision (r .revision);
+      tag = λ t e. let i = r .tag t e in record { path = i .0; revision = leb-true (t .revision) last-revision (i .1) };
       content = r .content;
     }
 
 of-in-range : (n : Node) → In-range n → (n .kind ≡ Directory → n .content ≡ []) → is-node n ≡ true
-unfolding last-revision
 of-in-range n r bare = node-of-ranges n (record {
   owner = lt-ltb (n .owner .0) 24 (omega arith);
   group = lt-ltb (n .group .0) 25 (omega arith);
   mode = r .mode;
   gid = test-of-only (n .kind) (set-gid (n .mode)) (r .set-gid-on-directories-only);
-  revision = le-leb (n .revision) 9999 (r .revision);
-  tag = λ t e. let i = r .tag t e in (i .path, le-leb (t .revision) 9999 (i .revision));
+  revision = le-leb (n .revision) last-revision (r .revision);
+  tag = λ t e. let i = r .tag t e in (i .path, le-leb (t .revision) last-revision (i .revision));
   content = r .content;
-  bare = λ d. bare (tested (n .kind) d);
+  bare = λ d. bare (a-directory (n .kind) d);
 })
 
 -- ---- the names of siblings
@@ -92,16 +87,6 @@ none-so f w (node n x cs rest) h =
     let v = forest-parts n (record { here = x; below = cs }) rest h in
     both (every-implies (precedes n) (λ m. not (f n m)) (λ m p. rw (w n m p)) (names rest) (precedes-all n rest (v .others) (v .leading)))
     (none-so f w rest (v .others))
-
-never-after : (n m : Name) → precedes n m ≡ true → precedes m n ≡ false
-never-after n m p = case (precedes m n) (λ q. contra (precedes-trans n m n p q) (precedes-irrefl n)) (λ q. q)
-
-are-names : (F : Forest Node) → is-forest F ≡ true → every is-name (names F) ≡ true
-unfolding every names
-are-names nil h = refl
-are-names (node n x cs rest) h =
-    let v = forest-parts n (record { here = x; below = cs }) rest h in
-    rw (v .name) (are-names rest (v .others))
 
 -- the names of siblings in a sound tree
 record Sound-names (ns : List Name) : Type 0 where
@@ -173,14 +158,14 @@ pub tree-is-sound : (t : Place Node) → is-tree t ≡ true → Sound-tree t
 tree-is-sound t h =
     let v = tree-parts t h in
     record {
-      top-is-a-directory = tested (t .here .kind) (v .directory);
+      top-is-a-directory = a-directory (t .here .kind) (v .directory);
       siblings-differ = everywhere _ (λ d i. none-so same-text precedes-differ (d .below) (place-parts d i .forest)) t (v .whole);
-      siblings-in-order = everywhere _ (λ d i. none-so (λ earlier later. precedes later earlier) never-after (d .below) (place-parts d i .forest)) t (v .whole);
-      only-directories-have-children = everywhere _ (λ d i e. case (is-directory (d .here .kind)) (tested (d .here .kind)) (λ f. contra (place-parts d i .childless f) e)) t (v .whole);
+      siblings-in-order = everywhere _ (λ d i. none-so (λ earlier later. precedes later earlier) precedes-asym (d .below) (place-parts d i .forest)) t (v .whole);
+      only-directories-have-children = everywhere _ (λ d i e. case (is-directory (d .here .kind)) (a-directory (d .here .kind)) (λ f. contra (place-parts d i .childless f) e)) t (v .whole);
       directories-have-no-content = everywhere _ (λ d i e. node-ranges (d .here) (place-parts d i .own) .bare (test-of (d .here .kind) e)) t (v .whole);
       at-most-6-names = v .low;
       at-most-256-nodes = v .few;
-      names-in-range = everywhere _ (λ d i. are-names (d .below) (place-parts d i .forest)) t (v .whole);
+      names-in-range = everywhere _ (λ d i. names-are-names (d .below) (place-parts d i .forest)) t (v .whole);
       values-in-range = everywhere _ (λ d i. in-range (d .here) (place-parts d i .own)) t (v .whole);
     }
 

@@ -61,3 +61,11 @@ pub const NAME_WIDTH: usize = 8;
 pub const TAG_WIDTH: usize = 49;
 
 pub const CONTENT_WIDTH: usize = 80;
+
+// The letters of the kinds.
+pub const FILE: u8 = b'f';
+
+pub const DIRECTORY: u8 = b'd';
+
+// No revision is past this.
+pub const LAST_REVISION: u16 = 9999;

@@ -1,16 +1,21 @@
-// The file tree as rows in preorder in a lent buffer of 59,394 bytes; docs/FORMAT.md has the layout.
+// The file tree as rows in preorder in a lent buffer of 58,114 bytes; docs/FORMAT.md has the layout.
+mod kinds;
 mod layout;
 mod rows;
 mod scan;
 
+pub use kinds::is_directory;
 pub use layout::BEHIND_NAME;
 pub use layout::CONTENT;
 pub use layout::CONTENT_WIDTH;
+pub use layout::DIRECTORY;
 pub use layout::FEW_ROWS;
+pub use layout::FILE;
 pub use layout::FIRST;
 pub use layout::GROUP;
 pub use layout::HALF_ROWS;
 pub use layout::KIND;
+pub use layout::LAST_REVISION;
 pub use layout::MANY_ROWS;
 pub use layout::MODE;
 pub use layout::MOST_ROWS;

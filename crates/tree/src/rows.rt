@@ -6,6 +6,7 @@ ghost use Rattle.tree.specs.TreeBytes.{Wide, Has-row};
 use crate::Kind;
 use crate::layout::CONTENT;
 use crate::layout::CONTENT_WIDTH;
+use crate::layout::DIRECTORY;
 use crate::layout::FIRST;
 use crate::layout::GROUP;
 use crate::layout::KIND;
@@ -42,7 +43,7 @@ pub fn kind_at(tree: &[u8], i: usize) -> Kind
     requires { ⌜ Has-row (now tree) i ⌝ }
     ensures { λ r. ⌜ r ≡ row-at (now (tree .entry)) i .here .kind ⌝ }
 {
-    if tree[FIRST + ROW * i + KIND] == b'd' {
+    if tree[FIRST + ROW * i + KIND] == DIRECTORY {
         return Kind::Directory;
     }
     Kind::File

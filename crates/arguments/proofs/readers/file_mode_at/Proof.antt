@@ -13,22 +13,27 @@ mode-at-requires c κs = search needs
 enum-known-m : tie.Need-enum-known-m
 enum-known-m c = search needs
 
+has-set-gid-requires : tie.Need-has-set-gid-requires
+has-set-gid-requires c κs = search needs
+
 enum-told : tie.Need-enum-told
 enum-told c = search needs
 
 returns : tie.Need-returns
 unfolding number-of
 returns c =
-    let a = c .before .before .before .before .before .before .args in
+    let a = c .before .before .before .before .before .before .before .args in
     let s = span-text (now (a .line)) (a .s) in
-    plain-read (c .before .before .m .given .0 .0) s (ap number-of (sym (c .before .before .m .given .1)) ∙ c .before .before .before .before .mode-at .ensures) (c .if1 .taken)
+    plain-not-read (c .before .before .before .m .given .0 .0) s (ap number-of (sym (c .before .before .before .m .given .1)) ∙ c .before .before .before .before .before .mode-at .ensures)
+    (sym (c .before .has-set-gid .ensures) ∙ c .if1 .taken)
 
 returns-2 : tie.Need-returns-2
 unfolding number-of
 returns-2 c =
-    let a = c .before .before .before .before .before .before .args in
+    let a = c .before .before .before .before .before .before .before .args in
     let s = span-text (now (a .line)) (a .s) in
-    plain-not-read (c .before .before .m .given .0 .0) s (ap number-of (sym (c .before .before .m .given .1)) ∙ c .before .before .before .before .mode-at .ensures) (c .if1 .left)
+    plain-read (c .before .before .before .m .given .0 .0) s (ap number-of (sym (c .before .before .before .m .given .1)) ∙ c .before .before .before .before .before .mode-at .ensures)
+    (sym (c .before .has-set-gid .ensures) ∙ c .if1 .left)
 
 returns-3 : tie.Need-returns-3
 unfolding number-of
@@ -39,4 +44,4 @@ returns-3 c =
 
 pub file-mode-at-spec : {M : Type 1} → statement M
 file-mode-at-spec =
-    tie.close (tie.spec mode-at-requires enum-known-m enum-told returns returns-2 returns-3)
+    tie.close (tie.spec mode-at-requires enum-known-m has-set-gid-requires enum-told returns returns-2 returns-3)

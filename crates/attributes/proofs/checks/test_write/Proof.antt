@@ -7,8 +7,8 @@ use Rattle.attributes.proofs.checks.test_write.Tie as tie
 kind-at-requires : tie.Need-kind-at-requires
 kind-at-requires c κs = search needs
 
-is-file-requires : tie.Need-is-file-requires
-is-file-requires c κs = search needs
+is-directory-requires : tie.Need-is-directory-requires
+is-directory-requires c κs = search needs
 
 may-at-requires : tie.Need-may-at-requires
 may-at-requires c κs = search needs
@@ -19,7 +19,7 @@ judged-twice-requires c κs = search needs
 returns : tie.Need-returns
 unfolding tests
 returns c =
-    rw (← c .before .before .before .kind-at .ensures, ← c .before .before .is-file .ensures, ← c .before .may-at .ensures) (c .judged-twice .ensures)
+    rw (← c .before .before .before .kind-at .ensures, ← c .before .before .is-directory .ensures, ← c .before .may-at .ensures) (c .judged-twice .ensures)
 
 pub test-write-spec : {M : Type 1} → statement M
-test-write-spec = tie.close (tie.spec kind-at-requires is-file-requires may-at-requires judged-twice-requires returns)
+test-write-spec = tie.close (tie.spec kind-at-requires is-directory-requires may-at-requires judged-twice-requires returns)

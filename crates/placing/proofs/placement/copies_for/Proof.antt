@@ -1,6 +1,7 @@
 -- `placing::placement::copies_for` meets its contract: the copies are those of the checkout, and each answer is what the steps make of them.
 use native.Mathlib.Omega.{arith}
 use denote.Ref.{now}
+use borrow.Author.Needs.{needs}
 use Rattle.placing.specs.PlacingJobLaws.{job-row, job-text, job-name, job-low, checkout-job, copies-lie, copies-few, copies-fit, copies-too-deep, copies-too-many, copies-ready}
 use Rattle.placing.proofs.placement.copies_for.Statement.{statement}
 use Rattle.placing.proofs.placement.copies_for.Tie as tie
@@ -28,6 +29,9 @@ deepest-copy-requires c κs =
     let g = c .before .before .before .before .before .before .new-group in
     let j = s .pre .0 in
     copies-fit j (g .result) (g .ensures) (now (a .out)) (m .last .1 .1 .1 .1 .1 .1 .1 .0) (m .result) (now (name .result)) (name .ensures) (s .pre .1) (m .ensures) (m .kept .1 .1 .1 .1 .1 .1 .1 .0)
+
+cast-if1 : tie.Need-cast-if1
+cast-if1 c = search needs
 
 same-length : tie.Need-same-length
 same-length c = c .before .before .before .before .before .copy-entry .kept .1 .1 .1 .1 .1 .1 .1 .0
@@ -94,6 +98,7 @@ copies-for-spec =
     last-name-requires
     copy-entry-requires
     deepest-copy-requires
+    cast-if1
     same-length
     returns
     count-requires

@@ -6,6 +6,7 @@ use lib.Dec.{leb}
 use Rattle.buffers.specs.Cases.{answers-false, answers-true}
 use Rattle.syntax.specs.Number.{is-mode}
 use denote.Ref.{now}
+use Rattle.tree.specs.WellFormed.{last-revision}
 use Rattle.soundness.specs.FieldTestLaws.{numbers-kind, numbers-owner, numbers-group, numbers-mode, numbers-revision}
 use borrow.Author.Needs.{needs}
 use Rattle.soundness.proofs.row.has_numbers.Statement.{statement}
@@ -68,11 +69,12 @@ revision-at-requires : tie.Need-revision-at-requires
 revision-at-requires c κs = search needs
 
 returns-5 : tie.Need-returns-5
+unfolding last-revision
 returns-5 c =
     let a = c .before .before .before .before .before .before .before .before .before .before .before .before .args in
     let kind = answers-true (c .before .before .before .before .before .before .before .before .before .is-kind .ensures) (c .before .before .before .before .before .before .before .before .if1 .left) in
     let mode = ap is-mode (sym (c .before .before .before .mode-at .ensures)) ∙ answers-true (c .before .before .is-mode .ensures) (c .before .if4 .left) in
-    ap (λ (v : ℕ). leb v 9999) (c .revision-at .ensures) ∙ sym (numbers-revision (now (a .tree)) (a .i) kind (omega arith) (omega arith) mode)
+    ap (λ (v : ℕ). leb v last-revision) (c .revision-at .ensures) ∙ sym (numbers-revision (now (a .tree)) (a .i) kind (omega arith) (omega arith) mode)
 
 pub has-numbers-spec : {M : Type 1} → statement M
 has-numbers-spec =

@@ -10,6 +10,7 @@ use Rattle.buffers.specs.Text.{Text}
 use Rattle.syntax.specs.Path.{entry-path}
 use Rattle.syntax.specs.Form.{is-some}
 use Rattle.tree.specs.RowAt.{tag-text-at}
+use Rattle.tree.specs.WellFormed.{last-revision}
 use Rattle.soundness.specs.FieldTestLaws.{text-within, tag-none, tag-unfilled, tag-filled}
 use borrow.Author.Needs.{needs}
 use Rattle.soundness.proofs.row.has_tag.Statement.{statement}
@@ -72,12 +73,13 @@ tag-revision-at-requires : tie.Need-tag-revision-at-requires
 tag-revision-at-requires c κs = search needs
 
 returns-3 : tie.Need-returns-3
+unfolding last-revision
 returns-3 c =
     let a = c .before .before .before .before .before .before .before .args in
     let p = c .before .before .before .before .before .tag-path-at in
     let s = ap (λ (t : Text). is-some (entry-path t)) (sym (p .ensures)) ∙ answers-true (c .before .before .before .before .is-entry-path .ensures) (c .before .before .before .if1 .left) in
     let z = answers-true (c .before .before .is-zero2 .ensures) (c .before .if2 .left) in
-    ap (λ (v : ℕ). leb v 9999) (c .tag-revision-at .ensures)
+    ap (λ (v : ℕ). leb v last-revision) (c .tag-revision-at .ensures)
     ∙ sym (tag-filled (now (a .tree)) (a .i) (omega arith) (length (now (p .result))) s (ap length (p .ensures)) z)
 
 pub has-tag-spec : {M : Type 1} → statement M

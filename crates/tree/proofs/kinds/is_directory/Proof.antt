@@ -1,9 +1,9 @@
--- `soundness::row::is_directory` meets its contract: by its variants.
+-- `tree::kinds::is_directory` meets its contract: by its variants.
 use mathlib.Core.Path.{sym, ap}
 use Rattle.tree.specs.Node.{is-directory}
 use borrow.Author.Needs.{needs}
-use Rattle.soundness.proofs.row.is_directory.Statement.{statement}
-use Rattle.soundness.proofs.row.is_directory.Tie as tie
+use Rattle.tree.proofs.kinds.is_directory.Statement.{statement}
+use Rattle.tree.proofs.kinds.is_directory.Tie as tie
 
 enum-told : tie.Need-enum-told
 enum-told c = search needs
