@@ -5,10 +5,9 @@ use mathlib.Core.Option.{Option, none, some}
 use mathlib.Core.Bool.{Bool, true}
 use Prim.Native.Nat.{ℕ, zero, suc, _+_, _≤_, _<_}
 use native.Mathlib.Omega.{arith}
-use borrow.Author.Tests.{ltb-true, ltb-false, leb-true, le-leb}
-use lib.Dec.{leb, ltb}
+use borrow.Author.Tests.{ltb-true, leb-true, le-leb}
+use lib.Dec.{leb}
 use lib.ListN.{length, getD, getElem?, length-append}
-use Rattle.buffers.specs.Cases.{case}
 use Rattle.buffers.specs.Text.{Text, every}
 use Rattle.buffers.specs.TextLaws.{every-append}
 use Rattle.syntax.specs.Pieces.{bytes, comma, joined}
@@ -19,11 +18,10 @@ use Rattle.syntax.specs.NumberLaws.{decimal-length, mode-length}
 use Rattle.syntax.specs.Path.{Path, root, _▹_, depth, most-names, has-names, is-path, path-text, entry-text, longest-entry-text}
 use Rattle.syntax.specs.PathLaws.{path-text-fits, entry-text-length, path-more}
 use Rattle.syntax.specs.FieldLaws.{content-length}
-use Rattle.syntax.specs.FormLaws.{no-answer}
 use Rattle.tree.specs.declared.Kind.{Kind}
 use Rattle.tree.specs.declared.Kind.the-variants.{File, Directory}
-use Rattle.tree.specs.Forest.{Forest, nil, node, Place, size, height}
-use Rattle.tree.specs.ForestLaws.{height-node}
+use Rattle.tree.specs.Forest.{Forest, Place, size, height}
+use Rattle.tree.specs.ForestLaws.{forest-induction, height-node}
 use Rattle.tree.specs.PlaceLaws.{nodes-below}
 use Rattle.tree.specs.SizeLaws.{size-nil, size-node}
 use Rattle.tree.specs.LargestTrees.{deep, deep-is-tree}
@@ -35,16 +33,18 @@ use Rattle.listing.specs.Listing.{kind-text, tag-fields, node-line, long
 
 -- ---- how many lines
 
-forest-length : (p : Path) (F : Forest Node) → length (forest-lines p F) ≡ size F
+abbrev A-line-each : Forest Node → Type 0
+A-line-each F = (p : Path) → length (forest-lines p F) ≡ size F
+
+forest-length : (F : Forest Node) → A-line-each F
 unfolding forest-lines
-forest-length p nil = sym (size-nil Node)
-forest-length p (node n x cs rest) =
-    rw (length-append (forest-lines (p ▹ n) cs) (forest-lines p rest), forest-length (p ▹ n) cs, forest-length p rest, size-node n x cs rest)
+forest-length = forest-induction A-line-each (λ p. sym (size-nil Node)) λ n x cs rest below beside p.
+    rw (length-append (forest-lines (p ▹ n) cs) (forest-lines p rest), below (p ▹ n), beside p, size-node n x cs rest)
 
 -- there are as many lines as nodes
 listing-length : (t : Place Node) → length (listing t) ≡ nodes t
 unfolding listing
-listing-length t = rw (forest-length root (t .below), nodes-below t)
+listing-length t = rw (forest-length (t .below) root, nodes-below t)
 
 -- so at most 256
 pub listing-few : (t : Place Node) → is-tree t ≡ true → length (listing t) ≤ 256
@@ -52,29 +52,15 @@ listing-few t h = rw (listing-length t) (tree-parts t h .few)
 
 -- ---- which lines there are
 
-elem-there : {A : Type 0} (l : List A) (n : ℕ) → n < length l → (a : A) × (getElem? l n ≡ some a)
-elem-there [] n h = let z : ⊥ = omega arith in absurd z
-elem-there (a ∷ l) zero h = (a, refl)
-elem-there (a ∷ l) (suc n) h = elem-there l n (omega arith)
-
 elem-past : {A : Type 0} (l : List A) (n : ℕ) → length l ≤ n → getElem? l n ≡ none
 elem-past [] n h = refl
 elem-past (a ∷ l) zero h = let z : ⊥ = omega arith in absurd z
 elem-past (a ∷ l) (suc n) h = elem-past l n (omega arith)
 
 module _ (t : Place Node) (n : ℕ) where
-  -- one for each number below that of the nodes
-  pub line-there : n < nodes t → (x : Text) × (getElem? (listing t) n ≡ some x)
-  line-there h = elem-there (listing t) n (omega (arith, listing-length t))
-
-  -- and none for any other
+  -- none for the number of the nodes and those above it
   pub no-line : nodes t ≤ n → getElem? (listing t) n ≡ none
   no-line h = elem-past (listing t) n (omega (arith, listing-length t))
-
-  pub only-past : getElem? (listing t) n ≡ none → nodes t ≤ n
-  only-past e = case (ltb n (nodes t))
-      (λ h. let i = line-there (ltb-true n (nodes t) h) in let z : none ≡ some (i .0) = sym e ∙ i .1 in no-answer z)
-      (λ h. ltb-false n (nodes t) h)
 
 -- ---- how long a line is
 
@@ -121,10 +107,12 @@ short l = leb (length l) longest-listing-line
 line-short : (p : Path) (n : Node) → is-path p ≡ true → is-node n ≡ true → short (node-line p n) ≡ true
 line-short p n h k = le-leb (length (node-line p n)) longest-listing-line (line-fits p n h k)
 
-forest-fits : (p : Path) (F : Forest Node) → is-path p ≡ true → is-forest F ≡ true → depth p + height F ≤ 6 → every short (forest-lines p F) ≡ true
+abbrev Short-lines : Forest Node → Type 0
+Short-lines F = (p : Path) → is-path p ≡ true → is-forest F ≡ true → depth p + height F ≤ 6 → every short (forest-lines p F) ≡ true
+
+forest-fits : (F : Forest Node) → Short-lines F
 unfolding forest-lines every
-forest-fits p nil h k l = refl
-forest-fits p (node n x cs rest) h k l =
+forest-fits = forest-induction Short-lines (λ p h k l. refl) λ n x cs rest below beside p h k l.
     let v = forest-parts n (record { here = x; below = cs }) rest k in
     let w = place-parts (record { here = x; below = cs }) (v .first) in
     let b = height-node n x cs rest in
@@ -132,8 +120,8 @@ forest-fits p (node n x cs rest) h k l =
     rw (
       line-short (p ▹ n) x q (w .own),
       every-append short (forest-lines (p ▹ n) cs) (forest-lines p rest),
-      forest-fits (p ▹ n) cs q (w .forest) (unfold depth in omega arith),
-      forest-fits p rest h (v .others) (omega arith),
+      below (p ▹ n) q (w .forest) (unfold depth in omega arith),
+      beside p h (v .others) (omega arith),
     )
 
 -- no line is longer than the longest
@@ -143,7 +131,7 @@ lines-fit t h =
     let v = tree-parts t h in
     let w = place-parts t (v .whole) in
     let q : is-path root ≡ true = unfold is-path has-names depth most-names in refl in
-    rw (line-short root (t .here) q (w .own)) (forest-fits root (t .below) q (w .forest) (unfold depth in omega (arith, v .low)))
+    rw (line-short root (t .here) q (w .own)) (forest-fits (t .below) root q (w .forest) (unfold depth in omega (arith, v .low)))
 
 -- and there is a line that long: that of the file at the end of a path of 6 names
 pub listing-longest : (t : Place Node) × (is-tree t ≡ true) × (length (getD (listing t) 6 []) ≡ longest-listing-line)

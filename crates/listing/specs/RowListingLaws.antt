@@ -25,7 +25,8 @@ use Rattle.syntax.specs.Pieces.{bytes, comma, joined}
 use Rattle.syntax.specs.Number.{digits-before, decimal-text, mode-text}
 use Rattle.syntax.specs.Path.{Path, root, _▹_, last, names-text, path-text, entry-text}
 use Rattle.syntax.specs.PathLaws.{entry-text-some}
-use Rattle.tree.specs.Forest.{Forest, nil, node, Place}
+use Rattle.tree.specs.Forest.{Forest, Place}
+use Rattle.tree.specs.ForestLaws.{forest-induction}
 use Rattle.tree.specs.Node.{Tag, Node}
 use Rattle.tree.specs.Rows.{Row, flatten, rows}
 use Rattle.tree.specs.RowLaws.{flatten-nil, flatten-node, rows-are}
@@ -68,31 +69,35 @@ lines-append m [] ys = refl
 lines-append m (r ∷ xs) ys = ap (λ (l : List Text). node-line (path-seen (row-seen m r) (r .depth)) (r .here) ∷ l) (lines-append (row-seen m r) xs ys)
 
 -- the rows of siblings leave the names above them
-flatten-above : (k j : ℕ) (F : Forest Node) (m : Names-seen) → k < j → path-seen (rows-seen m (flatten j F)) k ≡ path-seen m k
+abbrev Leaves-above : Forest Node → Type 0
+Leaves-above F = (k j : ℕ) (m : Names-seen) → k < j → path-seen (rows-seen m (flatten j F)) k ≡ path-seen m k
+
+flatten-above : (F : Forest Node) → Leaves-above F
 unfolding rows-seen
-flatten-above k j nil m h = rw (flatten-nil Node j)
-flatten-above k j (node n x cs rest) m h =
+flatten-above = forest-induction Leaves-above (λ k j m h. rw (flatten-nil Node j)) λ n x cs rest below beside k j m h.
     let r : Row Node = record { depth = j; name = n; here = x } in
     let xs = flatten (suc j) cs in
     ap (λ (l : List (Row Node)). path-seen (rows-seen m l) k) (flatten-node j n x cs rest)
     ∙ ap (λ (s : Names-seen). path-seen s k) (rows-seen-append (row-seen m r) xs (flatten j rest))
-    ∙ flatten-above k j rest (rows-seen (row-seen m r) xs) h
-    ∙ flatten-above k (suc j) cs (row-seen m r) (omega arith)
+    ∙ beside k j (rows-seen (row-seen m r) xs) h
+    ∙ below k (suc j) (row-seen m r) (omega arith)
     ∙ seen-above m r k h
 
 -- the lines of siblings
-flatten-lines : (k : ℕ) (F : Forest Node) (m : Names-seen) → lines-behind m (flatten (suc k) F) ≡ forest-lines (path-seen m k) F
+abbrev Same-lines : Forest Node → Type 0
+Same-lines F = (k : ℕ) (m : Names-seen) → lines-behind m (flatten (suc k) F) ≡ forest-lines (path-seen m k) F
+
+flatten-lines : (F : Forest Node) → Same-lines F
 unfolding lines-behind forest-lines
-flatten-lines k nil m = rw (flatten-nil Node (suc k))
-flatten-lines k (node n x cs rest) m =
+flatten-lines = forest-induction Same-lines (λ k m. rw (flatten-nil Node (suc k))) λ n x cs rest below beside k m.
     let r : Row Node = record { depth = suc k; name = n; here = x } in
     let s = row-seen m r in
     let xs = flatten (suc (suc k)) cs in
     let here : path-seen s (suc k) ≡ path-seen m k ▹ n = own-seen m r k refl in
-    let above : path-seen (rows-seen s xs) k ≡ path-seen m k = flatten-above k (suc (suc k)) cs s (omega arith) ∙ seen-above m r k (omega arith) in
+    let above : path-seen (rows-seen s xs) k ≡ path-seen m k = flatten-above cs k (suc (suc k)) s (omega arith) ∙ seen-above m r k (omega arith) in
     ap (lines-behind m) (flatten-node (suc k) n x cs rest)
     ∙ ap (λ (l : List Text). node-line (path-seen s (suc k)) x ∷ l)
-    (lines-append s xs (flatten (suc k) rest) ∙ ap₂ _++_ (flatten-lines (suc k) cs s) (flatten-lines k rest (rows-seen s xs)))
+    (lines-append s xs (flatten (suc k) rest) ∙ ap₂ _++_ (below (suc k) s) (beside k (rows-seen s xs)))
     ∙ ap₂ (λ (p q : Path). node-line p x ∷ (forest-lines p cs ++ forest-lines q rest)) here above
 
 -- the listing is the lines of the rows
@@ -100,7 +105,7 @@ listing-is : (t : Place Node) → listing t ≡ lines-in (rows t)
 unfolding listing lines-in lines-behind path-seen
 listing-is t =
     let r : Row Node = record { depth = 0; name = []; here = t .here } in
-    sym (ap (lines-behind none-seen) (rows-are t) ∙ ap (λ (l : List Text). node-line root (t .here) ∷ l) (flatten-lines 0 (t .below) (row-seen none-seen r)))
+    sym (ap (lines-behind none-seen) (rows-are t) ∙ ap (λ (l : List Text). node-line root (t .here) ∷ l) (flatten-lines (t .below) 0 (row-seen none-seen r)))
 
 -- the line at an index is that of the row there
 line-behind : (m : Names-seen) (rs : List (Row Node)) (n : ℕ) (z : Row Node) → n < length rs

@@ -22,7 +22,7 @@ use Rattle.tree.specs.declared.Kind.{Kind}
 use Rattle.tree.specs.declared.Kind.the-variants.{Directory}
 use Rattle.tree.specs.declared.Cause.the-variants.{NoForm, Access, WrongKind, NotEmpty, Reserved, Full, NoSession, NoGrant, Stale, Untagged, RevisionsSpent, TooDeep, ShortAnswer}
 use Rattle.tree.specs.Result.{Result, done, _>>=_, _>>_, require, present, Outcome}
-use Rattle.tree.specs.Forest.{Forest, nil, Place, is-empty, insert, remove, at, update, update-forest, alter, put, leaf, size, height, rooted}
+use Rattle.tree.specs.Forest.{Forest, no-nodes, Place, is-empty, insert, remove, at, update, update-forest, alter, put, leaf, size, height, rooted}
 use Rattle.tree.specs.Node.{is-directory, Tag, Node, allows, set-tag, set-content, owns}
 use Rattle.tree.specs.Walk.{Judge, by-modes, unused, walk, parent-walk, room}
 use Rattle.tree.specs.WellFormed.{most-nodes, last-revision, nodes}
@@ -252,4 +252,4 @@ abstract-runs setup h (call ∷ calls) =
 
 -- it starts as the fresh store with an empty map
 unfoldable pub initial-abstract : Setup → Abstract
-initial-abstract setup = record { workspace = initial-tree setup; entries = nil; sessions = no-sessions }
+initial-abstract setup = record { workspace = initial-tree setup; entries = no-nodes; sessions = no-sessions }

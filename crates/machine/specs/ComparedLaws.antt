@@ -20,9 +20,9 @@ use Rattle.tree.specs.Result.{Result, present, Outcome}
 use Rattle.tree.specs.ResultLaws.{present-some}
 use Rattle.tree.specs.Outcomes.{Agree, refusal, both}
 use Rattle.tree.specs.AgreeLaws.{each, check}
-use Rattle.tree.specs.Forest.{Forest, nil, Place, get, leaf}
+use Rattle.tree.specs.Forest.{Forest, no-nodes, Place, get, leaf}
 use Rattle.tree.specs.Node.{Node}
-use Rattle.tree.specs.ForestLaws.{get-first, get-insert-other}
+use Rattle.tree.specs.ForestLaws.{get-nil, get-insert, get-insert-other}
 use Rattle.tree.specs.MapLaws.{map-nil}
 use Rattle.tree.specs.RootedLaws.{rooted-here, rooted-below}
 use Rattle.tree.specs.PlaceLaws.{leaf-here, leaf-below, update-root}
@@ -55,13 +55,13 @@ with-home-rep v (some p) F = get-insert-other (home-name v) (leaf (home-node v p
 
 homes-rep : (u : Setup) (k : ℕ) → get rep (homes u k) ≡ some (leaf rep-node)
 unfolding homes
-homes-rep u zero = get-first rep rep-node nil nil ∙ (λ i. some (record { here = sym (leaf-here rep-node) i; below = sym (leaf-below rep-node) i }))
+homes-rep u zero = get-insert rep (leaf rep-node) no-nodes (get-nil rep)
 homes-rep u (suc k) = with-home-rep (record { 0 = k }) (person u (record { 0 = k })) (homes u k) ∙ homes-rep u k
 
 -- with no entries `/rep` stands alone
-pub stored-none : stored nil ≡ leaf rep-node
+pub stored-none : stored no-nodes ≡ leaf rep-node
 unfolding stored
-stored-none = λ i. record { here = (rooted-here in-store rep-node nil ∙ sym (leaf-here rep-node)) i; below = (rooted-below in-store rep-node nil ∙ map-nil in-store ∙ sym (leaf-below rep-node)) i }
+stored-none = λ i. record { here = (rooted-here in-store rep-node no-nodes ∙ sym (leaf-here rep-node)) i; below = (rooted-below in-store rep-node no-nodes ∙ map-nil in-store ∙ sym (leaf-below rep-node)) i }
 
 -- the initial states hold the same
 pub initial-tie : (u : Setup) → Tie (initial-store u) (initial-abstract u)

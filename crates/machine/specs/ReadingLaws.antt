@@ -21,7 +21,7 @@ use Rattle.tree.specs.declared.Kind.{Kind}
 use Rattle.tree.specs.declared.Kind.the-variants.{File}
 use Rattle.tree.specs.Result.{done}
 use Rattle.tree.specs.AgreeLaws.{done-first, done-second}
-use Rattle.tree.specs.Forest.{nil, Place, get, insert, update-forest, leaf, map-place}
+use Rattle.tree.specs.Forest.{no-nodes, Place, get, insert, update-forest, leaf, map-place}
 use Rattle.tree.specs.Node.{is-directory, Node}
 use Rattle.tree.specs.Walk.{enter, walk}
 use Rattle.tree.specs.StepLaws.{walk-root, walks-on, walk-more, enters}
@@ -155,9 +155,9 @@ module _ (u : Setup) (b : Bounded-role) where
   witness-entry : get (bytes "x") (abstract .entries witness .below) ≡ some (leaf (entry filed-entry))
   unfolding witness initial-abstract
   witness-entry =
-      let F = update-forest root (insert (bytes "x") (leaf filed-entry)) nil in
+      let F = update-forest root (insert (bytes "x") (leaf filed-entry)) no-nodes in
       let x = bytes "x" in
-      rw (rooted-below entry top F, get-map entry x F, update-forest-root (insert x (leaf filed-entry)) nil, get-insert x (leaf filed-entry) nil (get-nil x)) (
+      rw (rooted-below entry top F, get-map entry x F, update-forest-root (insert x (leaf filed-entry)) no-nodes, get-insert x (leaf filed-entry) no-nodes (get-nil x)) (
       ap some (sym (leaf-map entry filed-entry)))
 
   -- who dominates the role may read it, and nobody else
@@ -186,7 +186,7 @@ module _ (u : Setup) (b : Bounded-role) where
       let i = parts (state-of u (initial-store u)) (initial-well-formed u s) in
       let v = done-second (account-walk u b h (t .kept) root) (walk-root (by-dominance u b) (abstract .entries h)) in
       let d = leaf rep-node in
-      let e : v .0 ≡ d = v .2 ∙ sym (stored-is-met nil) ∙ stored-none in
+      let e : v .0 ≡ d = v .2 ∙ sym (stored-is-met no-nodes) ∙ stored-none in
       let to : walk (store .judge u b) (initial-store u .tree) (root ▹ rep) ≡ done d = ap (λ t. walk (store .judge u b) (t .tree) (root ▹ rep)) (t .same) ∙ v .1 ∙ ap done e in
       rw (← witness-tie .same) (formed u s _ (i .sessions)
       (keep-put (store .judge u b) (initial-store u .tree) (root ▹ rep) d (bytes "x") (leaf filed-node) (i .tree) to

@@ -10,7 +10,7 @@ use Rattle.syntax.specs.Number.{octal, decimal-text}
 use Rattle.syntax.specs.Path.{Name, rep}
 use Rattle.setup.specs.Setup.{Person, Setup, accounts, person}
 use Rattle.tree.specs.declared.Kind.the-variants.{Directory}
-use Rattle.tree.specs.Forest.{Forest, nil, node, Place, insert, leaf}
+use Rattle.tree.specs.Forest.{Forest, no-nodes, Place, insert, leaf}
 use Rattle.tree.specs.Node.{Node}
 use Rattle.store.specs.State.{Sessions, Store}
 
@@ -39,7 +39,7 @@ with-home uid (some who) f = insert (home-name uid) (leaf (home-node uid who)) f
 
 -- `/rep` and the homes of the accounts below k
 unfoldable pub homes : Setup → ℕ → Forest Node
-homes setup zero = node rep rep-node nil nil
+homes setup zero = insert rep (leaf rep-node) no-nodes
 homes setup (suc k) = with-home (record { 0 = k }) (person setup (record { 0 = k })) (homes setup k)
 
 -- `/` with a forest below it

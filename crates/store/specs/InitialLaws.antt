@@ -18,8 +18,8 @@ use Rattle.syntax.specs.Number.{octal, is-mode, digits-before, decimal-text}
 use Rattle.syntax.specs.Path.{Name, rep, name-byte, is-name}
 use Rattle.setup.specs.Setup.{Person, Setup, accounts, person, is-setup}
 use Rattle.tree.specs.declared.Kind.the-variants.{Directory}
-use Rattle.tree.specs.Forest.{Forest, nil, node, Place, get, insert, leaf, size}
-use Rattle.tree.specs.ForestLaws.{get-nil, insert-nil, get-insert-other, size-insert}
+use Rattle.tree.specs.Forest.{Forest, no-nodes, Place, get, insert, leaf, size}
+use Rattle.tree.specs.ForestLaws.{get-nil, get-insert-other, size-insert}
 use Rattle.tree.specs.Node.{Node}
 use Rattle.tree.specs.WellFormed.{nodes, is-node, is-tree}
 use Rattle.tree.specs.JudgeLaws.{directory-is-one}
@@ -71,12 +71,8 @@ unfolding rep bytes is-name name-byte every
 rep-named = refl
 
 -- `/` alone is `/` with nothing below it
-pub top-alone : leaf top-node ≡ topped nil
+pub top-alone : leaf top-node ≡ topped no-nodes
 top-alone = λ i. record { here = leaf-here top-node i; below = leaf-below top-node i }
-
--- `/rep` alone is `/rep` put in
-pub rep-alone : insert rep (leaf rep-node) nil ≡ node rep rep-node nil nil
-rep-alone = insert-nil rep (leaf rep-node) ∙ rw (leaf-here rep-node, leaf-below rep-node)
 
 -- a name apart from a home's is not used by the home
 unused-home : (n : Name) (v : Uid) (p : Option Person) (F : Forest Node) → same-text n (home-name v) ≡ false
@@ -88,7 +84,7 @@ unused-home n v (some p) F d h = get-insert-other (home-name v) (leaf (home-node
 -- so a name apart from all is not used
 unused-name : (u : Setup) (n : Name) (k : ℕ) → apart-from n k ≡ true → get n (homes u k) ≡ none
 unfolding apart-from homes
-unused-name u n zero h = rw (← rep-alone) (get-insert-other rep (leaf rep-node) n (not-true (same-text n rep) h) nil ∙ get-nil n)
+unused-name u n zero h = get-insert-other rep (leaf rep-node) n (not-true (same-text n rep) h) no-nodes ∙ get-nil n
 unused-name u n (suc k) h =
     let v : Uid = record { 0 = k } in
     let i = and-both (not (same-text n (home-name v))) (apart-from n k) h in
@@ -111,17 +107,17 @@ begun-with k n x F b a free w h =
       omega (arith, size-insert n (leaf x) F, leaf-size x, h .1),
     )
 
-begun-top : Begun 0 nil
+begun-top : Begun 0 no-nodes
 begun-top =
     (rw top-alone at (leaf-tree top-node top-fits (unfold top-node directory-of in directory-is-one)), omega (arith, rw (leaf-below top-node) at (leaf-size top-node)))
   where
     top-fits : is-node top-node ≡ true
     top-fits = unfold top-node is-mode in directory-fits (record { 0 = 0 }) (record { 0 = 0 }) (octal 0 7 5 5) refl refl refl
 
-begun-rep : Begun 1 (node rep rep-node nil nil)
+begun-rep : Begun 1 (insert rep (leaf rep-node) no-nodes)
 unfolding rep-node
-begun-rep = rw (← rep-alone) (begun-with 0 rep rep-node nil (omega arith) rep-named (get-nil rep)
-    (directory-fits (record { 0 = 16 }) (record { 0 = 24 }) (octal 0 7 5 0) refl refl (unfold is-mode in refl)) begun-top)
+begun-rep = begun-with 0 rep rep-node no-nodes (omega arith) rep-named (get-nil rep)
+    (directory-fits (record { 0 = 16 }) (record { 0 = 24 }) (octal 0 7 5 0) refl refl (unfold is-mode in refl)) begun-top
 
 begun-home : (k : ℕ) (v : Uid) (p : Option Person) (F : Forest Node) → k < 255 → v .0 < 16 → ((q : Person) → p ≡ some q → q .primary .0 < 16)
     → is-name (home-name v) ≡ true → get (home-name v) F ≡ none → Begun k F → Begun (suc k) (with-home v p F)
@@ -147,14 +143,14 @@ begun-homes u r (suc k) b h =
     begun-home (suc k) v (person u v) (homes u k) (omega arith) (omega arith) (r v) (i .0) (unused-name u (home-name v) k (i .1)) (begun-homes u r k (omega arith) (i .2))
 
 -- `/` alone is well-formed
-pub top-whole : is-tree (topped nil) ≡ true
+pub top-whole : is-tree (topped no-nodes) ≡ true
 top-whole = begun-top .0
 
 -- and open to `/rep`
-pub rep-open : Open rep (topped nil)
+pub rep-open : Open rep (topped no-nodes)
 rep-open =
     record {
-      room = omega (arith, nodes-below (topped nil), begun-top .1);
+      room = omega (arith, nodes-below (topped no-nodes), begun-top .1);
       named = rep-named;
       free = get-nil rep;
     }

@@ -28,7 +28,7 @@ use Rattle.tree.specs.declared.Cause.{Cause}
 use Rattle.tree.specs.Layout.{name-width}
 use Rattle.tree.specs.Result.{done}
 use Rattle.tree.specs.ResultLaws.{not-done}
-use Rattle.tree.specs.Forest.{Forest, nil, Place, insert, put, leaf}
+use Rattle.tree.specs.Forest.{Forest, no-nodes, Place, insert, put, leaf}
 use Rattle.tree.specs.Node.{Node}
 use Rattle.tree.specs.Walk.{by-modes, room}
 use Rattle.tree.specs.RoomLaws.{root-room}
@@ -49,7 +49,7 @@ use Rattle.gaps.specs.GapsLaws.{last-in-text, last-fits, Standing, room-to, roo
 use Rattle.store.specs.declared.Person.{Person as Slot}
 use Rattle.store.specs.Initial.{directory-of, top-node, rep-node, home-node, home-name, with-home, homes, topped, initial-tree}
 use Rattle.store.specs.InitialRows.{no-slot, slot-value, slot-in-range, Opens, Opens-at}
-use Rattle.store.specs.InitialLaws.{top-alone, rep-alone, Primaries, setup-primaries, top-whole, rep-open, homes-whole, home-open, initial-by-persons}
+use Rattle.store.specs.InitialLaws.{top-alone, Primaries, setup-primaries, top-whole, rep-open, homes-whole, home-open, initial-by-persons}
 use Rattle.tree.specs.declared.Kind.the-variants.{Directory}
 
 -- ---- a directory put in
@@ -114,14 +114,14 @@ unfolding directory-of
 directory-is owner group mode = fresh-node-is (record { kind = Directory; owner = owner; group = group; mode = mode; revision = 0 })
 
 -- `/` alone is open to `/rep`
-pub planted-opens : (b : List ℕ) → b ≡ encode-tree (leaf top-node) → Opens-at b (bytes "/rep") rep (topped nil)
+pub planted-opens : (b : List ℕ) → b ≡ encode-tree (leaf top-node) → Opens-at b (bytes "/rep") rep (topped no-nodes)
 unfolding rep bytes
 planted-opens b e = opens-at (bytes "/rep") refl (record { tree = encoding (e ∙ ap encode-tree top-alone) top-whole; ready = rep-open })
 
 -- and with it there are the homes of no account
-pub rep-put : (u : Setup) → put rep (leaf rep-node) (topped nil) ≡ topped (homes u 0)
+pub rep-put : (u : Setup) → put rep (leaf rep-node) (topped no-nodes) ≡ topped (homes u 0)
 unfolding homes
-rep-put u = put-topped rep (leaf rep-node) nil ∙ ap topped rep-alone
+rep-put u = put-topped rep (leaf rep-node) no-nodes
 
 -- ---- homes
 

@@ -16,6 +16,10 @@ pub data Forest (A : Type 0) : Type 0 where
   nil : Forest A
   node : Name → A → (children siblings : Forest A) → Forest A
 
+-- no node at all, as a value: the crates above name this, and not how a forest is made
+abbrev pub no-nodes : {A : Type 0} → Forest A
+no-nodes = nil
+
 -- a payload with all that lies below it; the whole tree is the place of `/`
 pub record Place (A : Type 0) : Type 0 where
   pub here : A

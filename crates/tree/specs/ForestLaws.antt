@@ -1,9 +1,10 @@
 -- Laws of forests and trees. None asks that siblings stand in order.
 --
 -- In order:
+--   all forests: forest-induction;
 --   names, and the larger of two numbers;
---   no siblings, and the first of some: get-nil, insert-nil, empty-is-nil, height-node;
---   a child found: get-first, found-first, found-none;
+--   no siblings, and the first of some: get-nil, empty-is-nil, height-node;
+--   a child found: found-first, found-none;
 --   a child changed: get-at, get-at-other, names-at, empty-at, at-at, size-at, height-at, at-twice, at-id, at-none;
 --   a child put in: get-insert, get-insert-other, size-insert, height-insert;
 --   a child taken out: get-remove-other, empty-remove, size-remove, height-remove; and height-get;
@@ -20,6 +21,14 @@ use Rattle.buffers.specs.Text.{same-text, precedes}
 use Rattle.buffers.specs.TextLaws.{same-text-refl, same-text-sound}
 use Rattle.syntax.specs.Path.{Name}
 use Rattle.tree.specs.Forest.{Forest, nil, node, Place, get, is-empty, insert, remove, at, under, alter, leaf, size, larger, height, names, map-forest, map-place}
+
+-- ---- all forests
+
+-- what holds of no node, and of siblings where it holds of the first one's children and of the others, holds of every forest
+pub forest-induction : {A : Type 0} (P : Forest A → Type 0) → P nil
+    → ((n : Name) (x : A) (cs rest : Forest A) → P cs → P rest → P (node n x cs rest)) → (F : Forest A) → P F
+forest-induction P bare more nil = bare
+forest-induction P bare more (node n x cs rest) = more n x cs rest (forest-induction P bare more cs) (forest-induction P bare more rest)
 
 -- ---- names
 
@@ -51,11 +60,6 @@ module _ {A : Type 0} where
   unfolding get
   get-nil n = refl
 
-  -- a first child is the only one
-  pub insert-nil : (n : Name) (e : Place A) → insert n e nil ≡ node n (e .here) (e .below) nil
-  unfolding insert
-  insert-nil n e = refl
-
   -- what is empty has no sibling
   pub empty-is-nil : (F : Forest A) → is-empty F ≡ true → F ≡ nil
   unfolding is-empty
@@ -68,11 +72,6 @@ module _ {A : Type 0} where
   height-node n x cs rest = larger-bounds (suc (height cs)) (height rest)
 
 -- ---- a child found
-
--- the first node is found by its name
-pub get-first : {A : Type 0} (n : Name) (x : A) (cs rest : Forest A) → get n (node n x cs rest) ≡ some (record { here = x; below = cs })
-unfolding get
-get-first n x cs rest = rw (same-text-refl n)
 
 module _ {A : Type 0} (n m : Name) (y : A) (ds rest : Forest A) where
   -- the first node is the child found if it has the name

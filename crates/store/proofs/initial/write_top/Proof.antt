@@ -5,7 +5,7 @@ use Rattle.syntax.specs.Number.{octal}
 use Rattle.syntax.specs.Path.{rep}
 use Rattle.tree.specs.declared.Kind.the-variants.{Directory}
 use Rattle.tree.specs.Node.{Node}
-use Rattle.tree.specs.Forest.{nil, leaf}
+use Rattle.tree.specs.Forest.{no-nodes, leaf}
 use Rattle.tree.specs.Encoding.{encode-tree}
 use Rattle.edits.specs.Changes.{fresh-node}
 use Rattle.store.specs.Initial.{top-node, rep-node, topped}
@@ -29,7 +29,7 @@ put-directory-requires : tie.Need-put-directory-requires
 unfolding rep bytes top-node
 put-directory-requires c κs =
     let p = c .before .before .before .before .plant in
-    (rep, topped nil, planted-opens (p .last .0) (p .ensures ∙ planted))
+    (rep, topped no-nodes, planted-opens (p .last .0) (p .ensures ∙ planted))
 
 same-length : tie.Need-same-length
 same-length c = search needs
@@ -38,7 +38,7 @@ returns : tie.Need-returns
 unfolding rep bytes top-node rep-node
 returns c u =
     let p = c .before .before .before .before .before .before .before .plant in
-    c .before .before .put-directory .ensures rep (topped nil) (planted-opens (p .last .0) (p .ensures ∙ planted)) ∙ ap encode-tree (rep-put u)
+    c .before .before .put-directory .ensures rep (topped no-nodes) (planted-opens (p .last .0) (p .ensures ∙ planted)) ∙ ap encode-tree (rep-put u)
 
 pub write-top-spec : {M : Type 1} → statement M
 write-top-spec =
