@@ -1,5 +1,5 @@
 -- Dominance between roles: as a relation, a chain of pairs, and as a test that computes; the two are one (`dominates-is`).
-use mathlib.Core.Path.{_≡_, refl, sym}
+use mathlib.Core.Path.{_≡_, refl, sym, ap}
 use mathlib.Core.List.{List, [], _∷_}
 use mathlib.Core.Bool.{Bool, true, false, _||_, _&&_, cond}
 use Prim.Native.Nat.{ℕ, zero, suc, _+_, _≤_, _<_}
@@ -7,6 +7,7 @@ use native.Mathlib.Omega.{arith}
 use lib.Dec.{eqb, ltb}
 use borrow.Author.Tests.{ltb-true, eqb-true, eq-eqb}
 use Rattle.buffers.specs.Cases.{case, and-both, contra}
+use Rattle.buffers.specs.Text.{every}
 use Rattle.accounts.specs.declared.Role.{Role}
 use Rattle.accounts.specs.declared.Pair.{Pair}
 
@@ -64,6 +65,12 @@ listed-falls : (s j : Role) (ps : List Pair) → all-fall ps ≡ true → Listed
 unfolding all-fall falls
 listed-falls s j (p ∷ ps) h (first) = ltb-true (s .0) (j .0) (and-both (falls p) (all-fall ps) h .0)
 listed-falls s j (p ∷ ps) h (later l) = listed-falls s j ps (and-both (falls p) (all-fall ps) h .1) l
+
+-- a list passes where every pair does
+pub all-fall-every : (ps : List Pair) → all-fall ps ≡ every falls ps
+unfolding all-fall every
+all-fall-every [] = refl
+all-fall-every (p ∷ ps) = ap (λ (b : Bool). falls p && b) (all-fall-every ps)
 
 -- what passes the test leads down
 pub all-fall-is : (ps : List Pair) → all-fall ps ≡ true → Falling ps

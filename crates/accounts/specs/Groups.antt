@@ -31,6 +31,15 @@ pub no-groups-is : no-groups ≡ record { 0 = 0 }
 unfolding no-groups
 no-groups-is = refl
 
+-- a group is in a set by its bit, and is added by it
+pub member-is : (g : Gid) (s : Groups) → member g s ≡ eqb (s .0 / 2 ^ g .0 % 2) 1
+unfolding member
+member-is g s = refl
+
+pub with-group-is : (g : Gid) (s : Groups) → with-group g s ≡ record { 0 = bitOr (s .0) (2 ^ g .0) }
+unfolding with-group
+with-group-is g s = refl
+
 -- no group is in the empty set
 pub member-none : (g : Gid) → member g no-groups ≡ false
 unfolding member no-groups

@@ -37,7 +37,8 @@ person-number p h =
     let j = leb-true 1 (p .primary .0) (and-both (leb 1 (p .primary .0)) (leb (p .primary .0) 15) (i .0) .0) in
     ne-eqb (p .primary .0) 0 (λ e. omega arith)
 
-length-slot : (o : Option Person) → is-slot o ≡ true → length (slot-bytes o) ≡ 3
+-- an account takes 3 bytes
+pub length-slot : (o : Option Person) → is-slot o ≡ true → length (slot-bytes o) ≡ 3
 unfolding slot-bytes
 length-slot none h = refl
 length-slot (some p) h = rw (length-two-bytes (p .further .0))
@@ -83,7 +84,8 @@ grant-password u g h =
     let i = and-both (is-root (g .uid) || is-some (person u (g .uid))) (ltb (g .role .0) 8 && is-name (g .password)) h in
     name-fits (g .password) (and-both (ltb (g .role .0) 8) (is-name (g .password)) (i .1) .1)
 
-length-grant : (u : Setup) (g : Grant) → is-grant u g ≡ true → length (grant-bytes g) ≡ 10
+-- a grant takes 10
+pub length-grant : (u : Setup) (g : Grant) → is-grant u g ≡ true → length (grant-bytes g) ≡ 10
 unfolding grant-bytes
 length-grant u g h = rw (length-padded 8 (g .password) (grant-password u g h .0))
 
