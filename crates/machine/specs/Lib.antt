@@ -27,5 +27,6 @@ pub mod MachinePrivacyLaws
 pub mod Theorems
 pub mod Compute
 pub mod Cases
+pub mod RepositoryCases
 pub mod Acting
 pub mod ActingLaws

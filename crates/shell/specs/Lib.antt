@@ -12,3 +12,4 @@ pub mod ShutLaws
 pub mod Privacy
 pub mod ShellPrivacyLaws
 pub mod Compute
+pub mod Cases
