@@ -79,6 +79,11 @@ module _ {A : Type 0} (n m : Name) (y : A) (ds rest : Forest A) where
   unfolding get
   found-first d t e = let q : some (record { here = y; below = ds }) ≡ some d = rw t at e in cc
 
+  -- and is passed over if it has another
+  pub get-other : same-text n m ≡ false → get n (node m y ds rest) ≡ get n rest
+  unfolding get
+  get-other t = rw t
+
   -- where no child is found neither the first node nor the rest has it
   pub found-none : get n (node m y ds rest) ≡ none → (same-text n m ≡ false) × (get n rest ≡ none)
   unfolding get
