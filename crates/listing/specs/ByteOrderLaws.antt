@@ -2,7 +2,6 @@
 -- what lies below or at its next siblings.
 use mathlib.Core.Path.{_≡_, refl, sym, ap, _∙_}
 use mathlib.Core.List.{List, [], _∷_, _++_, map, append-assoc, append-nil, map-append}
-use mathlib.Core.Option.{none}
 use mathlib.Core.Bool.{Bool, true, not}
 use Prim.Native.Nat.{ℕ, _≤_, _<_}
 use native.Mathlib.Omega.{arith}
@@ -16,13 +15,12 @@ use Rattle.buffers.specs.TextLaws.{every-append}
 use Rattle.syntax.specs.Pieces.{bytes, comma, piece-length, joined}
 use Rattle.syntax.specs.Path.{Name, Path, root, _▹_, is-name, has-names, names-text, path-text}
 use Rattle.syntax.specs.PathLaws.{name-length, name-lacks}
-use Rattle.syntax.specs.Compute.{compute as compute-syntax}
-use Rattle.tree.specs.declared.Kind.the-variants.{Directory}
-use Rattle.tree.specs.Forest.{Forest, nil, node, Place}
+use Rattle.tree.specs.Forest.{Forest, Place}
+use Rattle.tree.specs.ForestLaws.{forest-induction}
 use Rattle.tree.specs.Node.{Node}
 use Rattle.tree.specs.WellFormed.{leads, is-forest, is-tree}
 use Rattle.tree.specs.WellFormedLaws.{place-parts, forest-parts, tree-parts, leads-node, leads-before}
-use Rattle.listing.specs.Listing.{kind-text, tag-fields, node-line, forest-lines, listing}
+use Rattle.listing.specs.Listing.{node-line, forest-lines, listing}
 use Rattle.listing.specs.ByteOrder.{line-path, increasing}
 
 -- ---- what a line begins with
@@ -115,28 +113,29 @@ text-below : (p : Path) (n : Name) (y : Text) → names-text (p ▹ n) ++ (47 �
 unfolding names-text
 text-below p n y = append-assoc (names-text p) (47 ∷ n) (47 ∷ y)
 
--- the path of a node is its parent's and its name; then come those below it and those of its siblings
-texts-node : (p : Path) (n : Name) (x : Node) (cs rest : Forest Node) → has-names (p ▹ n) ≡ true →
-    texts p (node n x cs rest) ≡ names-text (p ▹ n) ∷ (texts (p ▹ n) cs ++ texts p rest)
-unfolding forest-lines path-text
-texts-node p n x cs rest h = rw (line-begins (p ▹ n) x h, map-append line-path (forest-lines (p ▹ n) cs) (forest-lines p rest))
+-- the path of a node's line is its parent's and its name; then come others
+texts-node : (p : Path) (n : Name) (x : Node) (k l : List Text) → has-names (p ▹ n) ≡ true →
+    map line-path (node-line (p ▹ n) x ∷ (k ++ l)) ≡ names-text (p ▹ n) ∷ (map line-path k ++ map line-path l)
+unfolding path-text
+texts-node p n x k l h = rw (line-begins (p ▹ n) x h, map-append line-path k l)
 
 -- what a test says of all texts that go on behind a path it says of all below the path
-below-all : (f : Text → Bool) (p : Path) (F : Forest Node) → has-names p ≡ true → is-forest F ≡ true
-    → ((x : Text) → 1 ≤ length x → f (names-text p ++ (47 ∷ x)) ≡ true) → every f (texts p F) ≡ true
-unfolding every names-text
-below-all f p nil h k g = unfold forest-lines in refl
-below-all f p (node n x cs rest) h k g =
+abbrev All-below : (Text → Bool) → Forest Node → Type 0
+All-below f F = (p : Path) → has-names p ≡ true → is-forest F ≡ true → ((x : Text) → 1 ≤ length x → f (names-text p ++ (47 ∷ x)) ≡ true) → every f (texts p F) ≡ true
+
+below-all : (f : Text → Bool) (F : Forest Node) → All-below f F
+unfolding every names-text forest-lines
+below-all f = forest-induction (All-below f) (λ p h k g. refl) λ n x cs rest under beside p h k g.
     let v = forest-parts n (record { here = x; below = cs }) rest k in
     let q : has-names (p ▹ n) ≡ true = named p n h (v .name) in
     let below : (y : Text) → 1 ≤ length y → f (names-text (p ▹ n) ++ (47 ∷ y)) ≡ true = λ y l. rw (text-below p n y) (g (n ++ (47 ∷ y)) (omega (arith, length-append n (47 ∷ y)))) in
-    rw (
-      texts-node p n x cs rest q,
+    ap (every f) (texts-node p n x (forest-lines (p ▹ n) cs) (forest-lines p rest) q)
+    ∙ rw (
       g n (name-length n (v .name) .0),
       every-append f (texts (p ▹ n) cs) (texts p rest),
-      below-all f (p ▹ n) cs q (place-parts (record { here = x; below = cs }) (v .first) .forest) below,
+      under (p ▹ n) q (place-parts (record { here = x; below = cs }) (v .first) .forest) below,
     )
-    (below-all f p rest h (v .others) g)
+    (beside p h (v .others) g)
 
 -- a child, with what lies below it, comes before another whose name comes behind its own
 child-before : (p : Path) (n m x y : Text) → ends x ≡ true → is-name m ≡ true → precedes n m ≡ true
@@ -146,11 +145,12 @@ child-before p n m x y e k b =
     (names-in-order n m x y (λ c i. name-lacks c i m k) e b)
 
 -- and before all siblings behind it
-before-siblings : (p : Path) (n x : Text) (F : Forest Node) → has-names p ≡ true → ends x ≡ true → is-forest F ≡ true → leads n F ≡ true
-    → every (precedes (names-text p ++ (47 ∷ (n ++ x)))) (texts p F) ≡ true
-unfolding every names-text
-before-siblings p n x nil h e k l = unfold forest-lines in refl
-before-siblings p n x (node m y cs rest) h e k l =
+abbrev Behind : Path → Text → Text → Forest Node → Type 0
+Behind p n x F = has-names p ≡ true → ends x ≡ true → is-forest F ≡ true → leads n F ≡ true → every (precedes (names-text p ++ (47 ∷ (n ++ x)))) (texts p F) ≡ true
+
+before-siblings : (p : Path) (n x : Text) (F : Forest Node) → Behind p n x F
+unfolding every names-text forest-lines
+before-siblings p n x = forest-induction (Behind p n x) (λ h e k l. refl) λ m y cs rest under beside h e k l.
     let v = forest-parts m (record { here = y; below = cs }) rest k in
     let q : has-names (p ▹ m) ≡ true = named p m h (v .name) in
     let s : Text = names-text p ++ (47 ∷ (n ++ x)) in
@@ -158,30 +158,33 @@ before-siblings p n x (node m y cs rest) h e k l =
     let step : (z : Text) → precedes s (names-text p ++ (47 ∷ (m ++ z))) ≡ true = λ z. child-before p n m x z e (v .name) b in
     let here : precedes s (names-text p ++ (47 ∷ m)) ≡ true = rw (append-nil m) at (step []) in
     let below : (z : Text) → 1 ≤ length z → precedes s (names-text (p ▹ m) ++ (47 ∷ z)) ≡ true = λ z i. rw (text-below p m z) (step (47 ∷ z)) in
-    rw (
-      texts-node p m y cs rest q,
+    ap (every (precedes s)) (texts-node p m y (forest-lines (p ▹ m) cs) (forest-lines p rest) q)
+    ∙ rw (
       here,
       every-append (precedes s) (texts (p ▹ m) cs) (texts p rest),
-      below-all (precedes s) (p ▹ m) cs q (place-parts (record { here = y; below = cs }) (v .first) .forest) below,
+      below-all (precedes s) cs (p ▹ m) q (place-parts (record { here = y; below = cs }) (v .first) .forest) below,
     )
-    (before-siblings p n x rest h e (v .others) (leads-before n m rest b (v .leading)))
+    (beside h e (v .others) (leads-before n m rest b (v .leading)))
 
 -- the lines of a well-formed forest are in byte order of their paths
-forest-in-order : (p : Path) (F : Forest Node) → has-names p ≡ true → is-forest F ≡ true → increasing (texts p F) ≡ true
-unfolding increasing names-text
-forest-in-order p nil h k = unfold forest-lines in refl
-forest-in-order p (node n x cs rest) h k =
+abbrev In-order : Forest Node → Type 0
+In-order F = (p : Path) → has-names p ≡ true → is-forest F ≡ true → increasing (texts p F) ≡ true
+
+forest-in-order : (F : Forest Node) → In-order F
+unfolding increasing names-text forest-lines
+forest-in-order = forest-induction In-order (λ p h k. refl) λ n x cs rest under beside p h k.
     let v = forest-parts n (record { here = x; below = cs }) rest k in
     let w = place-parts (record { here = x; below = cs }) (v .first) in
     let q : has-names (p ▹ n) ≡ true = named p n h (v .name) in
     let own : Text = names-text (p ▹ n) in
     let others : List Text = texts p rest in
     let behind : (y : Text) → ends y ≡ true → every (precedes (names-text p ++ (47 ∷ (n ++ y)))) others ≡ true = λ y e. before-siblings p n y rest h e (v .others) (v .leading) in
-    let children : every (precedes own) (texts (p ▹ n) cs) ≡ true = below-all (precedes own) (p ▹ n) cs q (w .forest) (λ y l. goes-on own (47 ∷ y) (omega arith)) in
+    let children : every (precedes own) (texts (p ▹ n) cs) ≡ true = below-all (precedes own) cs (p ▹ n) q (w .forest) (λ y l. goes-on own (47 ∷ y) (omega arith)) in
     let siblings : every (precedes own) others ≡ true = rw (append-nil n) at (behind [] refl) in
-    let apart : every (λ s. every (precedes s) others) (texts (p ▹ n) cs) ≡ true = below-all (λ s. every (precedes s) others) (p ▹ n) cs q (w .forest) (λ y l. rw (text-below p n y) (behind (47 ∷ y) refl)) in
-    rw (texts-node p n x cs rest q, every-append (precedes own) (texts (p ▹ n) cs) others, children, siblings)
-    (increasing-append (texts (p ▹ n) cs) others (forest-in-order (p ▹ n) cs q (w .forest)) (forest-in-order p rest h (v .others)) apart)
+    let apart : every (λ s. every (precedes s) others) (texts (p ▹ n) cs) ≡ true = below-all (λ s. every (precedes s) others) cs (p ▹ n) q (w .forest) (λ y l. rw (text-below p n y) (behind (47 ∷ y) refl)) in
+    ap increasing (texts-node p n x (forest-lines (p ▹ n) cs) (forest-lines p rest) q)
+    ∙ rw (every-append (precedes own) (texts (p ▹ n) cs) others, children, siblings)
+    (increasing-append (texts (p ▹ n) cs) others (under (p ▹ n) q (w .forest)) (beside p h (v .others)) apart)
 
 -- the lines of a well-formed tree are in byte order of their paths, and no two have the same path
 pub listing-in-byte-order : (t : Place Node) → is-tree t ≡ true → increasing (map line-path (listing t)) ≡ true
@@ -190,17 +193,5 @@ listing-in-byte-order t h =
     let w = place-parts t (tree-parts t h .whole) in
     let q : has-names root ≡ true = unfold has-names in refl in
     let top : line-path (node-line root (t .here)) ≡ bytes "/" = line-begins root (t .here) q ∙ (unfold path-text in refl) in
-    rw (top, below-all (precedes (bytes "/")) root (t .below) q (w .forest) (λ x l. unfold names-text bytes in goes-on (47 ∷ []) x l))
-    (forest-in-order root (t .below) q (w .forest))
-
--- ---- an example
-
--- `/a` with a child, and `/a0` and `/a_` behind it
-small : Place Node
-small =
-    let x : Node = record { kind = Directory; owner = record { 0 = 0 }; group = record { 0 = 0 }; mode = 0; revision = 0; tag = none; content = [] } in
-    record { here = x; below = node (bytes "a") x (node (bytes "x") x nil nil) (node (bytes "a0") x nil (node (bytes "a_") x nil nil)) }
-
-small-in-order : map line-path (listing small) ≡ bytes "/" ∷ bytes "/a" ∷ bytes "/a/x" ∷ bytes "/a0" ∷ bytes "/a_" ∷ []
-unfolding compute-syntax piece-length kind-text tag-fields node-line forest-lines listing line-path small
-small-in-order = refl
+    rw (top, below-all (precedes (bytes "/")) (t .below) root q (w .forest) (λ x l. unfold names-text bytes in goes-on (47 ∷ []) x l))
+    (forest-in-order (t .below) root q (w .forest))

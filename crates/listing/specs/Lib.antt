@@ -6,3 +6,4 @@ pub mod ByteOrder
 pub mod ByteOrderLaws
 pub mod ListedLaws
 pub mod Compute
+mod Cases

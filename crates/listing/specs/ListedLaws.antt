@@ -9,8 +9,8 @@ use Rattle.buffers.specs.Text.{Text, same-text}
 use Rattle.buffers.specs.TextLaws.{same-text-sound}
 use Rattle.syntax.specs.Path.{Name, Path, root, _▹_, has-names}
 use Rattle.syntax.specs.FormLaws.{no-answer, answered}
-use Rattle.tree.specs.Forest.{Forest, nil, node, Place, get, place-at}
-use Rattle.tree.specs.ForestLaws.{get-nil, get-first, get-other, found-first}
+use Rattle.tree.specs.Forest.{Forest, Place, get, place-at}
+use Rattle.tree.specs.ForestLaws.{forest-induction, get-nil, get-first, get-other, found-first}
 use Rattle.tree.specs.UpdateLaws.{place-at-root, place-at-child, place-at-parent}
 use Rattle.tree.specs.Node.{Node}
 use Rattle.tree.specs.WellFormed.{is-forest, is-tree}
@@ -44,16 +44,18 @@ abbrev place-lines : Path → Place Node → List Text
 place-lines p d = node-line p (d .here) ∷ forest-lines p (d .below)
 
 -- those of a child are among those of the forest
-child-lines : (l : Text) (p : Path) (n : Name) (F : Forest Node) (d : Place Node) → get n F ≡ some d → In l (place-lines (p ▹ n) d) → In l (forest-lines p F)
+abbrev Childs-lines : Text → Path → Name → Place Node → Forest Node → Type 0
+Childs-lines l p n d F = get n F ≡ some d → In l (place-lines (p ▹ n) d) → In l (forest-lines p F)
+
+child-lines : (l : Text) (p : Path) (n : Name) (d : Place Node) (F : Forest Node) → Childs-lines l p n d F
 unfolding forest-lines
-child-lines l p n nil d e i = no-answer (sym (get-nil n) ∙ e)
-child-lines l p n (node m x cs rest) d e i = case (same-text n m)
+child-lines l p n d = forest-induction (Childs-lines l p n d) (λ e i. no-answer (sym (get-nil n) ∙ e)) λ m x cs rest under beside e i. case (same-text n m)
     (λ t.
     in-first l (place-lines (p ▹ m) (record { here = x; below = cs })) (forest-lines p rest)
     (rw (found-first n m x cs rest d t e) at (rw (same-text-sound n m t) at i)))
     (λ t.
     in-second l (place-lines (p ▹ m) (record { here = x; below = cs })) (forest-lines p rest)
-    (child-lines l p n rest d (sym (get-other n m x cs rest t) ∙ e) i))
+    (beside (sym (get-other n m x cs rest t) ∙ e) i))
 
 module _ (t : Place Node) where
   -- those of a place are among those of the tree
@@ -62,7 +64,7 @@ module _ (t : Place Node) where
   place-listed l root d e i = let s : d ≡ t = answered (sym (place-at-root t) ∙ e) in rw s at i
   place-listed l (p ▹ n) d e i =
       let (c, stands, child) = place-at-parent t p n d e in
-      place-listed l p c stands (inr (child-lines l p n (c .below) d child i))
+      place-listed l p c stands (inr (child-lines l p n d (c .below) child i))
 
   -- the listing has the line of each node
   pub node-listed : (p : Path) (d : Place Node) → place-at t p ≡ some d → In (node-line p (d .here)) (listing t)
@@ -70,23 +72,26 @@ module _ (t : Place Node) where
 
   -- ---- each line is a node's
 
-  forest-line : (l : Text) (p : Path) (F : Forest Node) → has-names p ≡ true → is-forest F ≡ true → ((m : Name) (d : Place Node) → get m F ≡ some d → place-at t (p ▹ m) ≡ some d)
+  abbrev Nodes-lines : Text → Forest Node → Type 0
+  Nodes-lines l F = (p : Path) → has-names p ≡ true → is-forest F ≡ true → ((m : Name) (d : Place Node) → get m F ≡ some d → place-at t (p ▹ m) ≡ some d)
       → In l (forest-lines p F) → Line-of-node t l
+
+  -- of siblings: the first one's own line, one below it, or one of the others
+  forest-line : (l : Text) (F : Forest Node) → Nodes-lines l F
   unfolding forest-lines
-  forest-line l p nil b h g i = absurd i
-  forest-line l p (node n x cs rest) b h g (inl e) =
-      let c : Place Node = record { here = x; below = cs } in
-      let q : has-names (p ▹ n) ≡ true = named p n b (forest-parts n c rest h .name) in
-      record { path = p ▹ n; place = c; stands = g n c (get-first n x cs rest); line = e; begins = ap line-path e ∙ line-begins (p ▹ n) x q }
-  forest-line l p (node n x cs rest) b h g (inr i) =
+  forest-line l = forest-induction (Nodes-lines l) (λ p b h g i. absurd i) λ n x cs rest under beside p b h g i.
       let c : Place Node = record { here = x; below = cs } in
       let v = forest-parts n c rest h in
+      let q : has-names (p ▹ n) ≡ true = named p n b (v .name) in
       let child = g n c (get-first n x cs rest) in
-      elim (in-either l (forest-lines (p ▹ n) cs) (forest-lines p rest) i) [
-        | inl j ↦ forest-line l (p ▹ n) cs (named p n b (v .name)) (place-parts c (v .first) .forest) (λ m d k. place-at-child t (p ▹ n) m c child ∙ k) j
-        | inr j ↦ forest-line l p rest b (v .others) (λ m d k. g m d (case (same-text m n)
-            (λ s. let z : none ≡ some d = sym (get-leads n rest (v .others) (v .leading)) ∙ ap (λ (r : Name). get r rest) (sym (same-text-sound m n s)) ∙ k in no-answer z)
-            (λ s. get-other m n x cs rest s ∙ k))) j
+      elim i [
+        | inl e ↦ record { path = p ▹ n; place = c; stands = child; line = e; begins = ap line-path e ∙ line-begins (p ▹ n) x q }
+        | inr j ↦ elim (in-either l (forest-lines (p ▹ n) cs) (forest-lines p rest) j) [
+          | inl j ↦ under (p ▹ n) q (place-parts c (v .first) .forest) (λ m d k. place-at-child t (p ▹ n) m c child ∙ k) j
+          | inr j ↦ beside p b (v .others) (λ m d k. g m d (case (same-text m n)
+              (λ s. let z : none ≡ some d = sym (get-leads n rest (v .others) (v .leading)) ∙ ap (λ (r : Name). get r rest) (sym (same-text-sound m n s)) ∙ k in no-answer z)
+              (λ s. get-other m n x cs rest s ∙ k))) j
+        ]
       ]
 
   top-named : has-names root ≡ true
@@ -98,4 +103,4 @@ module _ (t : Place Node) where
   unfolding listing
   listed-node h l (inl e) = record { path = root; place = t; stands = place-at-root t; line = e; begins = ap line-path e ∙ line-begins root (t .here) top-named }
   listed-node h l (inr i) =
-      forest-line l root (t .below) top-named (place-parts t (tree-parts t h .whole) .forest) (λ m d k. place-at-child t root m t (place-at-root t) ∙ k) i
+      forest-line l (t .below) root top-named (place-parts t (tree-parts t h .whole) .forest) (λ m d k. place-at-child t root m t (place-at-root t) ∙ k) i

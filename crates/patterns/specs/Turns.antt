@@ -31,19 +31,19 @@ pub record Reads (r : Step) (at : Place) (w w′ : List ℕ) : Type 0 where
   pub holds : w′ ≡ part w (at .from) (at .to) ++ behind
   pub long : length w′ ≡ length w
 
--- a print: on from a place, where there is more to do
-pub record Prints (r : Step) (more : Bool) (then : Place) : Type 0 where
+-- a report: on from a place, where there is more to do
+pub record Reported (r : Step) (more : Bool) (then : Place) : Type 0 where
   -- whether `write` printed all that it was handed
   pub printed : Bool
   pub leads : r ≡ print-step printed more then
 
 -- a call: the buffers are as it leaves them, with its report
 abbrev pub Makes : Step → Call → Place → Buffers → Buffers → Type 0
-Makes r c then s s′ = Prints r (goes-on c (called s c .tells)) then × (s′ ≡ with-call s c)
+Makes r c then s s′ = Reported r (goes-on c (called s c .tells)) then × (s′ ≡ with-call s c)
 
 -- a wrong line of the setup, behind so many
 abbrev pub Refuses : Step → Place → ℕ → Buffers → Buffers → Type 0
-Refuses r at lines s s′ = Prints r false at × (s′ ≡ with-report s (refusal (suc lines)))
+Refuses r at lines s s′ = Reported r false at × (s′ ≡ with-report s (refusal (suc lines)))
 
 -- a setup line that ends at a byte: the store is as the line leaves it, and the place behind it
 abbrev pub Line-goes : Step → Place → ℕ → ℕ → LineRead → Buffers → Buffers → Type 0

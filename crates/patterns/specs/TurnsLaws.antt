@@ -9,7 +9,8 @@ use lib.ListN.{length}
 use Rattle.syntax.specs.Parts.{part}
 use Rattle.setup.specs.SetupStep.{Line-answer, leads-on, ends-it, is-wrong, setup-step}
 use Rattle.setup.specs.SetupStepLaws.{step-kind}
-use Rattle.setups.specs.LineRead.{reading-in, line-call}
+use Rattle.store.specs.SetupHeader.{reading-in}
+use Rattle.setups.specs.LineRead.{line-call}
 use Rattle.setups.specs.OpeningLaws.{line-begun}
 use Rattle.printing.specs.Printed.{in-front}
 use Rattle.agenda.specs.declared.Phase.{Phase}

@@ -17,7 +17,7 @@ ghost use Rattle.printing.specs.Printed.{in-front};
 ghost use Rattle.agenda.specs.Agenda.{Place-held, Call-held, report-text, refusal};
 ghost use Rattle.agenda.specs.Conversation.{made, first-place};
 ghost use Rattle.patterns.specs.Buffers.{standard-output, lent, Answering, Reporting, Held, Wide};
-ghost use Rattle.patterns.specs.Turns.{Reads, Prints, Makes, Line-made, Turns, most-turns, Serves};
+ghost use Rattle.patterns.specs.Turns.{Reads, Reported, Makes, Line-made, Turns, most-turns, Serves};
 use agenda::Asked;
 use agenda::Call;
 use agenda::Next;
@@ -107,7 +107,7 @@ fn refused(at: Place, lines: usize, answer: &[u8], out: &mut [u8]) -> Step
     requires { ⌜ lines < 18446744073709551615 ⌝ }
     requires { ⌜ Answering (now answer) ⌝ }
     requires { ⌜ Reporting (now out) ⌝ }
-    ensures { λ r. ⌜ Prints r false at ⌝ }
+    ensures { λ r. ⌜ Reported r false at ⌝ }
     ensures { λ _. ⌜ now (out .exit) ≡ in-front (refusal (suc lines)) (now (out .entry)) ⌝ }
 {
     let n = refuse(lines + 1, answer, out);

@@ -20,14 +20,15 @@ use Rattle.commands.specs.Command.{Command, shell, repository, line}
 use Rattle.commands.specs.Compute.{compute as compute-commands}
 use Rattle.tree.specs.declared.Kind.{Kind}
 use Rattle.tree.specs.declared.Kind.the-variants.{File, Directory}
-use Rattle.tree.specs.declared.Cause.the-variants.{NoForm}
+use Rattle.tree.specs.declared.Cause.the-variants.{NoForm, Access}
 use Rattle.tree.specs.Causes.{number}
 use Rattle.tree.specs.Result.{Result, refused, _>>=_, present, Outcome}
 use Rattle.tree.specs.Forest.{nil, node, Place, place-at, leaf}
 use Rattle.tree.specs.Node.{Node}
 use Rattle.tree.specs.Compute.{compute as compute-tree}
 use Rattle.shell.specs.Steps.{run-shell}
-use Rattle.shell.specs.Replies.{Reply, ok, refusal, reply, after}
+use Rattle.shell.specs.declared.Answer.the-variants.{Refused, WrongLine}
+use Rattle.shell.specs.Replies.{Reply, ok, refusal, reply, after, Told, told, answer-of}
 use Rattle.shell.specs.Compute.{compute as compute-shell}
 
 -- ---- cases
@@ -406,3 +407,11 @@ changing-leaves : map (after-cases changing) ("/u1/a" ∷ "/u1/d" ∷ []) ≡
     some (record { here = directory 1 1 0o2700; below = node (bytes "b") (file 1 1 0o400 "") nil nil }) ∷ []
 unfolding compute changing
 changing-leaves = refl
+
+-- ---- what an answer tells: beside 0 a text's length, beside 17 the line
+tellings : List Told
+tellings = map told (answer-of (ok none) ∷ answer-of (ok (some (bytes "a,b"))) ∷ Refused Access ∷ WrongLine 4 ∷ [])
+
+tellings-are : tellings ≡ record { number = 0; values = [] } ∷ record { number = 0; values = 3 ∷ [] } ∷ record { number = 5; values = [] } ∷ record { number = 17; values = 4 ∷ [] } ∷ []
+unfolding compute tellings told answer-of
+tellings-are = refl

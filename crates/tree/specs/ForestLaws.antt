@@ -3,7 +3,7 @@
 -- In order:
 --   all forests: forest-induction;
 --   names, and the larger of two numbers;
---   no siblings, and the first of some: get-nil, empty-is-nil, height-node;
+--   no siblings, and the first of some: get-nil, get-first, empty-is-nil, height-node;
 --   a child found: found-first, found-none;
 --   a child changed: get-at, get-at-other, names-at, empty-at, at-at, size-at, height-at, at-twice, at-id, at-none;
 --   a child put in: get-insert, get-insert-other, size-insert, height-insert;
@@ -59,6 +59,11 @@ module _ {A : Type 0} where
   pub get-nil : (n : Name) → get {A = A} n nil ≡ none
   unfolding get
   get-nil n = refl
+
+  -- the first is found under its own name
+  pub get-first : (n : Name) (x : A) (cs rest : Forest A) → get n (node n x cs rest) ≡ some (record { here = x; below = cs })
+  unfolding get
+  get-first n x cs rest = rw (same-text-refl n)
 
   -- what is empty has no sibling
   pub empty-is-nil : (F : Forest A) → is-empty F ≡ true → F ≡ nil

@@ -13,14 +13,14 @@ use Rattle.agenda.specs.declared.Place.{Place}
 use Rattle.agenda.specs.declared.Step.{Step}
 use Rattle.agenda.specs.Agenda.{report-text, goes-on, print-step}
 use Rattle.patterns.specs.Buffers.{Buffers, lent, called, with-report, with-call}
-use Rattle.patterns.specs.Turns.{Prints}
+use Rattle.patterns.specs.Turns.{Reported}
 use borrow.Author.Needs.{needs}
 use Rattle.patterns.proofs.make_call.Statement.{statement}
 use Rattle.patterns.proofs.make_call.Tie as tie
 
 -- where it goes on, from what the call came to
 prints-as : (c : Call) (then : Place) (printed more : Bool) (r : Step) (m m′ : Called) → m ≡ m′ → more ≡ goes-on c (m .tells) → r ≡ print-step printed more then
-    → Prints r (goes-on c (m′ .tells)) then
+    → Reported r (goes-on c (m′ .tells)) then
 prints-as c then printed more r m m′ e q l =
     record { printed = printed; leads = l ∙ ap (λ (x : Bool). print-step printed x then) (q ∙ ap (λ (x : Called). goes-on c (x .tells)) e) }
 
