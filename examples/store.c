@@ -146,7 +146,7 @@ static bool write_new(const char *new_file)
 }
 
 /* Puts the store in FILE's place. FILE itself is never written: a new file beside it takes its name, in one step, once the disk
- * has all of its bytes. So whenever the power fails, FILE is the old store or the new one. The last step makes the name lasting. */
+ * has all of its bytes. So whenever the power fails, FILE is the old store or the new one. The last step makes the name last. */
 static bool save(const char *file, int directory)
 {
     char new_file[PATH_MAX];
@@ -255,7 +255,8 @@ static bool carry_out(char *const *lines, FILE *answers, bool *changed)
     return all_done;
 }
 
-/* Loads, carries out lines and saves. The answers wait in memory until the store is saved: what is told is so after a power cut, too. */
+/* Loads, carries out lines and saves. The answers wait in memory until the store is saved: what is told is so after a power cut,
+ * too. */
 static bool run(const char *file, char *const *lines)
 {
     char *text = NULL;

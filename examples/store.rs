@@ -133,7 +133,7 @@ fn write_new(new_file: &OsStr, bytes: &[u8]) -> io::Result<()> {
 }
 
 /// Puts the store in FILE's place. FILE itself is never written: a new file beside it takes its name, in one step, once the disk
-/// has all of its bytes. So whenever the power fails, FILE is the old store or the new one. The last step makes the name lasting.
+/// has all of its bytes. So whenever the power fails, FILE is the old store or the new one. The last step makes the name last.
 fn save(file: &OsStr, directory: &File, store: &Store) -> Result<(), Problem> {
     let mut new_file = file.to_os_string();
     new_file.push(".new");
