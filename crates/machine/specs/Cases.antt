@@ -164,22 +164,22 @@ first-check-decides = (refl, refl)
 for-each : String → String → String → List Case
 for-each l names r = map (λ b. answered (bytes l ++ (b ∷ bytes r)) (ok none)) (bytes names)
 
--- With 11 nodes, 20 entries more, 10 copies of these with their directory, and 15 of one file there are 256. 10 comes last; what is
+-- With 10 nodes, 20 entries more, 10 copies of these with their directory, and 16 of one file there are 256. 10 comes last; what is
 -- taken out makes room.
 filling : List Case
 filling =
-    all-done "1,login,0,oak\n1,mkdir,/u1/d,0700\n1,mkdir,/u1/d/e,0700\n1,mkdir,/u1/d/e/f,0700\n1,mkdir,/u1/d/e/f/g,0700\n1,mkdir,/u1/d/e/f/g/h,0700" ++ (
+    all-done "1,login,0,oak\n1,mkdir,/u1/d,0700\n1,mkdir,/u1/d/e,0700\n1,mkdir,/u1/d/e/f,0700\n1,mkdir,/u1/d/e/f/g,0700" ++ (
     all-done "1,create,/u1/a,0600\n1,add,/u1/d,/rep/d,1" ++ (
     for-each "1,add,/u1/a,/rep/d/" "abcdefghijklmnopqrst" ",1" ++ (
     for-each "1,co,/rep/d,/u1/c" "0123456789" "" ++ (
-    for-each "1,co,/rep/d/a,/u1/d/e/f/g/h/" "abcdefghijklmno" "" ++ (
+    for-each "1,co,/rep/d/a,/u1/d/e/f/g/" "abcdefghijklmnop" "" ++ (
     "1,add,/u1/a,/rep/b,1" gives 10 ∷
     "1,add,/u1/a,/rep/d/a,1" gives 6 ∷
     "1,co,/rep/d/a,/u1/z" gives 10 ∷
     "1,co,/rep/d,/u1/a/z" gives 4 ∷
     "1,co,/rep/none,/u1/z" gives 3 ∷
-    "1,co,/rep/d,/u1/d/e/f/g/z" gives 10 ∷
-    "1,co,/rep/d,/u1/d/e/f/g/h/z" gives 19 ∷
+    "1,co,/rep/d,/u1/d/e/f/z" gives 10 ∷
+    "1,co,/rep/d,/u1/d/e/f/g/z" gives 19 ∷
     "1,create,/u1/z,0600" gives 10 ∷
     "2,create,/u1/z,0600" gives 5 ∷
     "1,login,1,ash" gives 0 ∷

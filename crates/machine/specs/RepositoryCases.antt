@@ -92,8 +92,8 @@ checkouts-answered : Answered checkouts
 unfolding compute checkouts
 checkouts-answered = (refl, refl)
 
--- `commit`: walk; directory 7; r 5; untagged 15; the account's walk; directory 7; r 5; w on its parent 5; stale 14. An entry
--- added later starts at 1
+-- `commit`: walk; directory 7; r 5; untagged 15; the account's walk; directory 7; r 5; w on its parent 5; stale 14. A tag
+-- follows its node; an entry added later starts at 1
 tags : List Case
 tags =
     all-done "1,login,0,oak\n2,login,0,fir\n1,mkdir,/u1/d,0700\n1,create,/u1/a,0644\n1,create,/u1/n,0200\n1,create,/u1/m,0600" ++ (
@@ -117,7 +117,9 @@ tags =
     "1,co,/rep/d/a,/u1/e" gives 0 ∷
     "1,read,/u1/e" shows "t" ∷
     "1,write,/u1/e,u" gives 0 ∷
-    "1,commit,/u1/e" gives 0 ∷
+    "1,mv,/u1/e,/u1/f" gives 0 ∷
+    "1,commit,/u1/f" gives 0 ∷
+    "1,mv,/u1/f,/u1/e" gives 0 ∷
     "1,commit,/u1/a" gives 14 ∷
     "1,del,/rep/d/a" gives 0 ∷
     "1,commit,/u1/e" gives 3 ∷
