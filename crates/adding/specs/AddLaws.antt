@@ -10,7 +10,6 @@ use borrow.Author.Tests.{leb-true, le-leb, lt-leb}
 use Rattle.buffers.specs.Text.{Text}
 use Rattle.accounts.specs.declared.Account.{Account}
 use Rattle.accounts.specs.declared.Caller.{Caller}
-use Rattle.accounts.specs.declared.Role.{Role}
 use Rattle.accounts.specs.Dominance.{Bounded-role, dominates}
 use Rattle.accounts.specs.Service.{service}
 use Rattle.syntax.specs.Path.{Path, Entry-path, last, is-top, in-rep, entry-location, entry-path, below-rep}
@@ -32,9 +31,7 @@ use Rattle.gaps.specs.declared.Room.{Room}
 use Rattle.gaps.specs.declared.Room.the-variants
 use Rattle.gaps.specs.Gaps.{gap-of, gap-from, gap-told}
 use Rattle.gaps.specs.GapsLaws.{told-refused, told-gap, Standing, room-to}
-use Rattle.shell.specs.declared.Answer.{Answer}
 use Rattle.shell.specs.Steps.{fit}
-use Rattle.shell.specs.CommandBytes.{Follows-silently}
 use Rattle.store.specs.State.{Store}
 use Rattle.machine.specs.Machine.{session, run-add}
 use Rattle.machine.specs.StoreMachine.{store}
@@ -118,11 +115,8 @@ module _ (u : Setup) (s : Store) (c : Caller) (y : Bounded-role) (q : session st
       rw (q, done-bind, room-by-modes a (s .tree) (entry-location e))
       (simp (bind-bind, then-bind, then-then, done-bind, require-true, done-then, writable-by-modes, add-zero))
 
--- what follows the steps by the session's account and dominance follows the command
-pub add-acts : {b : List ℕ} {c : Caller} {a : Account} (j : Acting b c a) {dominated : Bool} (w : Path) (e : Entry-path) (z : Bounded-role)
-    → {role : Role} → z .role ≡ role → dominated ≡ dominates (j .setup .pairs) (j .role .role) role → {r : Answer} {b′ : List ℕ}
-    → Follows-silently (add-steps (c .account) a dominated z (j .state .tree) w e) b r b′
-    → Follows-silently (on-tree-steps (run-add store (j .setup) (j .state) c w e z)) b r b′
-add-acts {c = c} j {dominated} w e z q is f =
-    let own : dominated ≡ dominates (j .setup .pairs) (j .role .role) (z .role) = is ∙ ap (dominates (j .setup .pairs) (j .role .role)) (sym q) in
-    rw (add-is (j .setup) (j .state) c (j .role) (j .session) w e z, ← own, ← j .served) f
+-- the command's steps are those by the session's account and dominance
+pub add-acts : {c : Caller} {a : Account} (j : Acting c a) {dominated : Bool} (w : Path) (e : Entry-path) (z : Bounded-role)
+    → dominated ≡ dominates (j .setup .pairs) (j .role .role) (z .role)
+    → on-tree-steps (run-add store (j .setup) (j .state) c w e z) ≡ add-steps (c .account) a dominated z (j .state .tree) w e
+add-acts {c} j w e z own = rw (add-is (j .setup) (j .state) c (j .role) (j .session) w e z, ← own, ← j .served)

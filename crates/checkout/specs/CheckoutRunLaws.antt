@@ -1,7 +1,5 @@
 -- In a session, `co` of the store's machine is the steps by the session's account, and it keeps the sessions.
 use mathlib.Core.Path.{_≡_, refl, sym, _∙_, ap}
-use mathlib.Core.List.{List}
-use Prim.Native.Nat.{ℕ}
 use Rattle.accounts.specs.declared.Account.{Account}
 use Rattle.accounts.specs.declared.Caller.{Caller}
 use Rattle.accounts.specs.Dominance.{Bounded-role}
@@ -15,8 +13,6 @@ use Rattle.tree.specs.Outcomes.{gives, Ensures}
 use Rattle.tree.specs.GivesLaws.{done-with, then-check, then-do}
 use Rattle.tree.specs.Forest.{Place}
 use Rattle.tree.specs.Node.{Node}
-use Rattle.shell.specs.declared.Answer.{Answer}
-use Rattle.shell.specs.CommandBytes.{Follows-silently}
 use Rattle.store.specs.State.{Store}
 use Rattle.machine.specs.Machine.{session, run-co}
 use Rattle.machine.specs.StoreMachine.{store}
@@ -72,8 +68,7 @@ module _ (u : Setup) (s : Store) (c : Caller) (e : Entry-path) (d : Path) where
   pub co-keeps-sessions : {o : Outcome Store} → run-co store u s c e d ≡ done o → o .state .sessions ≡ s .sessions
   co-keeps-sessions run = done-with keeps-sessions run
 
--- what follows the steps by the session's account follows the command
-pub co-acts : {b : List ℕ} {c : Caller} {a : Account} (j : Acting b c a) (e : Entry-path) (d : Path) {r : Answer} {b′ : List ℕ}
-    → Follows-silently (co-steps (copier a c) (j .state .tree) e d) b r b′
-    → Follows-silently (on-tree-steps (run-co store (j .setup) (j .state) c e d)) b r b′
-co-acts {c = c} j e d f = rw (co-in-session (j .setup) (j .state) c e d (j .session) (j .served)) f
+-- the command's steps are those by the session's account
+pub co-acts : {c : Caller} {a : Account} (j : Acting c a) (e : Entry-path) (d : Path)
+    → on-tree-steps (run-co store (j .setup) (j .state) c e d) ≡ co-steps (copier a c) (j .state .tree) e d
+co-acts {c} j e d = co-in-session (j .setup) (j .state) c e d (j .session) (j .served)

@@ -1,5 +1,5 @@
 -- Command lines: `uid,command,arguments`, the 17 forms of document 01.
-use mathlib.Core.List.{List, [], _∷_, map}
+use mathlib.Core.List.{List, [], _∷_, _++_, map}
 use mathlib.Core.Option.{Option, none, some}
 use mathlib.Core.Bool.{Bool, true, false, _&&_, _||_}
 use Prim.Native.Nat.{ℕ}
@@ -29,17 +29,22 @@ pub data Shell-command : Type 0 where
   chgrp : Path → Gid → Shell-command
   chown : Path → Uid → Shell-command
 
-pub data Repository-command : Type 0 where
-  login : Bounded-role → Text → Repository-command
-  logout : Repository-command
-  add : Path → Entry-path → Bounded-role → Repository-command
-  co : Entry-path → Path → Repository-command
-  commit up : Path → Repository-command
-  del : Entry-path → Repository-command
+-- about the caller's session
+pub data Account-command : Type 0 where
+  login : Bounded-role → Text → Account-command
+  logout : Account-command
+
+-- on entries, in the caller's session
+pub data Entry-command : Type 0 where
+  add : Path → Entry-path → Bounded-role → Entry-command
+  co : Entry-path → Path → Entry-command
+  commit up : Path → Entry-command
+  del : Entry-path → Entry-command
 
 pub data Command : Type 0 where
   shell : Shell-command → Command
-  repository : Repository-command → Command
+  account : Account-command → Command
+  entry : Entry-command → Command
 
 -- whether a path of the command passes a test
 unfoldable pub some-path : (Path → Bool) → Shell-command → Bool
@@ -55,9 +60,7 @@ some-path test (chgrp p g) = test p
 some-path test (chown p u) = test p
 
 -- whether one that is not an entry path does
-unfoldable pub some-working-path : (Path → Bool) → Repository-command → Bool
-some-working-path test (login r w) = false
-some-working-path test logout = false
+unfoldable pub some-working-path : (Path → Bool) → Entry-command → Bool
 some-working-path test (add w e r) = test w
 some-working-path test (co e d) = test d
 some-working-path test (commit w) = test w
@@ -67,7 +70,8 @@ some-working-path test (del e) = false
 -- whether one that the caller walks does
 unfoldable pub some-walked-path : (Path → Bool) → Command → Bool
 some-walked-path test (shell c) = some-path test c
-some-walked-path test (repository c) = some-working-path test c
+some-walked-path test (account c) = false
+some-walked-path test (entry c) = some-working-path test c
 
 pub record Line : Type 0 where
   pub caller : Uid
@@ -94,20 +98,26 @@ listed Mv = takes (bytes "mv") (a.Path ∷ (a.Path ∷ [])) (λ a b. shell (mv a
 listed Chmod = takes (bytes "chmod") (a.Path ∷ (a.Mode ∷ [])) (λ p m. shell (chmod p m))
 listed Chgrp = takes (bytes "chgrp") (a.Path ∷ (a.Gid ∷ [])) (λ p g. shell (chgrp p g))
 listed Chown = takes (bytes "chown") (a.Path ∷ (a.Uid ∷ [])) (λ p u. shell (chown p u))
-listed Login = takes (bytes "login") (a.Role ∷ (a.Password ∷ [])) (λ r w. repository (login r w))
-listed Logout = takes (bytes "logout") [] (repository logout)
-listed Add = takes (bytes "add") (a.Path ∷ (a.Entry ∷ (a.Role ∷ []))) (λ w e r. repository (add w e r))
-listed Co = takes (bytes "co") (a.Entry ∷ (a.Path ∷ [])) (λ e d. repository (co e d))
-listed Commit = takes (bytes "commit") (a.Path ∷ []) (λ w. repository (commit w))
-listed Up = takes (bytes "up") (a.Path ∷ []) (λ w. repository (up w))
-listed Del = takes (bytes "del") (a.Entry ∷ []) (λ e. repository (del e))
+listed Login = takes (bytes "login") (a.Role ∷ (a.Password ∷ [])) (λ r w. account (login r w))
+listed Logout = takes (bytes "logout") [] (account logout)
+listed Add = takes (bytes "add") (a.Path ∷ (a.Entry ∷ (a.Role ∷ []))) (λ w e r. entry (add w e r))
+listed Co = takes (bytes "co") (a.Entry ∷ (a.Path ∷ [])) (λ e d. entry (co e d))
+listed Commit = takes (bytes "commit") (a.Path ∷ []) (λ w. entry (commit w))
+listed Up = takes (bytes "up") (a.Path ∷ []) (λ w. entry (up w))
+listed Del = takes (bytes "del") (a.Entry ∷ []) (λ e. entry (del e))
+
+-- the words: the shell's, and the others
+unfoldable pub shell-words : List Word
+shell-words = Create ∷ Mkdir ∷ Read ∷ Write ∷ Rm ∷ Rmdir ∷ Mv ∷ Chmod ∷ Chgrp ∷ Chown ∷ []
+
+unfoldable pub other-words : List Word
+other-words = Login ∷ Logout ∷ Add ∷ Co ∷ Commit ∷ Up ∷ Del ∷ []
 
 unfoldable pub words : List Word
-words =
-    Create ∷ Mkdir ∷ Read ∷ Write ∷ Rm ∷ Rmdir ∷ Mv ∷ Chmod ∷ Chgrp ∷ Chown ∷
-    Login ∷ Logout ∷ Add ∷ Co ∷ Commit ∷ Up ∷ Del ∷ []
+unfolding shell-words other-words
+words = shell-words ++ other-words
 
--- the form of a shell or repository command
+-- the form of a command
 unfoldable pub form : Word → Form Command
 form w = record { word = listed w .spelling; arguments = arguments-of (listed w .kinds) (listed w .makes) }
 
@@ -139,18 +149,21 @@ is-shell-command (chmod p m) = is-path p && is-mode m
 is-shell-command (chgrp p g) = is-path p && ltb (g .0) 25
 is-shell-command (chown p u) = is-path p && ltb (u .0) 24
 
-unfoldable pub is-repository-command : Repository-command → Bool
-is-repository-command (login r w) = is-name w
-is-repository-command logout = true
-is-repository-command (add w e r) = is-path w && is-entry-path e
-is-repository-command (co e d) = is-entry-path e && is-path d
-is-repository-command (commit w) = is-path w
-is-repository-command (up w) = is-path w
-is-repository-command (del e) = is-entry-path e
+unfoldable pub is-account-command : Account-command → Bool
+is-account-command (login r w) = is-name w
+is-account-command logout = true
+
+unfoldable pub is-entry-command : Entry-command → Bool
+is-entry-command (add w e r) = is-path w && is-entry-path e
+is-entry-command (co e d) = is-entry-path e && is-path d
+is-entry-command (commit w) = is-path w
+is-entry-command (up w) = is-path w
+is-entry-command (del e) = is-entry-path e
 
 unfoldable pub is-command : Command → Bool
 is-command (shell c) = is-shell-command c
-is-command (repository c) = is-repository-command c
+is-command (account c) = is-account-command c
+is-command (entry c) = is-entry-command c
 
 unfoldable pub is-line : Line → Bool
 is-line l = ltb (l .caller .0) 24 && is-command (l .command)

@@ -16,7 +16,7 @@ use Rattle.arguments.specs.Kinds.{Value, reader, Makes, arguments-of}
 use Rattle.commands.specs.declared.Word.{Word}
 use Rattle.commands.specs.declared.Word.the-variants.{Create, Mkdir, Read, Write, Rm, Rmdir, Mv, Chmod, Chgrp, Chown, Login, Logout, Add, Co, Commit, Up, Del}
 use Rattle.arguments.specs.declared.ArgumentKind.the-variants as a
-use Rattle.commands.specs.Command.{Command, Line, takes, listed, words, form, forms, line-of, line, is-shell-command, is-repository-command, is-command, is-line}
+use Rattle.commands.specs.Command.{Command, Line, takes, listed, words, form, forms, line-of, line, is-shell-command, is-account-command, is-entry-command, is-command, is-line}
 use Rattle.syntax.specs.PathLaws.{path-is-path, entry-is-entry}
 use Rattle.syntax.specs.FieldLaws.{uid-gives, gid-gives, mode-gives, plain-mode-gives, password-gives, content-gives}
 
@@ -62,7 +62,7 @@ arguments-give (k ∷ ks) x h (s ∷ ts) y e =
 
 -- and so they do of each word
 keeps : (w : Word) → Keeps (listed w .kinds) (listed w .makes)
-unfolding Keeps listed takes in-range is-command is-shell-command is-repository-command
+unfolding Keeps listed takes in-range is-command is-shell-command is-account-command is-entry-command
 keeps Create = λ p h m k. both h k
 keeps Mkdir = λ p h m k. both h k
 keeps Read = λ p h. h

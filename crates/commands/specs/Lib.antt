@@ -4,4 +4,6 @@ pub mod Words
 pub mod WordsLaws
 pub mod Parsed
 pub mod ParsedLaws
+pub mod Meaning
+pub mod MeaningLaws
 pub mod Compute

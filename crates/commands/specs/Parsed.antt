@@ -10,12 +10,17 @@ use Prim.Native.Nat.{ℕ}
 use lib.Dec.{eqb}
 use Rattle.buffers.specs.Text.{Text}
 use Rattle.accounts.specs.declared.Uid.{Uid}
-use Rattle.accounts.specs.Dominance.{Bounded-role}
 use Rattle.syntax.specs.declared.Span.{Span}
 use Rattle.line_fields.specs.declared.Fields.{Fields}
 use Rattle.arguments.specs.Kinds.{number-in, path-in, entry-in, Argument, values-of, arguments-of}
 use Rattle.commands.specs.declared.Command.{Command as Parts}
-use Rattle.commands.specs.declared.Command.the-variants.{Create, Mkdir, Read, Write, Rm, Rmdir, Mv, Chmod, Chgrp, Chown, Login, Logout, Add, Co, Commit, Up, Del}
+use Rattle.commands.specs.declared.Command.the-variants.{Shell, Account, Entry}
+use Rattle.commands.specs.declared.ShellCommand.{ShellCommand as Shell-parts}
+use Rattle.commands.specs.declared.ShellCommand.the-variants.{Create, Mkdir, Read, Write, Rm, Rmdir, Mv, Chmod, Chgrp, Chown}
+use Rattle.commands.specs.declared.AccountCommand.{AccountCommand as Account-parts}
+use Rattle.commands.specs.declared.AccountCommand.the-variants.{Login, Logout}
+use Rattle.commands.specs.declared.EntryCommand.{EntryCommand as Entry-parts}
+use Rattle.commands.specs.declared.EntryCommand.the-variants.{Add, Co, Commit, Up, Del}
 use Rattle.commands.specs.declared.Word.{Word}
 use Rattle.commands.specs.declared.Shape.{Shape}
 use Rattle.commands.specs.declared.Numbers.{Numbers}
@@ -23,10 +28,11 @@ use Rattle.commands.specs.declared.Numbers.the-variants.{Read as Numbers
 use Rattle.commands.specs.declared.Parsed.{Parsed}
 use Rattle.commands.specs.declared.Parsed.the-variants.{Line as Is-line, NoForm}
 use Rattle.syntax.specs.Form.{_>>=_, by-form}
-use Rattle.syntax.specs.Path.{Path, Entry-path, path, entry-path}
+use Rattle.syntax.specs.Path.{Path, Entry-path}
 use Rattle.syntax.specs.Field.{bounded}
-use Rattle.commands.specs.Command.{create, mkdir, read, write, rm, rmdir, mv, chmod, chgrp, chown, login, logout, add, co, commit, up, del, Command, shell, repository, Line, listed, forms}
-use Rattle.syntax.specs.Parts.{Inside, span-text, text-in}
+use Rattle.commands.specs.Command.{create, mkdir, read, write, rm, rmdir, mv, chmod, chgrp, chown, login, logout, add, co, commit, up, del}
+use Rattle.commands.specs.Command.{Command, shell, account, entry, Line, listed, forms}
+use Rattle.syntax.specs.Parts.{span-text, text-in}
 
 -- a command with the one or the other
 unfoldable pub with-path : Text → Span → (Path → Command) → Option Command
@@ -35,24 +41,34 @@ with-path t s k = path-in t s >>= λ p. some (k p)
 unfoldable pub with-entry : Text → Span → (Entry-path → Command) → Option Command
 with-entry t s k = entry-in t s >>= λ e. some (k e)
 
+-- what the parts of each kind mean
+unfoldable pub shell-meaning : Text → Shell-parts → Option Command
+shell-meaning t (Create p m) = with-path t p (λ q. shell (create q m))
+shell-meaning t (Mkdir p m) = with-path t p (λ q. shell (mkdir q m))
+shell-meaning t (Read p) = with-path t p (λ q. shell (read q))
+shell-meaning t (Write p c) = path-in t p >>= λ q. text-in t c >>= λ x. some (shell (write q x))
+shell-meaning t (Rm p) = with-path t p (λ q. shell (rm q))
+shell-meaning t (Rmdir p) = with-path t p (λ q. shell (rmdir q))
+shell-meaning t (Mv a b) = path-in t a >>= λ p. with-path t b (λ q. shell (mv p q))
+shell-meaning t (Chmod p m) = with-path t p (λ q. shell (chmod q m))
+shell-meaning t (Chgrp p g) = with-path t p (λ q. shell (chgrp q g))
+shell-meaning t (Chown p u) = with-path t p (λ q. shell (chown q u))
+
+unfoldable pub account-meaning : Text → Account-parts → Option Command
+account-meaning t (Login r w) = bounded (r .0) >>= λ z. text-in t w >>= λ x. some (account (login z x))
+account-meaning t Logout = some (account logout)
+
+unfoldable pub entry-meaning : Text → Entry-parts → Option Command
+entry-meaning t (Add w e r) = path-in t w >>= λ p. entry-in t e >>= λ q. bounded (r .0) >>= λ z. some (entry (add p q z))
+entry-meaning t (Co e d) = entry-in t e >>= λ q. with-path t d (λ p. entry (co q p))
+entry-meaning t (Commit w) = with-path t w (λ q. entry (commit q))
+entry-meaning t (Up w) = with-path t w (λ q. entry (up q))
+entry-meaning t (Del e) = with-entry t e (λ q. entry (del q))
+
 unfoldable pub meaning : Text → Parts → Option Command
-meaning t (Create p m) = with-path t p (λ q. shell (create q m))
-meaning t (Mkdir p m) = with-path t p (λ q. shell (mkdir q m))
-meaning t (Read p) = with-path t p (λ q. shell (read q))
-meaning t (Write p c) = path-in t p >>= λ q. text-in t c >>= λ x. some (shell (write q x))
-meaning t (Rm p) = with-path t p (λ q. shell (rm q))
-meaning t (Rmdir p) = with-path t p (λ q. shell (rmdir q))
-meaning t (Mv a b) = path-in t a >>= λ p. with-path t b (λ q. shell (mv p q))
-meaning t (Chmod p m) = with-path t p (λ q. shell (chmod q m))
-meaning t (Chgrp p g) = with-path t p (λ q. shell (chgrp q g))
-meaning t (Chown p u) = with-path t p (λ q. shell (chown q u))
-meaning t (Login r w) = bounded (r .0) >>= λ z. text-in t w >>= λ x. some (repository (login z x))
-meaning t Logout = some (repository logout)
-meaning t (Add w e r) = path-in t w >>= λ p. entry-in t e >>= λ q. bounded (r .0) >>= λ z. some (repository (add p q z))
-meaning t (Co e d) = entry-in t e >>= λ q. with-path t d (λ p. repository (co q p))
-meaning t (Commit w) = with-path t w (λ q. repository (commit q))
-meaning t (Up w) = with-path t w (λ q. repository (up q))
-meaning t (Del e) = with-entry t e (λ q. repository (del q))
+meaning t (Shell c) = shell-meaning t c
+meaning t (Account c) = account-meaning t c
+meaning t (Entry c) = entry-meaning t c
 
 -- the arguments of a command that were read, with their numbers
 abbrev pub arguments : Fields → ℕ → ℕ → ℕ → List Argument
@@ -61,31 +77,6 @@ arguments f n m l = record { part = f .first; number = n } ∷ (record { part = 
 -- a command is made of a word and its arguments: over every line it means what they make
 pub record Makes-of (w : Word) (vs : List Argument) (c : Parts) : Type 0 where
   pub means : (t : Text) → meaning t c ≡ values-of (listed w .kinds) (listed w .makes) t vs
-
--- a part of a line lies inside it and reads as something
-pub record Part-reads {A : Type 0} (read : Text → Option A) (t : Text) (s : Span) (x : A) : Type 0 where
-  pub inside : Inside s t
-  pub reads : read (span-text t s) ≡ some x
-
--- the command k is that of the parts: what each part reads as, and what they make; what a caller of `parse` goes by
-unfoldable pub Means : Text → Parts → Command → Type 0
-Means t (Create p m) k = (q : Path) × Part-reads path t p q × (k ≡ shell (create q m))
-Means t (Mkdir p m) k = (q : Path) × Part-reads path t p q × (k ≡ shell (mkdir q m))
-Means t (Read p) k = (q : Path) × Part-reads path t p q × (k ≡ shell (read q))
-Means t (Write p c) k = (q : Path) × Part-reads path t p q × Inside c t × (k ≡ shell (write q (span-text t c)))
-Means t (Rm p) k = (q : Path) × Part-reads path t p q × (k ≡ shell (rm q))
-Means t (Rmdir p) k = (q : Path) × Part-reads path t p q × (k ≡ shell (rmdir q))
-Means t (Mv a b) k = (p : Path) × (q : Path) × Part-reads path t a p × Part-reads path t b q × (k ≡ shell (mv p q))
-Means t (Chmod p m) k = (q : Path) × Part-reads path t p q × (k ≡ shell (chmod q m))
-Means t (Chgrp p g) k = (q : Path) × Part-reads path t p q × (k ≡ shell (chgrp q g))
-Means t (Chown p u) k = (q : Path) × Part-reads path t p q × (k ≡ shell (chown q u))
-Means t (Login r w) k = (z : Bounded-role) × (z .role ≡ r) × Inside w t × (k ≡ repository (login z (span-text t w)))
-Means t Logout k = k ≡ repository logout
-Means t (Add w e r) k = (p : Path) × (q : Entry-path) × (z : Bounded-role) × Part-reads path t w p × Part-reads entry-path t e q × (z .role ≡ r) × (k ≡ repository (add p q z))
-Means t (Co e d) k = (q : Entry-path) × (p : Path) × Part-reads entry-path t e q × Part-reads path t d p × (k ≡ repository (co q p))
-Means t (Commit w) k = (q : Path) × Part-reads path t w q × (k ≡ repository (commit q))
-Means t (Up w) k = (q : Path) × Part-reads path t w q × (k ≡ repository (up q))
-Means t (Del e) k = (q : Entry-path) × Part-reads entry-path t e q × (k ≡ repository (del q))
 
 -- no form, or the line of a caller and a command with its meaning
 unfoldable pub line-with : Uid → Option Command → Option Line

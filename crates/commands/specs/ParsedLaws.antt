@@ -3,44 +3,37 @@
 use mathlib.Core.Path.{_≡_, refl, sym, ap, _∙_}
 use mathlib.Core.List.{List, [], _∷_}
 use mathlib.Core.Option.{Option, none, some, Option·map}
-use mathlib.Core.Bool.{Bool, true, false}
+use mathlib.Core.Bool.{true, false}
 use Prim.Native.Nat.{ℕ, _%_, _≤_, _<_}
 use native.Mathlib.Omega.{arith}
 use borrow.Author.Tests.{eqb-true, eqb-false}
-use lib.Dec.{eqb, ltb}
+use lib.Dec.{eqb}
 use lib.ListN.{length, take, getD, length-take}
-use Rattle.buffers.specs.Cases.{case, and-both}
+use Rattle.buffers.specs.Cases.{case}
 use Rattle.buffers.specs.Text.{Text}
 use Rattle.accounts.specs.declared.Uid.{Uid}
-use Rattle.accounts.specs.declared.Role.{Role}
-use Rattle.accounts.specs.Dominance.{Bounded-role}
-use Rattle.syntax.specs.declared.Span.{Span}
 use Rattle.line_fields.specs.declared.Fields.{Fields}
 use Rattle.line_fields.specs.FieldsRead.{argument-texts, Fields-inside}
 use Rattle.syntax.specs.Pieces.{comma, pieces}
-use Rattle.arguments.specs.Kinds.{arguments-of, number-in, path-in, entry-in, Argument}
+use Rattle.arguments.specs.Kinds.{arguments-of, number-in, Argument}
 use Rattle.arguments.specs.KindsLaws.{count-refused, one-refused, three-read}
 use Rattle.commands.specs.declared.Word.{Word}
 use Rattle.arguments.specs.declared.ArgumentKind.the-variants as a
 use Rattle.commands.specs.declared.Shape.{Shape}
 use Rattle.commands.specs.declared.Numbers.the-variants.{Read as Numbers-read, Wrong}
 use Rattle.commands.specs.declared.Command.{Command as Parts}
-use Rattle.commands.specs.declared.Command.the-variants.{Create, Mkdir, Read, Write, Rm, Rmdir, Mv, Chmod, Chgrp, Chown, Login, Logout, Add, Co, Commit, Up, Del}
 use Rattle.commands.specs.declared.Parsed.{Parsed}
 use Rattle.commands.specs.declared.Parsed.the-variants.{Line as Is-line, NoForm}
 use Rattle.syntax.specs.Number.{between}
 use Rattle.syntax.specs.Form.{_>>=_, is-some, by-form}
-use Rattle.syntax.specs.FormLaws.{no-answer, is-none, both-read, answered, then-none, the-some}
-use Rattle.syntax.specs.Path.{Path, Entry-path, path, entry-path}
-use Rattle.syntax.specs.Field.{uid, bounded-by, bounded}
+use Rattle.syntax.specs.FormLaws.{is-none, then-none, the-some}
+use Rattle.syntax.specs.Field.{uid}
 use Rattle.syntax.specs.FieldLaws.{read-byte}
-use Rattle.commands.specs.Command.{write, login, Command, shell, repository, Line, listed, forms, line-of, line, is-command, is-line}
-use Rattle.commands.specs.CommandLaws.{line-is-line}
-use Rattle.syntax.specs.Parts.{span-text, text-in}
-use Rattle.syntax.specs.PartsLaws.{text-inside}
+use Rattle.commands.specs.Command.{Command, listed, forms, line-of, line}
+use Rattle.syntax.specs.Parts.{span-text}
 use Rattle.commands.specs.Words.{shape-of}
 use Rattle.commands.specs.WordsLaws.{many-refused}
-use Rattle.commands.specs.Parsed.{with-path, with-entry, meaning, arguments, Makes-of, Part-reads, Means, line-with, parsed, command-of, numbers-of, numbers-in}
+use Rattle.commands.specs.Parsed.{meaning, arguments, Makes-of, line-with, parsed, command-of, numbers-of, numbers-in}
 
 -- a line has no form where its command has none
 pub finds-none : (t : Text) (u : Uid) (m : Option Command) → m ≡ none → parsed t NoForm ≡ Option·map some (line-with u m)
@@ -156,99 +149,3 @@ pub line-found : (t s : Text) (ps : List Text) (n : ℕ) (r : Parsed) → pieces
     parsed t r ≡ Option·map some (line-with (record { 0 = n % 256 }) (command-of ps)) → parsed t r ≡ Option·map some (line t)
 unfolding line _>>=_
 line-found t s ps n r e h k = rw (e, line-parts s ps, uid-read n s h) k
-
--- a part that was read lies inside the line
-part-reads : {A : Type 0} (read : Text → Option A) (t : Text) (s : Span) (x : A) → (text-in t s >>= read) ≡ some x → Part-reads read t s x
-part-reads read t s x e =
-    let i : _ = both-read (text-in t s) read x e in
-    let j = text-inside t s (i .0) (i .1) in
-    record { inside = j .0; reads = ap read (sym (j .1)) ∙ i .2 }
-
-path-part-reads : (t : Text) (s : Span) (q : Path) → path-in t s ≡ some q → Part-reads path t s q
-unfolding path-in
-path-part-reads t s q e = part-reads path t s q e
-
-entry-part-reads : (t : Text) (s : Span) (q : Entry-path) → entry-in t s ≡ some q → Part-reads entry-path t s q
-unfolding entry-in
-entry-part-reads t s q e = part-reads entry-path t s q e
-
--- a path alone, and an entry path alone
-one-path : (t : Text) (s : Span) (f : Path → Command) (k : Command) → with-path t s f ≡ some k → (q : Path) × Part-reads path t s q × (k ≡ f q)
-unfolding with-path
-one-path t s f k e = let i : _ = both-read (path-in t s) (λ p. some (f p)) k e in (i .0, path-part-reads t s (i .0) (i .1), answered (i .2))
-
-one-entry : (t : Text) (s : Span) (f : Entry-path → Command) (k : Command) → with-entry t s f ≡ some k → (q : Entry-path) × Part-reads entry-path t s q × (k ≡ f q)
-unfolding with-entry
-one-entry t s f k e = let i : _ = both-read (entry-in t s) (λ p. some (f p)) k e in (i .0, entry-part-reads t s (i .0) (i .1), answered (i .2))
-
--- a number that is a role is that role
-bounded-role : (r : Role) (z : Bounded-role) → bounded (r .0) ≡ some z → z .role ≡ r
-unfolding bounded bounded-by
-bounded-role r z e = by (ltb (r .0) 8) refl e
-  where
-    by : (small : Bool) (h : ltb (r .0) 8 ≡ small) → bounded-by (r .0) small h ≡ some z → z .role ≡ r
-    by true h e = ap (λ (x : Bounded-role). x .role) (answered e)
-    by false h e = no-answer e
-
--- what parts mean is what each reads as
-meaning-means : (t : Text) (c : Parts) (k : Command) → meaning t c ≡ some k → Means t c k
-unfolding meaning Means
-meaning-means t (Create p m) k e = one-path t p _ k e
-meaning-means t (Mkdir p m) k e = one-path t p _ k e
-meaning-means t (Read p) k e = one-path t p _ k e
-meaning-means t (Write p c) k e =
-    let i : _ = both-read (path-in t p) _ k e in
-    let j : _ = both-read (text-in t c) _ k (i .2) in
-    let x = text-inside t c (j .0) (j .1) in
-    (i .0, path-part-reads t p (i .0) (i .1), x .0, answered (j .2) ∙ ap (λ (y : Text). shell (write (i .0) y)) (x .1))
-meaning-means t (Rm p) k e = one-path t p _ k e
-meaning-means t (Rmdir p) k e = one-path t p _ k e
-meaning-means t (Mv a b) k e =
-    let i : _ = both-read (path-in t a) _ k e in
-    let j : _ = one-path t b _ k (i .2) in
-    (i .0, j .0, path-part-reads t a (i .0) (i .1), j .1, j .2)
-meaning-means t (Chmod p m) k e = one-path t p _ k e
-meaning-means t (Chgrp p g) k e = one-path t p _ k e
-meaning-means t (Chown p u) k e = one-path t p _ k e
-meaning-means t (Login r w) k e =
-    let i : _ = both-read (bounded (r .0)) _ k e in
-    let j : _ = both-read (text-in t w) _ k (i .2) in
-    let x = text-inside t w (j .0) (j .1) in
-    (i .0, bounded-role r (i .0) (i .1), x .0, answered (j .2) ∙ ap (λ (y : Text). repository (login (i .0) y)) (x .1))
-meaning-means t Logout k e = answered e
-meaning-means t (Add w n r) k e =
-    let i : _ = both-read (path-in t w) _ k e in
-    let j : _ = both-read (entry-in t n) _ k (i .2) in
-    let h : _ = both-read (bounded (r .0)) _ k (j .2) in
-    (i .0, j .0, h .0, path-part-reads t w (i .0) (i .1), entry-part-reads t n (j .0) (j .1), bounded-role r (h .0) (h .1), answered (h .2))
-meaning-means t (Co n d) k e =
-    let i : _ = both-read (entry-in t n) _ k e in
-    let j : _ = one-path t d _ k (i .2) in
-    (i .0, j .0, entry-part-reads t n (i .0) (i .1), j .1, j .2)
-meaning-means t (Commit w) k e = one-path t w _ k e
-meaning-means t (Up w) k e = one-path t w _ k e
-meaning-means t (Del n) k e = one-entry t n _ k e
-
--- a line that was not parsed has no form
-pub parsed-none : (t : Text) → parsed t NoForm ≡ Option·map some (line t) → line t ≡ none
-unfolding parsed
-parsed-none t e = by (line t) e
-  where
-    by : (l : Option Line) → none ≡ Option·map some l → l ≡ none
-    by none e = refl
-    by (some l) e = no-answer e
-
--- one that was parsed is that of its caller and of the command that its parts mean, which is in range
-pub parsed-line : (t : Text) (u : Uid) (c : Parts) → parsed t (Is-line u c) ≡ Option·map some (line t)
-    → (k : Command) × Means t c k × (line t ≡ some (record { caller = u; command = k })) × (is-command k ≡ true)
-unfolding parsed line-with is-line
-parsed-line t u c e = by (line t) refl e
-  where
-    by : (l : Option Line) → line t ≡ l → some (line-with u (meaning t c)) ≡ Option·map some l
-        → (k : Command) × Means t c k × (line t ≡ some (record { caller = u; command = k })) × (is-command k ≡ true)
-    by none q e = no-answer (sym e)
-    by (some l) q e =
-        let i : _ = both-read (meaning t c) (λ k. some (record { caller = u; command = k })) l (sym (answered e)) in
-        let m : l ≡ record { caller = u; command = i .0 } = answered (i .2) in
-        let h : line t ≡ some (record { caller = u; command = i .0 }) = q ∙ ap some m in
-        (i .0, meaning-means t c (i .0) (i .1), h, and-both (ltb (u .0) 24) (is-command (i .0)) (line-is-line t (record { caller = u; command = i .0 }) h) .1)

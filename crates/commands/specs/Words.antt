@@ -5,8 +5,6 @@ use lib.ListN.{length, getD}
 use Rattle.buffers.specs.Text.{Text, same-text}
 use Rattle.arguments.specs.declared.ArgumentKind.{ArgumentKind}
 use Rattle.commands.specs.declared.Word.{Word}
-use Rattle.commands.specs.declared.Word.the-variants.{Create, Mkdir, Read, Write, Rm, Rmdir, Mv, Chmod, Chgrp, Chown}
-use Rattle.commands.specs.declared.Word.the-variants.{Login, Logout, Add, Co, Commit, Up, Del}
 use Rattle.arguments.specs.declared.ArgumentKind.the-variants as a
 use Rattle.commands.specs.declared.Shape.{Shape}
 use Rattle.commands.specs.declared.Form.{Form}
@@ -26,13 +24,6 @@ or-listed Unlisted false word shape = Unlisted
 unfoldable pub form-among : List Word → Form → Text → Form
 form-among [] before t = before
 form-among (w ∷ ws) before t = form-among ws (or-listed before (same-text t (listed w .spelling)) w (shape-of (listed w .kinds))) t
-
--- the shell's words are looked for first, and then the others
-unfoldable pub shell-words : List Word
-shell-words = Create ∷ Mkdir ∷ Read ∷ Write ∷ Rm ∷ Rmdir ∷ Mv ∷ Chmod ∷ Chgrp ∷ Chown ∷ []
-
-unfoldable pub repository-words : List Word
-repository-words = Login ∷ Logout ∷ Add ∷ Co ∷ Commit ∷ Up ∷ Del ∷ []
 
 unfoldable pub form-of : Text → Form
 form-of t = form-among words Unlisted t

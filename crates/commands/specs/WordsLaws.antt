@@ -17,8 +17,8 @@ use Rattle.commands.specs.declared.Word.{Word}
 use Rattle.commands.specs.declared.Shape.{Shape}
 use Rattle.commands.specs.declared.Form.{Form}
 use Rattle.commands.specs.declared.Form.the-variants.{Listed, Unlisted}
-use Rattle.commands.specs.Command.{Command, takes, listed, words, form, forms}
-use Rattle.commands.specs.Words.{shape-of, or-listed, form-among, shell-words, repository-words, form-of}
+use Rattle.commands.specs.Command.{Command, takes, listed, shell-words, other-words, words, form, forms}
+use Rattle.commands.specs.Words.{shape-of, or-listed, form-among, form-of}
 
 -- what was found before stays
 stays : (ws : List Word) (w : Word) (s : Shape) (t : Text) → form-among ws (Listed w s) t ≡ Listed w s
@@ -70,8 +70,8 @@ pub start : (all : List Word) (t : Text) → Left all all t Unlisted
 start all t = record { whole = refl }
 
 -- behind the shell's words the others are left
-pub shell-words-gone : (t : Text) (f : Form) → f ≡ form-among shell-words Unlisted t → Left words repository-words t f
-unfolding form-among words shell-words repository-words
+pub shell-words-gone : (t : Text) (f : Form) → f ≡ form-among shell-words Unlisted t → Left words other-words t f
+unfolding form-among words shell-words other-words
 shell-words-gone t f e = record { whole = rw e }
 
 infixl 20 _and_

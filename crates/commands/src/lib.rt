@@ -1,5 +1,6 @@
 // Command lines: what they are, and their parser.
 mod parser;
+mod parts;
 mod shapes;
 mod words;
 
@@ -8,52 +9,31 @@ use accounts::Role;
 use accounts::Uid;
 use arguments::ArgumentKind;
 pub use parser::parse;
+pub use parts::part;
 use syntax::Span;
 
-// A command, whose paths, contents and passwords are parts of its line.
-pub enum Command {
-    Create {
-        path: Span,
-        mode: u16,
-    },
-    Mkdir {
-        path: Span,
-        mode: u16,
-    },
-    Read {
-        path: Span,
-    },
-    Write {
-        path: Span,
-        content: Span,
-    },
-    Rm {
-        path: Span,
-    },
-    Rmdir {
-        path: Span,
-    },
-    Mv {
-        from: Span,
-        to: Span,
-    },
-    Chmod {
-        path: Span,
-        mode: u16,
-    },
-    Chgrp {
-        path: Span,
-        group: Gid,
-    },
-    Chown {
-        path: Span,
-        owner: Uid,
-    },
-    Login {
-        role: Role,
-        password: Span,
-    },
+// A command of the shell, whose paths and contents are parts of its line.
+pub enum ShellCommand {
+    Create { path: Span, mode: u16 },
+    Mkdir { path: Span, mode: u16 },
+    Read { path: Span },
+    Write { path: Span, content: Span },
+    Rm { path: Span },
+    Rmdir { path: Span },
+    Mv { from: Span, to: Span },
+    Chmod { path: Span, mode: u16 },
+    Chgrp { path: Span, group: Gid },
+    Chown { path: Span, owner: Uid },
+}
+
+// A command about the caller's session.
+pub enum AccountCommand {
+    Login { role: Role, password: Span },
     Logout,
+}
+
+// A command on entries, which acts in the caller's session.
+pub enum EntryCommand {
     Add {
         working: Span,
         entry: Span,
@@ -72,6 +52,13 @@ pub enum Command {
     Del {
         entry: Span,
     },
+}
+
+// A command by its kind.
+pub enum Command {
+    Shell(ShellCommand),
+    Account(AccountCommand),
+    Entry(EntryCommand),
 }
 
 // The words of commands.

@@ -8,11 +8,14 @@ ghost use Rattle.line_fields.specs.FieldsRead.{Fields-inside, given};
 ghost use Rattle.commands.specs.Command.{listed, line as line-of-text};
 ghost use Rattle.commands.specs.Words.{shape-of};
 ghost use Rattle.commands.specs.Parsed.{Makes-of, arguments, line-with, parsed, command-of, command-from};
+use crate::AccountCommand;
 use crate::Command;
+use crate::EntryCommand;
 use crate::Form;
 use crate::Numbers;
 use crate::Parsed;
 use crate::Shape;
+use crate::ShellCommand;
 use crate::Word;
 use crate::shapes::numbers_at;
 use crate::words::form_at;
@@ -32,48 +35,48 @@ fn command(word: Word, f: Fields, first: u16, second: u16, third: u16) -> Comman
     let a = f.first;
     let b = f.second;
     match word {
-        Word::Create => Command::Create {
+        Word::Create => Command::Shell(ShellCommand::Create {
             path: a,
             mode: second,
-        },
-        Word::Mkdir => Command::Mkdir {
+        }),
+        Word::Mkdir => Command::Shell(ShellCommand::Mkdir {
             path: a,
             mode: second,
-        },
-        Word::Read => Command::Read { path: a },
-        Word::Write => Command::Write {
+        }),
+        Word::Read => Command::Shell(ShellCommand::Read { path: a }),
+        Word::Write => Command::Shell(ShellCommand::Write {
             path: a,
             content: b,
-        },
-        Word::Rm => Command::Rm { path: a },
-        Word::Rmdir => Command::Rmdir { path: a },
-        Word::Mv => Command::Mv { from: a, to: b },
-        Word::Chmod => Command::Chmod {
+        }),
+        Word::Rm => Command::Shell(ShellCommand::Rm { path: a }),
+        Word::Rmdir => Command::Shell(ShellCommand::Rmdir { path: a }),
+        Word::Mv => Command::Shell(ShellCommand::Mv { from: a, to: b }),
+        Word::Chmod => Command::Shell(ShellCommand::Chmod {
             path: a,
             mode: second,
-        },
-        Word::Chgrp => Command::Chgrp {
+        }),
+        Word::Chgrp => Command::Shell(ShellCommand::Chgrp {
             path: a,
             group: Gid((second % 256) as u8),
-        },
-        Word::Chown => Command::Chown {
+        }),
+        Word::Chown => Command::Shell(ShellCommand::Chown {
             path: a,
             owner: Uid((second % 256) as u8),
-        },
-        Word::Login => Command::Login {
+        }),
+        Word::Login => Command::Account(AccountCommand::Login {
             role: Role((first % 256) as u8),
             password: b,
-        },
-        Word::Logout => Command::Logout,
-        Word::Add => Command::Add {
+        }),
+        Word::Logout => Command::Account(AccountCommand::Logout),
+        Word::Add => Command::Entry(EntryCommand::Add {
             working: a,
             entry: b,
             role: Role((third % 256) as u8),
-        },
-        Word::Co => Command::Co { entry: a, to: b },
-        Word::Commit => Command::Commit { working: a },
-        Word::Up => Command::Up { working: a },
-        Word::Del => Command::Del { entry: a },
+        }),
+        Word::Co => Command::Entry(EntryCommand::Co { entry: a, to: b }),
+        Word::Commit => Command::Entry(EntryCommand::Commit { working: a }),
+        Word::Up => Command::Entry(EntryCommand::Up { working: a }),
+        Word::Del => Command::Entry(EntryCommand::Del { entry: a }),
     }
 }
 

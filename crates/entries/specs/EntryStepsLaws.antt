@@ -1,9 +1,7 @@
 -- In a session the machine's steps of `commit`, `up` and `del` are those of EntrySteps, with the accounts of the caller and of the session's role.
 use mathlib.Core.Path.{_≡_, refl, sym, _∙_, ap}
-use mathlib.Core.List.{List}
 use mathlib.Core.Option.{Option, none, some}
 use mathlib.Core.Bool.{false, not}
-use Prim.Native.Nat.{ℕ}
 use lib.Dec.{eqb}
 use Rattle.buffers.specs.Cases.{case}
 use Rattle.accounts.specs.declared.Account.{Account}
@@ -26,8 +24,6 @@ use Rattle.tree.specs.JudgeLaws.{kind-by-modes, readable-by-modes, writable-by-
 use Rattle.tree.specs.UpdateLaws.{by-option}
 use Rattle.tree.specs.WellFormed.{last-revision}
 use Rattle.walks.specs.WalkBytesLaws.{by-result}
-use Rattle.shell.specs.declared.Answer.{Answer}
-use Rattle.shell.specs.CommandBytes.{Follows-silently}
 use Rattle.store.specs.State.{Store}
 use Rattle.machine.specs.Machine.{Working, session, working-file, original, run-commit, run-up, run-del}
 use Rattle.machine.specs.StoreMachine.{store}
@@ -137,16 +133,13 @@ module _ {A : Type 0} (steps : Result A) (after : A → Place Node) where
 
 -- ---- in a session
 
--- what follows the steps by the session's account follows the command
-module _ {b : List ℕ} {c : Caller} {a : Account} (j : Acting b c a) {r : Answer} {b′ : List ℕ} where
-  pub commit-acts : (w : Path) → Follows-silently (commit-steps (c .account) a (j .state .tree) w) b r b′
-      → Follows-silently (on-tree-steps (run-commit store (j .setup) (j .state) c w)) b r b′
-  commit-acts w f = rw (commit-is (j .setup) (j .state) c (j .role) (j .session) w, ← j .served) f
+-- the command's steps are those by the session's account
+module _ {c : Caller} {a : Account} (j : Acting c a) where
+  pub commit-acts : (w : Path) → on-tree-steps (run-commit store (j .setup) (j .state) c w) ≡ commit-steps (c .account) a (j .state .tree) w
+  commit-acts w = rw (commit-is (j .setup) (j .state) c (j .role) (j .session) w, ← j .served)
 
-  pub up-acts : (w : Path) → Follows-silently (up-steps (c .account) a (j .state .tree) w) b r b′
-      → Follows-silently (on-tree-steps (run-up store (j .setup) (j .state) c w)) b r b′
-  up-acts w f = rw (up-is (j .setup) (j .state) c (j .role) (j .session) w, ← j .served) f
+  pub up-acts : (w : Path) → on-tree-steps (run-up store (j .setup) (j .state) c w) ≡ up-steps (c .account) a (j .state .tree) w
+  up-acts w = rw (up-is (j .setup) (j .state) c (j .role) (j .session) w, ← j .served)
 
-  pub del-acts : (e : Entry-path) → Follows-silently (del-steps a (j .state .tree) e) b r b′
-      → Follows-silently (on-tree-steps (run-del store (j .setup) (j .state) c e)) b r b′
-  del-acts e f = rw (del-is (j .setup) (j .state) c (j .role) (j .session) e, ← j .served) f
+  pub del-acts : (e : Entry-path) → on-tree-steps (run-del store (j .setup) (j .state) c e) ≡ del-steps a (j .state .tree) e
+  del-acts e = rw (del-is (j .setup) (j .state) c (j .role) (j .session) e, ← j .served)

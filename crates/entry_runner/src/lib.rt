@@ -1,6 +1,8 @@
 // A parsed command on entries, in a session, carried out on a tree's bytes.
+ghost use Prim.Native.Nat.{_≤_};
+ghost use lib.ListN.{length};
 ghost use Rattle.tree.specs.TreeBytes.{Whole};
-ghost use Rattle.meanings.specs.Meaning.{Session-meaning};
+ghost use Rattle.commands.specs.Meaning.{Some-entry-command};
 ghost use Rattle.entry_runner.specs.EntryDone.{Entry-done};
 use accounts::Account;
 use accounts::Caller;
@@ -8,15 +10,14 @@ use accounts::Dominance;
 use accounts::Session;
 use adding::add;
 use checkout::co;
-use commands::Command;
+use commands::EntryCommand;
+use commands::part;
 use entries::commit;
 use entries::del;
 use entries::up;
-use meanings::part;
 use shell::Answer;
-use tree::Cause;
 
-// One of the commands that act in a session, for the session's account.
+// One of the commands on entries, for the session's account.
 pub fn entry_command(
     tree: &mut [u8],
     caller: Caller,
@@ -24,14 +25,17 @@ pub fn entry_command(
     session: Session,
     dominance: Dominance,
     line: &[u8],
-    command: Command,
+    command: EntryCommand,
+    answer: &mut [u8],
 ) -> Answer
     requires { ⌜ Whole (now tree) ⌝ }
-    requires { ⌜ Session-meaning (now line) command ⌝ }
-    ensures { λ r. ⌜ Entry-done caller (now (line .entry)) command account session dominance (now (tree .entry)) r (now (tree .exit)) ⌝ }
+    requires { ⌜ Some-entry-command (now line) command ⌝ }
+    requires { ⌜ 4096 ≤ length (now answer) ⌝ }
+    ensures { λ r. ⌜ Entry-done caller (now (line .entry)) command account session dominance
+        (now (tree .entry)) (now (answer .entry)) r (now (tree .exit)) (now (answer .exit)) ⌝ }
 {
     match command {
-        Command::Add {
+        EntryCommand::Add {
             working,
             entry,
             role,
@@ -44,10 +48,15 @@ pub fn entry_command(
             part(line, entry),
             role,
         ),
-        Command::Co { entry, to } => co(tree, caller, account, part(line, entry), part(line, to)),
-        Command::Commit { working } => commit(tree, caller, account, part(line, working)),
-        Command::Up { working } => up(tree, caller, account, part(line, working)),
-        Command::Del { entry } => del(tree, account, part(line, entry)),
-        _ => Answer::Refused(Cause::NoForm),
+        EntryCommand::Co { entry, to } => co(
+            tree,
+            caller,
+            account,
+            part(line, entry),
+            part(line, to),
+        ),
+        EntryCommand::Commit { working } => commit(tree, caller, account, part(line, working)),
+        EntryCommand::Up { working } => up(tree, caller, account, part(line, working)),
+        EntryCommand::Del { entry } => del(tree, account, part(line, entry)),
     }
 }

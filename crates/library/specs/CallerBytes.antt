@@ -12,7 +12,7 @@ use Rattle.store.specs.State.{Store, State}
 use Rattle.store.specs.Callers.{caller}
 use Rattle.machine.specs.Machine.{run}
 use Rattle.machine.specs.StoreMachine.{store}
-use Rattle.meanings.specs.Meaning.{Meant}
+use Rattle.commands.specs.Meaning.{Meant}
 use Rattle.stored_header.specs.Stored.{Stored, bytes-with}
 
 -- who calls, then the command

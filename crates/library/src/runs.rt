@@ -3,7 +3,7 @@ ghost use mathlib.Core.Path.{_≡_};
 ghost use Prim.Native.Nat.{_≤_};
 ghost use lib.ListN.{length};
 ghost use Rattle.calls.specs.Calls.{run-call};
-ghost use Rattle.meanings.specs.Meaning.{Meaningful};
+ghost use Rattle.commands.specs.Meaning.{Some-command};
 ghost use Rattle.stored_header.specs.Stored.{Some-store};
 ghost use Rattle.library.specs.CallBytes.{called-as};
 ghost use Rattle.library.specs.CallerBytes.{Called-by};
@@ -22,7 +22,7 @@ use tree::Cause;
 // A command by whom the setup knows under an account number.
 fn by_caller(store: &mut [u8], uid: Uid, line: &[u8], command: Command, answer: &mut [u8]) -> Answer
     requires { ⌜ Some-store (now store) ⌝ }
-    requires { ⌜ Meaningful (now line) command ⌝ }
+    requires { ⌜ Some-command (now line) command ⌝ }
     requires { ⌜ 4096 ≤ length (now answer) ⌝ }
     ensures { λ r. ⌜ Called-by uid (now (line .entry)) command (now (store .entry)) (now (answer .entry)) r (now (store .exit)) (now (answer .exit)) ⌝ }
 {

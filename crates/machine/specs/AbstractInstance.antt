@@ -1,13 +1,13 @@
 -- The abstract machine as an instance of the text that it shares with the store.
 use Rattle.tree.specs.Forest.{insert, remove, at, update-forest, alter, leaf, size, rooted}
 use Rattle.machine.specs.Machine.{Machine}
-use Rattle.machine.specs.AbstractMachine.{Abstract, Filed, top, entry, by-dominance, filed-revision, filed-content, new-entry, next-entry, on-people, on-entries, with-sessions}
+use Rattle.machine.specs.AbstractMachine.{Abstract, Filed, top, an-entry, by-dominance, filed-revision, filed-content, new-entry, next-entry, on-people, on-entries, with-sessions}
 
 abbrev pub abstract : Machine Abstract Filed
 abstract = record {
   workspace = λ h. h .workspace;
   elsewhere = λ h. size (h .entries);
-  entries = λ h. rooted entry top (h .entries);
+  entries = λ h. rooted an-entry top (h .entries);
   judge = by-dominance;
   locate = λ p. p;
   revision = filed-revision;

@@ -7,15 +7,15 @@ use Rattle.accounts.specs.declared.Caller.{Caller}
 use Rattle.accounts.specs.declared.Right.{Right}
 use Rattle.accounts.specs.Dominance.{Bounded-role}
 use Rattle.syntax.specs.Path.{Path, Entry-path}
-use Rattle.commands.specs.Command.{Repository-command, login, logout, add, co, commit, up, del, Command, shell, repository, line}
+use Rattle.commands.specs.Command.{Account-command, login, logout, Entry-command, add, co, commit, up, del, Command, shell, account, entry, line}
 use Rattle.setup.specs.Setup.{Setup}
 use Rattle.tree.specs.declared.Cause.the-variants.{NoForm, ShortAnswer}
 use Rattle.tree.specs.Result.{_>>=_, _>>_, require, present}
 use Rattle.shell.specs.Steps.{fit}
 use Rattle.shell.specs.Replies.{after}
 use Rattle.store.specs.Callers.{caller}
-use Rattle.machine.specs.Machine.{run-login, run-logout, session, run-add, run-co, working-file, original, run-commit, run-up, run-del, run-repository, run}
-use Rattle.machine.specs.AbstractMachine.{Abstract, dominated, by-dominance, abstract-login, abstract-logout, abstract-session, abstract-add, abstract-co, abstract-working, abstract-original, abstract-commit, abstract-up, abstract-del, abstract-repository, abstract-run, abstract-step, abstract-runs}
+use Rattle.machine.specs.Machine.{run-login, run-logout, session, run-add, run-co, working-file, original, run-commit, run-up, run-del, run-account, run-entry, run}
+use Rattle.machine.specs.AbstractMachine.{Abstract, dominated, by-dominance, abstract-login, abstract-logout, abstract-session, abstract-add, abstract-co, abstract-working, abstract-original, abstract-commit, abstract-up, abstract-del, abstract-account, abstract-entry, abstract-run, abstract-step, abstract-runs}
 use Rattle.machine.specs.AbstractInstance.{abstract}
 use Rattle.machine.specs.Runs.{Call, least-room, perform, step, runs}
 
@@ -60,20 +60,24 @@ module _ (u : Setup) (h : Abstract) (c : Caller) where
   unfolding run-del abstract-del session abstract-session by-dominance
   del-is e = refl
 
-  repository-is : (command : Repository-command) → run-repository abstract u h c command ≡ abstract-repository u h c command
-  unfolding run-repository abstract-repository
-  repository-is (login z password) = login-is z password
-  repository-is logout = logout-is
-  repository-is (add w e r) = add-is w e r
-  repository-is (co e d) = co-is e d
-  repository-is (commit w) = commit-is w
-  repository-is (up w) = up-is w
-  repository-is (del e) = del-is e
+  account-is : (command : Account-command) → run-account abstract u h c command ≡ abstract-account u h c command
+  unfolding run-account abstract-account
+  account-is (login z password) = login-is z password
+  account-is logout = logout-is
+
+  entry-is : (command : Entry-command) → run-entry abstract u h c command ≡ abstract-entry u h c command
+  unfolding run-entry abstract-entry
+  entry-is (add w e r) = add-is w e r
+  entry-is (co e d) = co-is e d
+  entry-is (commit w) = commit-is w
+  entry-is (up w) = up-is w
+  entry-is (del e) = del-is e
 
   pub run-is : (command : Command) → run abstract u h c command ≡ abstract-run u h c command
   unfolding run abstract-run
   run-is (shell command) = refl
-  run-is (repository command) = repository-is command
+  run-is (account command) = account-is command
+  run-is (entry command) = entry-is command
 
 pub step-is : (u : Setup) (h : Abstract) (call : Call) → step abstract u h call ≡ abstract-step u h call
 unfolding step perform abstract-step

@@ -16,7 +16,7 @@ use Rattle.accounts.specs.declared.Right.{Right}
 use Rattle.accounts.specs.declared.Right.the-variants.{R, W}
 use Rattle.accounts.specs.Dominance.{same-role, Bounded-role, dominates}
 use Rattle.syntax.specs.Path.{Path, Entry-path, parent, last, depth, most-names, below-rep}
-use Rattle.commands.specs.Command.{Repository-command, login, logout, add, co, commit, up, del, Command, shell, repository, line}
+use Rattle.commands.specs.Command.{Account-command, login, logout, Entry-command, add, co, commit, up, del, Command, shell, account, entry, line}
 use Rattle.setup.specs.Setup.{Setup}
 use Rattle.tree.specs.declared.Kind.{Kind}
 use Rattle.tree.specs.declared.Kind.the-variants.{Directory}
@@ -50,7 +50,7 @@ pub record Abstract : Type 0 where
 -- what a walk from `/rep` meets: `/rep` itself, which is of no role, or an entry
 pub data Filed : Type 0 where
   top : Filed
-  entry : Entry → Filed
+  an-entry : Entry → Filed
 
 -- the session's role dominates the entry's
 unfoldable pub dominated : Setup → Bounded-role → Bounded-role → Bool
@@ -58,22 +58,22 @@ dominated setup z r = dominates (setup .pairs) (z .role) (r .role)
 
 unfoldable pub filed-kind : Filed → Kind
 filed-kind top = Directory
-filed-kind (entry x) = x .kind
+filed-kind (an-entry x) = x .kind
 
 -- a walk from `/rep` passes a directory of a dominated role
 unfoldable pub filed-passes : Setup → Bounded-role → Filed → Bool
 filed-passes setup z top = true
-filed-passes setup z (entry x) = is-directory (x .kind) && dominated setup z (x .role)
+filed-passes setup z (an-entry x) = is-directory (x .kind) && dominated setup z (x .role)
 
 -- readable means role dominated
 unfoldable pub filed-readable : Setup → Bounded-role → Filed → Bool
 filed-readable setup z top = true
-filed-readable setup z (entry x) = dominated setup z (x .role)
+filed-readable setup z (an-entry x) = dominated setup z (x .role)
 
 -- writing is allowed in a dominated directory, and in `/rep` to role 0 only
 unfoldable pub filed-writable : Setup → Bounded-role → Filed → Bool
 filed-writable setup z top = same-role (z .role) (record { 0 = 0 })
-filed-writable setup z (entry x) = is-directory (x .kind) && dominated setup z (x .role)
+filed-writable setup z (an-entry x) = is-directory (x .kind) && dominated setup z (x .role)
 
 unfoldable pub by-dominance : Setup → Bounded-role → Judge Filed
 by-dominance setup z = record {
@@ -86,11 +86,11 @@ by-dominance setup z = record {
 -- `/rep` has its fresh revision and content
 unfoldable pub filed-revision : Filed → ℕ
 filed-revision top = 0
-filed-revision (entry x) = x .revision
+filed-revision (an-entry x) = x .revision
 
 unfoldable pub filed-content : Filed → Text
 filed-content top = []
-filed-content (entry x) = x .content
+filed-content (an-entry x) = x .content
 
 -- a new entry, and an entry with new content and the next revision
 unfoldable pub new-entry : Kind → Bounded-role → Text → Entry
@@ -115,10 +115,10 @@ module _ (setup : Setup) (h : Abstract) (c : Caller) where
   person-walks p = walk (by-modes (c .account)) (h .workspace) p
 
   abbrev role-walks : Bounded-role → Path → Result (Place Filed)
-  role-walks z p = walk (by-dominance setup z) (rooted entry top (h .entries)) p
+  role-walks z p = walk (by-dominance setup z) (rooted an-entry top (h .entries)) p
 
   abbrev role-parent-walks : Bounded-role → Path → Result (Place Filed)
-  role-parent-walks z p = parent-walk (by-dominance setup z) (rooted entry top (h .entries)) p
+  role-parent-walks z p = parent-walk (by-dominance setup z) (rooted an-entry top (h .entries)) p
 
   -- nodes count as people's nodes plus entries
   abbrev fits : ℕ → Bool
@@ -218,21 +218,24 @@ module _ (setup : Setup) (h : Abstract) (c : Caller) where
     require (is-empty (filed .below)) NotEmpty
     ok (on-entries (update-forest (e .folder) (remove (e .name))) h)
 
-  unfoldable pub abstract-repository : Repository-command → Result (Outcome Abstract)
-  abstract-repository (login z password) = abstract-login z password
-  abstract-repository logout = abstract-logout
-  abstract-repository (add w e r) = abstract-add w e r
-  abstract-repository (co e d) = abstract-co e d
-  abstract-repository (commit w) = abstract-commit w
-  abstract-repository (up w) = abstract-up w
-  abstract-repository (del e) = abstract-del e
+  unfoldable pub abstract-account : Account-command → Result (Outcome Abstract)
+  abstract-account (login z password) = abstract-login z password
+  abstract-account logout = abstract-logout
+
+  unfoldable pub abstract-entry : Entry-command → Result (Outcome Abstract)
+  abstract-entry (add w e r) = abstract-add w e r
+  abstract-entry (co e d) = abstract-co e d
+  abstract-entry (commit w) = abstract-commit w
+  abstract-entry (up w) = abstract-up w
+  abstract-entry (del e) = abstract-del e
 
   -- shell commands run on the people's tree
   unfoldable pub abstract-run : Command → Result (Outcome Abstract)
   abstract-run (shell command) = do
     o ← run-shell c (size (h .entries)) (h .workspace) command
     done (record { text = o .text; state = on-people (λ t. o .state) h })
-  abstract-run (repository command) = abstract-repository command
+  abstract-run (account command) = abstract-account command
+  abstract-run (entry command) = abstract-entry command
 
 -- a library call: 20, 1 and 2 come first
 unfoldable pub abstract-step : Setup → Abstract → Call → Result (Outcome Abstract)

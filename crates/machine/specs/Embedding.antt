@@ -6,7 +6,7 @@ use Rattle.tree.specs.Graft.{graft}
 use Rattle.store.specs.State.{Store}
 use Rattle.store.specs.Initial.{rep-node}
 use Rattle.machine.specs.StoreMachine.{entry-node}
-use Rattle.machine.specs.AbstractMachine.{Entry, Abstract, Filed, top, entry}
+use Rattle.machine.specs.AbstractMachine.{Entry, Abstract, Filed, top, an-entry}
 
 -- an entry of role r has owner and group 16+r, mode 0440 or 0770 by kind, and no tag
 unfoldable pub in-store : Entry → Node
@@ -19,7 +19,7 @@ stored f = rooted in-store rep-node f
 -- the node of what a walk from `/rep` meets
 unfoldable pub met : Filed → Node
 met top = rep-node
-met (entry x) = in-store x
+met (an-entry x) = in-store x
 
 unfoldable pub embed : Abstract → Store
 embed h = record { tree = graft (stored (h .entries)) (h .workspace); sessions = h .sessions }

@@ -8,7 +8,7 @@ use Rattle.buffers.specs.Text.{Text}
 use Rattle.accounts.specs.declared.Caller.{Caller}
 use Rattle.accounts.specs.Dominance.{Bounded-role}
 use Rattle.syntax.specs.Path.{Path, Entry-path, in-rep, entry-location, below-rep}
-use Rattle.commands.specs.Command.{add, commit, del, Command, repository}
+use Rattle.commands.specs.Command.{add, commit, del, Command, entry}
 use Rattle.setup.specs.Setup.{Setup}
 use Rattle.tree.specs.declared.Kind.{Kind}
 use Rattle.tree.specs.declared.Kind.the-variants.{File, Directory}
@@ -62,8 +62,8 @@ pub record Committed (before after : Store) (e : Entry-path) (kind : Kind) (r : 
 -- the commands that change the entry at e, of that kind, role and revision: a `commit` of a working file of it, and a `del` of
 -- it, after which nothing stands there
 pub data Change (before after : Store) (e : Entry-path) (kind : Kind) (r : Bounded-role) (revision : ℕ) : Command → Type 0 where
-  by-commit : {w : Path} → Committed before after e kind r revision w → Change before after e kind r revision (repository (commit w))
-  by-del : node-of after e ≡ none → Change before after e kind r revision (repository (del e))
+  by-commit : {w : Path} → Committed before after e kind r revision w → Change before after e kind r revision (entry (commit w))
+  by-del : node-of after e ≡ none → Change before after e kind r revision (entry (del e))
 
 -- the entry of role r at e after an `add w e r`
 pub record Added (before after : Store) (e : Entry-path) (r : Bounded-role) (w : Path) : Type 0 where
@@ -78,4 +78,4 @@ pub record Added (before after : Store) (e : Entry-path) (r : Bounded-role) (w :
 -- the command that makes an entry at e, in a session whose role dominates the new entry's and writes in its directory
 pub data Making (u : Setup) (before after : Store) (c : Caller) (e : Entry-path) : Command → Type 0 where
   by-add : {w : Path} {r : Bounded-role} → Added before after e r w → Rightful u before c e r
-      → Making u before after c e (repository (add w e r))
+      → Making u before after c e (entry (add w e r))

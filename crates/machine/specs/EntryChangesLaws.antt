@@ -18,7 +18,7 @@ use Rattle.accounts.specs.Service.{service-role}
 use Rattle.syntax.specs.Path.{Path, Entry-path, same-path, in-rep, entry-location, below-rep}
 use Rattle.syntax.specs.WithinLaws.{same-path-sound}
 use Rattle.syntax.specs.FormLaws.{answered}
-use Rattle.commands.specs.Command.{login, logout, add, co, commit, up, del, Command, shell, repository}
+use Rattle.commands.specs.Command.{login, logout, add, co, commit, up, del, Command, shell, account, entry}
 use Rattle.setup.specs.Setup.{Setup}
 use Rattle.tree.specs.declared.Kind.{Kind}
 use Rattle.tree.specs.declared.Kind.the-variants.{File, Directory}
@@ -39,9 +39,9 @@ use Rattle.shell.specs.Steps.{run-shell}
 use Rattle.store.specs.State.{Store}
 use Rattle.store.specs.Initial.{directory-of, rep-node}
 use Rattle.store.specs.Callers.{caller}
-use Rattle.machine.specs.Machine.{Working, tagged, run-login, run-logout, session, run-add, run-co, working-file, original, run-commit, run-up, run-del, run-repository, run}
+use Rattle.machine.specs.Machine.{Working, tagged, run-login, run-logout, session, run-add, run-co, working-file, original, run-commit, run-up, run-del, run-account, run-entry, run}
 use Rattle.machine.specs.StoreMachine.{entry-mode, entry-node, next-node, store}
-use Rattle.machine.specs.AbstractMachine.{Entry, Abstract, Filed, top, entry, filed-kind, filed-readable, by-dominance, filed-revision, next-entry}
+use Rattle.machine.specs.AbstractMachine.{Entry, Abstract, Filed, top, an-entry, filed-kind, filed-readable, by-dominance, filed-revision, next-entry}
 use Rattle.machine.specs.AbstractInstance.{abstract}
 use Rattle.machine.specs.Embedding.{in-store, met, embed}
 use Rattle.machine.specs.Observed.{Reached-without-root}
@@ -92,21 +92,21 @@ file-kind Directory b = contra directory-is-one (not-true (is-directory Director
 -- how a command that takes h to h′ changes the entry x at e
 data Changed (h : Abstract) (c : Caller) (e : Entry-path) (x : Entry) (h′ : Abstract) : Command → Type 0 where
   commits : {w : Path} {k : Working} → Worked h c w k → k .tag ≡ record { path = e; revision = x .revision } → x .kind ≡ File
-      → entry-of h′ e ≡ some (entry (next-entry (k .node .content) x)) → h′ .workspace ≡ tagged w e (suc (x .revision)) (h .workspace)
-      → Changed h c e x h′ (repository (commit w))
-  deletes : h′ ≡ abstract .remove e h → Changed h c e x h′ (repository (del e))
+      → entry-of h′ e ≡ some (an-entry (next-entry (k .node .content) x)) → h′ .workspace ≡ tagged w e (suc (x .revision)) (h .workspace)
+      → Changed h c e x h′ (entry (commit w))
+  deletes : h′ ≡ abstract .remove e h → Changed h c e x h′ (entry (del e))
 
-module _ (u : Setup) (h : Abstract) (c : Caller) (e : Entry-path) (x : Entry) (same : entry-of h e ≡ some (entry x)) where
+module _ (u : Setup) (h : Abstract) (c : Caller) (e : Entry-path) (x : Entry) (same : entry-of h e ≡ some (an-entry x)) where
   -- the entry stays, or is changed in a session whose role dominates its own
   Guarded : Command → Outcome Abstract → Type 0
-  Guarded command o = (entry-of (o .state) e ≡ some (entry x)) ⊎ (Changed h c e x (o .state) command × Rightful-apart u h c e (x .role))
+  Guarded command o = (entry-of (o .state) e ≡ some (an-entry x)) ⊎ (Changed h c e x (o .state) command × Rightful-apart u h c e (x .role))
 
   -- the place where it stands
-  there : Holds (abstract .entries h) (below-rep e) (entry x)
-  there = holds-of h e (entry x) same
+  there : Holds (abstract .entries h) (below-rep e) (an-entry x)
+  there = holds-of h e (an-entry x) same
 
   -- it is what a walk there meets
-  its-entry : (z : Bounded-role) (a : Place Filed) → walk (by-dominance u z) (abstract .entries h) (below-rep e) ≡ done a → a .here ≡ entry x
+  its-entry : (z : Bounded-role) (a : Place Filed) → walk (by-dominance u z) (abstract .entries h) (below-rep e) ≡ done a → a .here ≡ an-entry x
   its-entry z a w = ap (λ d. d .here) (answered (sym (there .stands) ∙ walked-at (abstract .entries h) (by-dominance u z) (below-rep e) a w)) ∙ there .here
 
   -- where the session's role reads the entry, it dominates the entry's
@@ -120,7 +120,7 @@ module _ (u : Setup) (h : Abstract) (c : Caller) (e : Entry-path) (x : Entry) (s
       by-session u h c z i e f (walked-at (abstract .entries h) (by-dominance u z) (e .folder) f v) m (x .role) (ap (filed-readable u z) (sym (its-entry z a w)) ∙ b)
 
   add-guarded : (w : Path) (e′ : Entry-path) (role′ : Bounded-role)
-      → Ensures (Guarded (repository (add w e′ role′))) (run-add abstract u h c w e′ role′)
+      → Ensures (Guarded (entry (add w e′ role′))) (run-add abstract u h c w e′ role′)
   unfolding run-add Guarded
   add-guarded w e′ role′ =
       then-do (session abstract u h c) λ z _.
@@ -132,10 +132,10 @@ module _ (u : Setup) (h : Abstract) (c : Caller) (e : Entry-path) (x : Entry) (s
       then-guard (any-outcome (unused (e′ .name) (f .below))) λ j.
       then-check Access tt _ λ _.
       then-check Full tt _ λ _.
-      gives (inl (of-holds _ e (entry x) (rw (filed-after e′ (d .here .kind) role′ (d .here .content) h)
+      gives (inl (of-holds _ e (an-entry x) (rw (filed-after e′ (d .here .kind) role′ (d .here .content) h)
       (holds-put (below-rep e) (e′ .folder) there (e′ .name) _ (free (by-dominance u z) (abstract .entries h) e′ f i j)))))
 
-  co-guarded : (e′ : Entry-path) (d : Path) → Ensures (Guarded (repository (co e′ d))) (run-co abstract u h c e′ d)
+  co-guarded : (e′ : Entry-path) (d : Path) → Ensures (Guarded (entry (co e′ d))) (run-co abstract u h c e′ d)
   unfolding run-co entry-of Guarded
   co-guarded e′ d =
       then-do (session abstract u h c) λ z _.
@@ -154,7 +154,7 @@ module _ (u : Setup) (h : Abstract) (c : Caller) (e : Entry-path) (x : Entry) (s
       → below-rep e ≡ below-rep (k .tag .path)
       → (t : Abstract)
       → t ≡ abstract .on-workspace (tagged w (k .tag .path) (suc (filed-revision (a .here)))) (abstract .revise (k .tag .path) (k .node .content) h)
-      → Changed h c e x t (repository (commit w)) × Rightful-apart u h c e (x .role)
+      → Changed h c e x t (entry (commit w)) × Rightful-apart u h c e (x .role)
   unfolding by-dominance filed-kind filed-revision next-filed
   own-commit w k g z j a f d led may fresh q t made =
       let s : k .tag .path ≡ e = sym (same-entry e (k .tag .path) q) in
@@ -169,7 +169,7 @@ module _ (u : Setup) (h : Abstract) (c : Caller) (e : Entry-path) (x : Entry) (s
         rightful z j a v (f .readable) d (rw (← s) led) may,
       )
 
-  commit-guarded : (w : Path) → Ensures (Guarded (repository (commit w))) (run-commit abstract u h c w)
+  commit-guarded : (w : Path) → Ensures (Guarded (entry (commit w))) (run-commit abstract u h c w)
   unfolding run-commit Guarded
   commit-guarded w =
       then-do (session abstract u h c) λ z j.
@@ -181,9 +181,9 @@ module _ (u : Setup) (h : Abstract) (c : Caller) (e : Entry-path) (x : Entry) (s
       then-check RevisionsSpent tt _ λ _.
       gives (case (same-path (below-rep e) (below-rep (k .tag .path)))
       (λ s. inr (own-commit w k g z j a f d led may fresh (same-path-sound (below-rep e) (below-rep (k .tag .path)) s) _ refl))
-      (λ s. inl (of-holds _ e (entry x) (rw (revised-after (k .tag .path) (k .node .content) h) (holds-alter (below-rep e) (below-rep (k .tag .path)) there _ s)))))
+      (λ s. inl (of-holds _ e (an-entry x) (rw (revised-after (k .tag .path) (k .node .content) h) (holds-alter (below-rep e) (below-rep (k .tag .path)) there _ s)))))
 
-  up-guarded : (w : Path) → Ensures (Guarded (repository (up w))) (run-up abstract u h c w)
+  up-guarded : (w : Path) → Ensures (Guarded (entry (up w))) (run-up abstract u h c w)
   unfolding run-up entry-of Guarded
   up-guarded w =
       then-do (session abstract u h c) λ z _.
@@ -191,7 +191,7 @@ module _ (u : Setup) (h : Abstract) (c : Caller) (e : Entry-path) (x : Entry) (s
       then-do (original abstract u h c z (k .tag .path)) λ a _.
       gives (inl same)
 
-  del-guarded : (e′ : Entry-path) → Ensures (Guarded (repository (del e′))) (run-del abstract u h c e′)
+  del-guarded : (e′ : Entry-path) → Ensures (Guarded (entry (del e′))) (run-del abstract u h c e′)
   unfolding run-del Guarded below-rep
   del-guarded e′ =
       then-do (session abstract u h c) λ z i.
@@ -204,25 +204,25 @@ module _ (u : Setup) (h : Abstract) (c : Caller) (e : Entry-path) (x : Entry) (s
       (λ s.
       let q = same-path-sound (below-rep e) (below-rep e′) s in
       inr (rw (← same-entry e e′ q) (deletes refl), rightful z i a (rw q w) b f (rw (same-entry e e′ q) v) m))
-      (λ s. inl (of-holds _ e (entry x) (rw (removed-after e′ h)
+      (λ s. inl (of-holds _ e (an-entry x) (rw (removed-after e′ h)
       (holds-drop (below-rep e) (e′ .folder) there (e′ .name) a (walked-at (abstract .entries h) (by-dominance u z) (below-rep e′) a w) alone s)))))
 
   -- any command leaves the entry, or changes it by right
   run-guarded : (command : Command) → Ensures (Guarded command) (run abstract u h c command)
-  unfolding run run-repository run-login run-logout entry-of Guarded
+  unfolding run run-account run-entry run-login run-logout entry-of Guarded
   run-guarded (shell command) = then-do (run-shell c _ (h .workspace) command) λ o _. gives (inl same)
-  run-guarded (repository (login z password)) = then-check NoGrant tt _ λ _. gives (inl same)
-  run-guarded (repository logout) = gives (inl same)
-  run-guarded (repository (add w e′ role′)) = add-guarded w e′ role′
-  run-guarded (repository (co e′ d)) = co-guarded e′ d
-  run-guarded (repository (commit w)) = commit-guarded w
-  run-guarded (repository (up w)) = up-guarded w
-  run-guarded (repository (del e′)) = del-guarded e′
+  run-guarded (account (login z password)) = then-check NoGrant tt _ λ _. gives (inl same)
+  run-guarded (account logout) = gives (inl same)
+  run-guarded (entry (add w e′ role′)) = add-guarded w e′ role′
+  run-guarded (entry (co e′ d)) = co-guarded e′ d
+  run-guarded (entry (commit w)) = commit-guarded w
+  run-guarded (entry (up w)) = up-guarded w
+  run-guarded (entry (del e′)) = del-guarded e′
 
 -- an entry stays under a done command, or is changed by right
 entry-changed : (u : Setup) (h : Abstract) (c : Caller) (command : Command) (o : Outcome Abstract) → run abstract u h c command ≡ done o
-    → (e : Entry-path) (x : Entry) → entry-of h e ≡ some (entry x)
-    → (entry-of (o .state) e ≡ some (entry x)) ⊎ (Changed h c e x (o .state) command × Rightful-apart u h c e (x .role))
+    → (e : Entry-path) (x : Entry) → entry-of h e ≡ some (an-entry x)
+    → (entry-of (o .state) e ≡ some (an-entry x)) ⊎ (Changed h c e x (o .state) command × Rightful-apart u h c e (x .role))
 unfolding Guarded
 entry-changed u h c command o i e x same = done-with (run-guarded u h c e x same command) i
 
@@ -241,10 +241,10 @@ rep-mode Directory i = let z : ⊥ = omega arith in absurd z
 
 module _ (kind : Kind) (r : Bounded-role) (revision : ℕ) (content : Text) where
   -- what stands as an entry's node is an entry of that role
-  met-role : (x : Filed) → met x ≡ entry-node kind r revision content → (y : Entry) × (x ≡ entry y) × (y .role .role ≡ r .role)
+  met-role : (x : Filed) → met x ≡ entry-node kind r revision content → (y : Entry) × (x ≡ an-entry y) × (y .role .role ≡ r .role)
   unfolding met in-store entry-node
   met-role top i = rep-mode kind (ap (λ a. a .mode) i)
-  met-role (entry y) i =
+  met-role (an-entry y) i =
       (y, refl, service-role (y .role .role) (r .role) (ap (λ a. a .owner) i))
 
   -- with new content it has the next revision
@@ -262,7 +262,7 @@ module _ (kind : Kind) (r : Bounded-role) (revision : ℕ) (content : Text) wher
     h′ = b .outcome .state
 
     -- the entry changed in both
-    change-tied : (y : Entry) → met (entry y) ≡ entry-node kind r revision content → {by : Command}
+    change-tied : (y : Entry) → met (an-entry y) ≡ entry-node kind r revision content → {by : Command}
         → Changed h c e y h′ by → Change s s′ e kind r revision by
     unfolding met in-store entry-node
     change-tied y i (commits {w = w} {k = k} g tag a-file next workspace) =
@@ -286,8 +286,8 @@ module _ (kind : Kind) (r : Bounded-role) (revision : ℕ) (content : Text) wher
     change-tied y i (deletes gone) = by-del (ap (λ b. node-of b e) (b .tie-after .same ∙ ap embed gone ∙ sym (remove-tie (b .tie) e .same)) ∙ removed-node s (b .whole) e)
 
     -- or left in both
-    either-tied : (y : Entry) → met (entry y) ≡ entry-node kind r revision content → y .role .role ≡ r .role
-        → (entry-of h′ e ≡ some (entry y)) ⊎ (Changed h c e y h′ command × Rightful-apart u h c e (y .role))
+    either-tied : (y : Entry) → met (an-entry y) ≡ entry-node kind r revision content → y .role .role ≡ r .role
+        → (entry-of h′ e ≡ some (an-entry y)) ⊎ (Changed h c e y h′ command × Rightful-apart u h c e (y .role))
         → Filed-as s′ e kind r revision content ⊎ (Change s s′ e kind r revision command × Rightful u s c e r)
     either-tied y i same (inl k) = inl (node-tied (b .tie-after) e ∙ ap (Option·map met) k ∙ ap some i)
     either-tied y i same (inr k) = inr (change-tied y i (k .0), rightful-tied u (b .tie) c e (y .role) r same (k .1))

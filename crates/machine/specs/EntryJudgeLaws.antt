@@ -23,7 +23,7 @@ use Rattle.tree.specs.Walk.{by-modes}
 use Rattle.tree.specs.JudgeLaws.{file-is-none, directory-is-one, allows-is, kind-by-modes, passes-by-modes, readable-by-modes, writable-by-modes, set-revision-is, set-content-is}
 use Rattle.store.specs.Initial.{directory-of, top-node, rep-node}
 use Rattle.machine.specs.StoreMachine.{entry-mode, entry-node, next-node}
-use Rattle.machine.specs.AbstractMachine.{Entry, Filed, top, entry, dominated, filed-kind, filed-passes, filed-readable, filed-writable, by-dominance, filed-revision, filed-content, next-entry}
+use Rattle.machine.specs.AbstractMachine.{Entry, Filed, top, an-entry, dominated, filed-kind, filed-passes, filed-readable, filed-writable, by-dominance, filed-revision, filed-content, next-entry}
 use Rattle.machine.specs.Embedding.{in-store, met}
 
 -- who is not root has r and x in `/`, by the group's digit or the others'
@@ -98,7 +98,7 @@ module _ (u : Setup) (z : Bounded-role) where
   met-kind : (x : Filed) → met x .kind ≡ filed-kind x
   unfolding met filed-kind in-store entry-node rep-node directory-of
   met-kind top = refl
-  met-kind (entry x) = refl
+  met-kind (an-entry x) = refl
 
   -- a right that a directory's digit has and a file's has not
   directory-right : (t : Right) → grants 4 t ≡ false → grants 7 t ≡ true
@@ -110,12 +110,12 @@ module _ (u : Setup) (z : Bounded-role) where
   met-passes : (x : Filed) → allows account X (met x) ≡ filed-passes u z x
   unfolding met filed-passes in-store
   met-passes top = rep-grants X (grants-7 X) (grants-5 .2)
-  met-passes (entry x) = directory-right X (grants-4 .2) (grants-7 X) (x .kind) (x .role) (x .revision) (x .content)
+  met-passes (an-entry x) = directory-right X (grants-4 .2) (grants-7 X) (x .kind) (x .role) (x .revision) (x .content)
 
   met-writable : (x : Filed) → allows account W (met x) ≡ filed-writable u z x
   unfolding met filed-writable in-store
   met-writable top = rw (rep-allows W) (case (same-role (z .role) (record { 0 = 0 })) (λ t. rw t (grants-7 W)) (λ t. rw t (grants-5 .1)))
-  met-writable (entry x) = directory-right W (grants-4 .1) (grants-7 W) (x .kind) (x .role) (x .revision) (x .content)
+  met-writable (an-entry x) = directory-right W (grants-4 .1) (grants-7 W) (x .kind) (x .role) (x .revision) (x .content)
 
   -- r alone
   r-of-kind : (k : Kind) (v : Bounded-role) (n : ℕ) (c : Text) → allows account R (entry-node k v n c) ≡ dominated u z v
@@ -126,7 +126,7 @@ module _ (u : Setup) (z : Bounded-role) where
   met-r : (x : Filed) → allows account R (met x) ≡ filed-readable u z x
   unfolding met filed-readable in-store
   met-r top = rep-grants R (grants-7 R) (grants-5 .0)
-  met-r (entry x) = r-of-kind (x .kind) (x .role) (x .revision) (x .content)
+  met-r (an-entry x) = r-of-kind (x .kind) (x .role) (x .revision) (x .content)
 
   -- what is readable by its role is passed by it too, where it is a directory
   readable-of-kind : (k : Kind) (b : Bool) → (b && (not (is-directory k) || (is-directory k && b))) ≡ b
@@ -136,7 +136,7 @@ module _ (u : Setup) (z : Bounded-role) where
   readable-passes : (x : Filed) → (filed-readable u z x && (not (is-directory (filed-kind x)) || filed-passes u z x)) ≡ filed-readable u z x
   unfolding filed-readable filed-passes filed-kind
   readable-passes top = or-true (not (is-directory Directory))
-  readable-passes (entry x) = readable-of-kind (x .kind) (dominated u z (x .role))
+  readable-passes (an-entry x) = readable-of-kind (x .kind) (dominated u z (x .role))
 
   -- ---- the judges
 
@@ -170,13 +170,13 @@ module _ (u : Setup) (z : Bounded-role) where
 pub revision-law : (x : Filed) → met x .revision ≡ filed-revision x
 unfolding met filed-revision in-store entry-node rep-node directory-of
 revision-law top = refl
-revision-law (entry x) = refl
+revision-law (an-entry x) = refl
 
 -- and its content
 pub content-law : (x : Filed) → met x .content ≡ filed-content x
 unfolding met filed-content in-store entry-node rep-node directory-of
 content-law top = refl
-content-law (entry x) = refl
+content-law (an-entry x) = refl
 
 -- to revise an entry in the store is to revise it apart
 pub next-law : (c : Text) (x : Entry) → next-node c (in-store x) ≡ in-store (next-entry c x)

@@ -11,7 +11,7 @@ use Rattle.accounts.specs.Access.{is-root}
 use Rattle.accounts.specs.Dominance.{Bounded-role}
 use Rattle.syntax.specs.Path.{Path, _▹_, Entry-path, parent, same-path, in-rep, entry-location, below-rep}
 use Rattle.syntax.specs.WithinLaws.{same-path-sound}
-use Rattle.commands.specs.Command.{login, logout, add, co, commit, up, del, Command, shell, repository}
+use Rattle.commands.specs.Command.{login, logout, add, co, commit, up, del, Command, shell, account, entry}
 use Rattle.setup.specs.Setup.{Setup}
 use Rattle.tree.specs.declared.Cause.the-variants.{Access, NotEmpty, Reserved, Full, NoGrant, Stale, RevisionsSpent, TooDeep}
 use Rattle.tree.specs.Result.{done, Outcome}
@@ -29,9 +29,9 @@ use Rattle.tree.specs.HoldsLaws.{put-leaf-none, drop-still-none}
 use Rattle.shell.specs.Steps.{run-shell}
 use Rattle.store.specs.State.{Store}
 use Rattle.store.specs.Callers.{caller}
-use Rattle.machine.specs.Machine.{tagged, run-login, run-logout, session, run-add, run-co, working-file, original, run-commit, run-up, run-del, run-repository, run}
+use Rattle.machine.specs.Machine.{tagged, run-login, run-logout, session, run-add, run-co, working-file, original, run-commit, run-up, run-del, run-account, run-entry, run}
 use Rattle.machine.specs.StoreMachine.{store}
-use Rattle.machine.specs.AbstractMachine.{Abstract, Filed, entry, dominated, by-dominance, new-entry}
+use Rattle.machine.specs.AbstractMachine.{Abstract, Filed, an-entry, dominated, by-dominance, new-entry}
 use Rattle.machine.specs.AbstractInstance.{abstract}
 use Rattle.machine.specs.Embedding.{in-store, met}
 use Rattle.machine.specs.Observed.{Reached-without-root}
@@ -44,8 +44,8 @@ use Rattle.machine.specs.EntryPlacesLaws.{same-entry, of-holds, of-none,
 -- how a command that takes h to h′ makes an entry at e
 data Made (u : Setup) (h : Abstract) (c : Caller) (e : Entry-path) (h′ : Abstract) : Command → Type 0 where
   adds : {w : Path} {r : Bounded-role} (d : Place Node) → walk (by-modes (c .account)) (h .workspace) w ≡ done d → owns (c .account) (d .here) ≡ true
-      → entry-of h′ e ≡ some (entry (new-entry (d .here .kind) r (d .here .content))) → h′ .workspace ≡ tagged w e 1 (h .workspace)
-      → Rightful-apart u h c e r → Made u h c e h′ (repository (add w e r))
+      → entry-of h′ e ≡ some (an-entry (new-entry (d .here .kind) r (d .here .content))) → h′ .workspace ≡ tagged w e 1 (h .workspace)
+      → Rightful-apart u h c e r → Made u h c e h′ (entry (add w e r))
 
 module _ (u : Setup) (h : Abstract) (c : Caller) (e : Entry-path) (missing : entry-of h e ≡ none)
     (still : (e′ : Entry-path) → entry-of (abstract .remove e′ h) e ≡ none) where
@@ -75,13 +75,13 @@ module _ (u : Setup) (h : Abstract) (c : Caller) (e : Entry-path) (missing : ent
   own-add : (w : Path) (e′ : Entry-path) (r : Bounded-role) (d : Place Node)
       → walk (by-modes (c .account)) (h .workspace) w ≡ done d → owns (c .account) (d .here) ≡ true
       → Rightful-apart u h c e′ r → (h′ : Abstract) → h′ .workspace ≡ tagged w e′ 1 (h .workspace)
-      → (entry-of h′ e ≡ none) ⊎ ((e ≡ e′) × (entry-of h′ e ≡ some (entry (new-entry (d .here .kind) r (d .here .content)))))
-      → (entry-of h′ e ≡ none) ⊎ Made u h c e h′ (repository (add w e′ r))
+      → (entry-of h′ e ≡ none) ⊎ ((e ≡ e′) × (entry-of h′ e ≡ some (an-entry (new-entry (d .here .kind) r (d .here .content)))))
+      → (entry-of h′ e ≡ none) ⊎ Made u h c e h′ (entry (add w e′ r))
   own-add w e′ r d led owned right h′ workspace (inl k) = inl k
   own-add w e′ r d led owned right h′ workspace (inr k) =
       inr (rw (← k .0) (adds d led owned (k .1) (workspace ∙ ap (λ p. tagged w p 1 (h .workspace)) (sym (k .0))) (rw (k .0) right)))
 
-  add-unmade : (w : Path) (e′ : Entry-path) (r : Bounded-role) → Ensures (Unmade (repository (add w e′ r))) (run-add abstract u h c w e′ r)
+  add-unmade : (w : Path) (e′ : Entry-path) (r : Bounded-role) → Ensures (Unmade (entry (add w e′ r))) (run-add abstract u h c w e′ r)
   unfolding run-add Unmade dominated below-rep parent
   add-unmade w e′ r =
       then-do (session abstract u h c) λ z i.
@@ -96,9 +96,9 @@ module _ (u : Setup) (h : Abstract) (c : Caller) (e : Entry-path) (missing : ent
       let t = abstract .entries h in
       let folder = walked-at t (by-dominance u z) (e′ .folder) f (parent-walked (by-dominance u z) t (e′ .folder ▹ e′ .name) j .0) in
       gives (own-add w e′ r d led owned (by-session u h c z i e′ f folder may r right) _ refl
-      (filed-there e′ f folder (free (by-dominance u z) t e′ f j k) (entry (new-entry (d .here .kind) r (d .here .content))) _ (filed-after e′ (d .here .kind) r (d .here .content) h)))
+      (filed-there e′ f folder (free (by-dominance u z) t e′ f j k) (an-entry (new-entry (d .here .kind) r (d .here .content))) _ (filed-after e′ (d .here .kind) r (d .here .content) h)))
 
-  co-unmade : (e′ : Entry-path) (d : Path) → Ensures (Unmade (repository (co e′ d))) (run-co abstract u h c e′ d)
+  co-unmade : (e′ : Entry-path) (d : Path) → Ensures (Unmade (entry (co e′ d))) (run-co abstract u h c e′ d)
   unfolding run-co entry-of Unmade
   co-unmade e′ d =
       then-do (session abstract u h c) λ z _.
@@ -109,7 +109,7 @@ module _ (u : Setup) (h : Abstract) (c : Caller) (e : Entry-path) (missing : ent
       then-check Full tt _ λ _.
       gives (inl missing)
 
-  commit-unmade : (w : Path) → Ensures (Unmade (repository (commit w))) (run-commit abstract u h c w)
+  commit-unmade : (w : Path) → Ensures (Unmade (entry (commit w))) (run-commit abstract u h c w)
   unfolding run-commit Unmade
   commit-unmade w =
       then-do (session abstract u h c) λ z _.
@@ -122,7 +122,7 @@ module _ (u : Setup) (h : Abstract) (c : Caller) (e : Entry-path) (missing : ent
       gives (inl (of-none _ e (rw (revised-after (k .tag .path) (k .node .content) h)
       (alter-none (abstract .entries h) (below-rep e) (below-rep (k .tag .path)) _ (no-entry-place h e missing)))))
 
-  up-unmade : (w : Path) → Ensures (Unmade (repository (up w))) (run-up abstract u h c w)
+  up-unmade : (w : Path) → Ensures (Unmade (entry (up w))) (run-up abstract u h c w)
   unfolding run-up entry-of Unmade
   up-unmade w =
       then-do (session abstract u h c) λ z _.
@@ -130,7 +130,7 @@ module _ (u : Setup) (h : Abstract) (c : Caller) (e : Entry-path) (missing : ent
       then-do (original abstract u h c z (k .tag .path)) λ a _.
       gives (inl missing)
 
-  del-unmade : (e′ : Entry-path) → Ensures (Unmade (repository (del e′))) (run-del abstract u h c e′)
+  del-unmade : (e′ : Entry-path) → Ensures (Unmade (entry (del e′))) (run-del abstract u h c e′)
   unfolding run-del Unmade
   del-unmade e′ =
       then-do (session abstract u h c) λ z _.
@@ -143,15 +143,15 @@ module _ (u : Setup) (h : Abstract) (c : Caller) (e : Entry-path) (missing : ent
 
   -- any command leaves no entry there, or makes it by right
   run-unmade : (command : Command) → Ensures (Unmade command) (run abstract u h c command)
-  unfolding run run-repository run-login run-logout entry-of Unmade
+  unfolding run run-account run-entry run-login run-logout entry-of Unmade
   run-unmade (shell command) = then-do (run-shell c _ (h .workspace) command) λ o _. gives (inl missing)
-  run-unmade (repository (login z password)) = then-check NoGrant tt _ λ _. gives (inl missing)
-  run-unmade (repository logout) = gives (inl missing)
-  run-unmade (repository (add w e′ r)) = add-unmade w e′ r
-  run-unmade (repository (co e′ d)) = co-unmade e′ d
-  run-unmade (repository (commit w)) = commit-unmade w
-  run-unmade (repository (up w)) = up-unmade w
-  run-unmade (repository (del e′)) = del-unmade e′
+  run-unmade (account (login z password)) = then-check NoGrant tt _ λ _. gives (inl missing)
+  run-unmade (account logout) = gives (inl missing)
+  run-unmade (entry (add w e′ r)) = add-unmade w e′ r
+  run-unmade (entry (co e′ d)) = co-unmade e′ d
+  run-unmade (entry (commit w)) = commit-unmade w
+  run-unmade (entry (up w)) = up-unmade w
+  run-unmade (entry (del e′)) = del-unmade e′
 
 -- no entry is there after a done command, or it is made by right
 entry-made : (u : Setup) (h : Abstract) (c : Caller) (e : Entry-path) → entry-of h e ≡ none

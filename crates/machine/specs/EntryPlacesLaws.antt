@@ -38,7 +38,7 @@ use Rattle.store.specs.StateLaws.{parts}
 use Rattle.store.specs.Callers.{caller}
 use Rattle.machine.specs.Machine.{tagged, session, run}
 use Rattle.machine.specs.StoreMachine.{store}
-use Rattle.machine.specs.AbstractMachine.{Abstract, Filed, top, entry, dominated, filed-writable, by-dominance, new-entry, next-entry}
+use Rattle.machine.specs.AbstractMachine.{Abstract, Filed, top, an-entry, dominated, filed-writable, by-dominance, new-entry, next-entry}
 use Rattle.machine.specs.AbstractInstance.{abstract}
 use Rattle.machine.specs.Embedding.{in-store, stored, met, embed}
 use Rattle.machine.specs.Observed.{Reached-without-root}
@@ -93,25 +93,25 @@ free j t e f w i = place-at-child t (e .folder) (e .name) f (walked-at t j (e .f
 -- what is met with new content and the next revision; `/rep` is never revised
 unfoldable pub next-filed : Text → Filed → Filed
 next-filed content top = top
-next-filed content (entry x) = entry (next-entry content x)
+next-filed content (an-entry x) = an-entry (next-entry content x)
 
 -- an entry filed
 pub filed-after : (e : Entry-path) (kind : Kind) (r : Bounded-role) (content : Text) (h : Abstract)
     → abstract .entries (abstract .file e kind r content h)
-    ≡ update (e .folder) (put (e .name) (leaf (entry (new-entry kind r content)))) (abstract .entries h)
+    ≡ update (e .folder) (put (e .name) (leaf (an-entry (new-entry kind r content)))) (abstract .entries h)
 filed-after e kind r content h =
-    rw (leaf-map entry (new-entry kind r content)) (sym (rooted-put entry top (e .folder) (e .name) (leaf (new-entry kind r content)) (h .entries)))
+    rw (leaf-map an-entry (new-entry kind r content)) (sym (rooted-put an-entry top (e .folder) (e .name) (leaf (new-entry kind r content)) (h .entries)))
 
 -- an entry revised
 pub revised-after : (e : Entry-path) (content : Text) (h : Abstract)
     → abstract .entries (abstract .revise e content h) ≡ update (below-rep e) (alter (next-filed content)) (abstract .entries h)
 unfolding below-rep next-filed
-revised-after e content h = sym (rooted-alter entry top (next-filed content) (next-entry content) (λ x. refl) (e .folder) (e .name) (h .entries))
+revised-after e content h = sym (rooted-alter an-entry top (next-filed content) (next-entry content) (λ x. refl) (e .folder) (e .name) (h .entries))
 
 -- an entry taken out
 pub removed-after : (e : Entry-path) (h : Abstract)
     → abstract .entries (abstract .remove e h) ≡ update (e .folder) (drop (e .name)) (abstract .entries h)
-removed-after e h = sym (rooted-drop entry top (e .folder) (e .name) (h .entries))
+removed-after e h = sym (rooted-drop an-entry top (e .folder) (e .name) (h .entries))
 
 -- ---- rights
 
@@ -185,7 +185,7 @@ tagged-tied {h} t t′ {w} o e revision made d there = (
 writes-met : (u : Setup) (z : Bounded-role) (x : Filed) → filed-writable u z x ≡ true → Writes-in u z (met x)
 unfolding filed-writable met in-store
 writes-met u z top b = in-top (ap (λ r. r .0) (same-role-is (z .role) (record { 0 = 0 }) b))
-writes-met u z (entry x) b =
+writes-met u z (an-entry x) b =
     let k = and-both (is-directory (x .kind)) (dominated u z (x .role)) b in
     rw (a-directory (x .kind) (k .0)) (in-directory (x .role) (x .revision) (x .content) (k .1))
 

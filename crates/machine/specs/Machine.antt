@@ -15,7 +15,7 @@ use Rattle.accounts.specs.declared.Right.{Right}
 use Rattle.accounts.specs.declared.Right.the-variants.{R, W}
 use Rattle.accounts.specs.Dominance.{Bounded-role, dominates}
 use Rattle.syntax.specs.Path.{Path, Entry-path, parent, last, depth, most-names, below-rep}
-use Rattle.commands.specs.Command.{Repository-command, login, logout, add, co, commit, up, del, Command, shell, repository}
+use Rattle.commands.specs.Command.{Account-command, login, logout, Entry-command, add, co, commit, up, del, Command, shell, account, entry}
 use Rattle.setup.specs.Setup.{Setup}
 use Rattle.tree.specs.declared.Kind.{Kind}
 use Rattle.tree.specs.declared.Cause.the-variants.{Access, WrongKind, NotEmpty, Reserved, Full, NoSession, NoGrant, Stale, Untagged, RevisionsSpent, TooDeep}
@@ -132,10 +132,10 @@ module _ {S A : Type 0} (M : Machine S A) (setup : Setup) (s : S) (c : Caller) w
   -- the account's walk to the tag's entry: directory 7; r 5
   unfoldable pub original : Bounded-role → Entry-path → Result (Place A)
   original z e = do
-    entry ← account-walks z (below-rep e)
-    require (not (is-directory (M .judge setup z .kind (entry .here)))) WrongKind
-    require (M .judge setup z .readable (entry .here)) Access
-    done entry
+    found ← account-walks z (below-rep e)
+    require (not (is-directory (M .judge setup z .kind (found .here)))) WrongKind
+    require (M .judge setup z .readable (found .here)) Access
+    done found
 
   unfoldable pub run-commit : Path → Result (Outcome S)
   run-commit w = do
@@ -169,17 +169,20 @@ module _ {S A : Type 0} (M : Machine S A) (setup : Setup) (s : S) (c : Caller) w
     require (is-empty (filed .below)) NotEmpty
     ok (M .remove e s)
 
-  unfoldable pub run-repository : Repository-command → Result (Outcome S)
-  run-repository (login z password) = run-login z password
-  run-repository logout = run-logout
-  run-repository (add w e r) = run-add w e r
-  run-repository (co e d) = run-co e d
-  run-repository (commit w) = run-commit w
-  run-repository (up w) = run-up w
-  run-repository (del e) = run-del e
+  unfoldable pub run-account : Account-command → Result (Outcome S)
+  run-account (login z password) = run-login z password
+  run-account logout = run-logout
+
+  unfoldable pub run-entry : Entry-command → Result (Outcome S)
+  run-entry (add w e r) = run-add w e r
+  run-entry (co e d) = run-co e d
+  run-entry (commit w) = run-commit w
+  run-entry (up w) = run-up w
+  run-entry (del e) = run-del e
 
   unfoldable pub run : Command → Result (Outcome S)
   run (shell command) = do
     o ← run-shell c (M .elsewhere s) (M .workspace s) command
     done (record { text = o .text; state = M .on-workspace (λ t. o .state) s })
-  run (repository command) = run-repository command
+  run (account command) = run-account command
+  run (entry command) = run-entry command

@@ -16,7 +16,7 @@ use Rattle.accounts.specs.declared.Right.the-variants.{R, W}
 use Rattle.accounts.specs.Access.{is-root}
 use Rattle.accounts.specs.Dominance.{Bounded-role}
 use Rattle.syntax.specs.Path.{Path, Entry-path, below-rep}
-use Rattle.commands.specs.Command.{line, Repository-command, login, logout, add, co, commit, up, del, Command, shell, repository}
+use Rattle.commands.specs.Command.{line, Account-command, login, logout, Entry-command, add, co, commit, up, del, Command, shell, account, entry}
 use Rattle.setup.specs.Setup.{Setup, person}
 use Rattle.tree.specs.declared.Cause.{Cause}
 use Rattle.tree.specs.declared.Cause.the-variants.{NoForm, UnknownCaller, Access, WrongKind, NotEmpty, Reserved, Full, NoSession, NoGrant, Stale, Untagged, RevisionsSpent, Unsound, TooDeep, ShortAnswer}
@@ -34,7 +34,7 @@ use Rattle.shell.specs.Answers.{Own, Text-fits}
 use Rattle.shell.specs.ShellAnswerLaws.{none-fits, room-refuses, run-shell-answers, place-text-fits}
 use Rattle.store.specs.State.{Store}
 use Rattle.store.specs.Callers.{known-caller, caller}
-use Rattle.machine.specs.Machine.{Machine, run-login, run-logout, session, run-add, run-co, working-file, original, run-commit, run-up, run-del, run-repository, run}
+use Rattle.machine.specs.Machine.{Machine, run-login, run-logout, session, run-add, run-co, working-file, original, run-commit, run-up, run-del, run-account, run-entry, run}
 use Rattle.machine.specs.StoreMachine.{store}
 use Rattle.machine.specs.Runs.{Call, least-room, perform, step}
 use Rattle.machine.specs.RunsLaws.{least-room-is}
@@ -147,21 +147,25 @@ module _ {S A : Type 0} (M : Machine S A) (setup : Setup) (s : S) where
           then-check NotEmpty refl _ λ _.
           gives empty
 
-      repository-answers : (command : Repository-command) → Answers (run-repository M setup s c command)
-      unfolding run-repository
-      repository-answers (login z password) = login-answers z password
-      repository-answers logout = logout-answers
-      repository-answers (add w e r) = add-answers w e r
-      repository-answers (co e d) = co-answers e d
-      repository-answers (commit w) = commit-answers w
-      repository-answers (up w) = up-answers w
-      repository-answers (del e) = del-answers e
+      account-answers : (command : Account-command) → Answers (run-account M setup s c command)
+      unfolding run-account
+      account-answers (login z password) = login-answers z password
+      account-answers logout = logout-answers
+
+      entry-answers : (command : Entry-command) → Answers (run-entry M setup s c command)
+      unfolding run-entry
+      entry-answers (add w e r) = add-answers w e r
+      entry-answers (co e d) = co-answers e d
+      entry-answers (commit w) = commit-answers w
+      entry-answers (up w) = up-answers w
+      entry-answers (del e) = del-answers e
 
       -- a command is refused by a cause of its own, or its text is none or that of a place of the workspace
       run-gives : (command : Command) → Gives Own (λ o. T (o .text)) (run M setup s c command)
       unfolding run
       run-gives (shell command) = then-step (run-shell-answers c (M .elsewhere s) (M .workspace s) T empty full command) λ o h. gives h
-      run-gives (repository command) = repository-answers command
+      run-gives (account command) = account-answers command
+      run-gives (entry command) = entry-answers command
 
     -- and so is a line of any bytes
     perform-gives : (text : Text) → Gives Own (λ o. T (o .text)) (perform M setup s text)

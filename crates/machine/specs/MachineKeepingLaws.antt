@@ -20,7 +20,7 @@ use Rattle.accounts.specs.Dominance.{Bounded-role}
 use Rattle.accounts.specs.Service.{service}
 use Rattle.syntax.specs.Path.{Path, _▹_, Entry-path, parent, depth, in-rep, entry-location, is-path, is-entry-path, most-names, below-rep}
 use Rattle.syntax.specs.PathLaws.{entry-parts}
-use Rattle.commands.specs.Command.{line, Repository-command, login, logout, add, co, commit, up, del, Command, shell, repository, is-repository-command, is-command, is-line}
+use Rattle.commands.specs.Command.{line, Account-command, login, logout, Entry-command, add, co, commit, up, del, Command, shell, account, entry, is-entry-command, is-command, is-line}
 use Rattle.commands.specs.CommandLaws.{line-is-line}
 use Rattle.setup.specs.Setup.{Setup, is-setup}
 use Rattle.setup.specs.SetupLaws.{accepted-is-setup}
@@ -52,7 +52,7 @@ use Rattle.store.specs.InitialLaws.{initial-well-formed}
 use Rattle.store.specs.StoreBytes.{encode, decode}
 use Rattle.store.specs.StoreBytesLaws.{decode-encode}
 use Rattle.store.specs.Callers.{caller}
-use Rattle.machine.specs.Machine.{source, Working, run-login, run-logout, run-add, run-co, working-file, original, run-commit, run-up, run-del, run-repository, run}
+use Rattle.machine.specs.Machine.{source, Working, run-login, run-logout, run-add, run-co, working-file, original, run-commit, run-up, run-del, run-account, run-entry, run}
 use Rattle.machine.specs.StoreMachine.{entry-node, next-node, store}
 use Rattle.machine.specs.Runs.{Call, perform, step, runs}
 use Rattle.machine.specs.Observed.{Reached}
@@ -216,21 +216,25 @@ module _ (u : Setup) (g : is-setup u ≡ true) (s : Store) (w : well-formed (sta
       (node-of-revision (suc v) x (node-of-content content (a .here) n (i .1) (rw (h .2) (r .content))) (rw last-revision-is (le-leb (suc v) 9999 l)))
       (kind-of-set-revision (suc v) x ∙ kind-of-set-content content (a .here))) p e (suc v) (r .tag (k .tag) (h .4) .0) l)
 
-  repository-keeps : (command : Repository-command) → is-repository-command command ≡ true → Keeps (run-repository store u s c command)
-  unfolding run-repository is-repository-command
-  repository-keeps (login z password) k = login-keeps z password
-  repository-keeps logout k = logout-keeps
-  repository-keeps (add p e role) k = add-keeps p e role (and-both (is-path p) (is-entry-path e) k .1)
-  repository-keeps (co e p) k = let i = and-both (is-entry-path e) (is-path p) k in co-keeps e p (i .0) (i .1)
-  repository-keeps (commit p) k = commit-keeps p
-  repository-keeps (up p) k = up-keeps p
-  repository-keeps (del e) k = del-keeps e
+  account-keeps : (command : Account-command) → Keeps (run-account store u s c command)
+  unfolding run-account
+  account-keeps (login z password) = login-keeps z password
+  account-keeps logout = logout-keeps
+
+  entry-keeps : (command : Entry-command) → is-entry-command command ≡ true → Keeps (run-entry store u s c command)
+  unfolding run-entry is-entry-command
+  entry-keeps (add p e role) k = add-keeps p e role (and-both (is-path p) (is-entry-path e) k .1)
+  entry-keeps (co e p) k = let i = and-both (is-entry-path e) (is-path p) k in co-keeps e p (i .0) (i .1)
+  entry-keeps (commit p) k = commit-keeps p
+  entry-keeps (up p) k = up-keeps p
+  entry-keeps (del e) k = del-keeps e
 
   -- a command of a caller in range keeps the store well-formed
   run-keeps : (command : Command) → is-command command ≡ true → Ensures (λ o. well-formed (state-of u (o .state)) ≡ true) (run store u s c command)
   unfolding run is-command
   run-keeps (shell command) k = then-step (run-shell-keeps c 0 (s .tree) o tree command k) λ x h. changed (x .text) (x .state) h
-  run-keeps (repository command) k = repository-keeps command k
+  run-keeps (account command) k = account-keeps command
+  run-keeps (entry command) k = entry-keeps command k
 
 -- ---- calls
 

@@ -13,7 +13,7 @@ use Rattle.accounts.specs.Dominance.{Bounded-role}
 use Rattle.accounts.specs.Service.{service, service-not-root, service-own, service-foreign}
 use Rattle.syntax.specs.Path.{Path, _▹_, Entry-path, parent, last, within, lies-below, in-rep, entry-location, below-rep}
 use Rattle.syntax.specs.WithinLaws.{outside-differs}
-use Rattle.commands.specs.Command.{Shell-command, Repository-command, login, logout, add, co, commit, up, del, Command, shell, repository, some-path, some-working-path, some-walked-path}
+use Rattle.commands.specs.Command.{Shell-command, Account-command, login, logout, Entry-command, add, co, commit, up, del, Command, shell, account, entry, some-path, some-working-path, some-walked-path}
 use Rattle.setup.specs.Setup.{Setup}
 use Rattle.tree.specs.declared.Cause.{Cause}
 use Rattle.tree.specs.declared.Cause.the-variants.{Access, WrongKind, NotEmpty, Reserved, Full, NoGrant, Stale, Untagged, RevisionsSpent, TooDeep}
@@ -31,7 +31,7 @@ use Rattle.shell.specs.ShutLaws.{never-walked, never-room, never-run}
 use Rattle.shell.specs.Privacy.{Private, Unaltered, in-place, walks-first}
 use Rattle.shell.specs.ShellPrivacyLaws.{private-shut, private-foreign, private-outside, put-private, drop-private, room-private, run-shell-through, run-shell-private}
 use Rattle.store.specs.State.{Store}
-use Rattle.machine.specs.Machine.{run-login, run-logout, session, run-add, run-co, working-file, original, run-commit, run-up, run-del, run-repository, run}
+use Rattle.machine.specs.Machine.{run-login, run-logout, session, run-add, run-co, working-file, original, run-commit, run-up, run-del, run-account, run-entry, run}
 use Rattle.machine.specs.StoreMachine.{store}
 
 module _ (u : Setup) (s : Store) (c : Caller) (p : Path) (d : Place Node) (there : place-at (s .tree) p ≡ some d) (v : Private (c .account) d) where
@@ -41,24 +41,22 @@ module _ (u : Setup) (s : Store) (c : Caller) (p : Path) (d : Place Node) (there
   unfolding working-file
   never-working right w b = never-walked c (s .tree) p d there (private-shut v X) _ w b
 
-  never-repository : (command : Repository-command) → some-working-path (lies-below p) command ≡ true
-      → Ensures (λ _. ⊥) (run-repository store u s c command)
-  unfolding some-working-path run-repository run-add run-co run-commit run-up
-  never-repository (login z password) b = contra b refl
-  never-repository logout b = contra b refl
-  never-repository (add w e role) b = then-do (session store u s c) λ _ _. never-walked c (s .tree) p d there (private-shut v X) _ w b
-  never-repository (co e q) b =
+  never-entry : (command : Entry-command) → some-working-path (lies-below p) command ≡ true → Ensures (λ _. ⊥) (run-entry store u s c command)
+  unfolding some-working-path run-entry run-add run-co run-commit run-up
+  never-entry (add w e role) b = then-do (session store u s c) λ _ _. never-walked c (s .tree) p d there (private-shut v X) _ w b
+  never-entry (co e q) b =
       then-do (session store u s c) λ _ _.
       then-step (never-room c (s .tree) p d there (private-shut v X) 0 q b) λ _ z. absurd z
-  never-repository (commit w) b = then-do (session store u s c) λ _ _. then-step (never-working R w b) λ _ z. absurd z
-  never-repository (up w) b = then-do (session store u s c) λ _ _. then-step (never-working W w b) λ _ z. absurd z
-  never-repository (del e) b = contra b refl
+  never-entry (commit w) b = then-do (session store u s c) λ _ _. then-step (never-working R w b) λ _ z. absurd z
+  never-entry (up w) b = then-do (session store u s c) λ _ _. then-step (never-working W w b) λ _ z. absurd z
+  never-entry (del e) b = contra b refl
 
   -- a command with a path below it is refused
   pub run-refused : (command : Command) → some-walked-path (lies-below p) command ≡ true → (why : Cause) × (run store u s c command ≡ refused why)
   unfolding some-walked-path run
   run-refused (shell command) b = never-done (then-step (never-run c (s .tree) p d there (private-shut v X) 0 command b) λ _ z. absurd z)
-  run-refused (repository command) b = never-done (never-repository command b)
+  run-refused (account command) b = contra b refl
+  run-refused (entry command) b = never-done (never-entry command b)
 
   -- a shell command that walks first, for want of x
   pub run-through : is-tree (s .tree) ≡ true → (command : Shell-command) → walks-first command ≡ true → some-path (lies-below p) command ≡ true
@@ -161,15 +159,18 @@ module _ (u : Setup) (s : Store) (c : Caller) (p : Path) (d : Place Node) (there
         let o = private-outside (s .tree) p d there (service-private z) (by-modes a .readable) (readable-by-modes a (d .here) ∙ rw (private-shut (service-private z) R)) (q ▹ e .name) x w r in
         gives (drop-private (s .tree) p d there (service-private z) q (e .name) x f w i (rw (writable-by-modes a (f .here)) at b) n (outside-differs p (q ▹ e .name) o))
 
-    run-repository-private : (command : Repository-command) → Ensures (λ o. place-at (o .state .tree) p ≡ some d) (run-repository store u s c command)
-    unfolding run-repository run-login run-logout
-    run-repository-private (login z password) = then-check NoGrant tt _ λ _. gives there
-    run-repository-private logout = gives there
-    run-repository-private (add w e role) = add-private w e role
-    run-repository-private (co e q) = co-private e q
-    run-repository-private (commit w) = commit-private w
-    run-repository-private (up w) = up-private w
-    run-repository-private (del e) = del-private e
+    account-private : (command : Account-command) → Ensures (λ o. place-at (o .state .tree) p ≡ some d) (run-account store u s c command)
+    unfolding run-account run-login run-logout
+    account-private (login z password) = then-check NoGrant tt _ λ _. gives there
+    account-private logout = gives there
+
+    entry-private : (command : Entry-command) → Ensures (λ o. place-at (o .state .tree) p ≡ some d) (run-entry store u s c command)
+    unfolding run-entry
+    entry-private (add w e role) = add-private w e role
+    entry-private (co e q) = co-private e q
+    entry-private (commit w) = commit-private w
+    entry-private (up w) = up-private w
+    entry-private (del e) = del-private e
 
     -- every command leaves the directory unaltered
     pub run-private : is-tree (s .tree) ≡ true → (command : Command)
@@ -178,4 +179,5 @@ module _ (u : Setup) (s : Store) (c : Caller) (p : Path) (d : Place Node) (there
     run-private whole (shell command) =
         then-step (run-shell-private c 0 (s .tree) p d there v whole command) λ o k.
         gives k
-    run-private whole (repository command) = weaker (λ o. in-place) (run-repository-private command)
+    run-private whole (account command) = weaker (λ o. in-place) (account-private command)
+    run-private whole (entry command) = weaker (λ o. in-place) (entry-private command)

@@ -38,7 +38,7 @@ use Rattle.store.specs.StateLaws.{parts, formed}
 use Rattle.store.specs.Initial.{directory-of, rep-node, initial-store}
 use Rattle.store.specs.InitialLaws.{initial-few, initial-well-formed}
 use Rattle.machine.specs.StoreMachine.{entry-node, store}
-use Rattle.machine.specs.AbstractMachine.{Entry, Abstract, Filed, top, entry, dominated, filed-kind, filed-passes, filed-readable, filed-writable, by-dominance, new-entry, initial-abstract}
+use Rattle.machine.specs.AbstractMachine.{Entry, Abstract, Filed, top, an-entry, dominated, filed-kind, filed-passes, filed-readable, filed-writable, by-dominance, new-entry, initial-abstract}
 use Rattle.machine.specs.AbstractInstance.{abstract}
 use Rattle.machine.specs.Embedding.{met, embed}
 use Rattle.machine.specs.EntryJudgeLaws.{passes-law, readable-law, writable-law}
@@ -78,12 +78,12 @@ module _ (u u′ : Setup) (a a′ : Bounded-role) (more : (r : Bounded-role) →
   passes-more : (x : Filed) → by-dominance u a .passes x ≡ true → by-dominance u′ a′ .passes x ≡ true
   unfolding by-dominance filed-passes
   passes-more top h = h
-  passes-more (entry x) h = directory-more (x .kind) (x .role) h
+  passes-more (an-entry x) h = directory-more (x .kind) (x .role) h
 
   readable-apart : (x : Filed) → by-dominance u a .readable x ≡ true → by-dominance u′ a′ .readable x ≡ true
   unfolding by-dominance filed-readable
   readable-apart top h = h
-  readable-apart (entry x) h = more (x .role) h
+  readable-apart (an-entry x) h = more (x .role) h
 
   readable-more : (x : Filed) → store .judge u a .readable (met x) ≡ true → store .judge u′ a′ .readable (met x) ≡ true
   readable-more x h = rw (readable-law u′ a′ x) (readable-apart x (rw (readable-law u a x) at h))
@@ -109,7 +109,7 @@ writable-apart : (u u′ : Setup) (z : Bounded-role) → ((r : Bounded-role) →
     → (x : Filed) → by-dominance u z .writable x ≡ true → by-dominance u′ z .writable x ≡ true
 unfolding by-dominance filed-writable
 writable-apart u u′ z more top h = h
-writable-apart u u′ z more (entry x) h = directory-more u u′ z z more (x .kind) (x .role) h
+writable-apart u u′ z more (an-entry x) h = directory-more u u′ z z more (x .kind) (x .role) h
 
 -- ---- more pairs
 
@@ -152,27 +152,27 @@ module _ (u : Setup) (b : Bounded-role) where
   witness-tie = file-tie (initial-tie u) filed-path File b []
 
   -- a walk from `/rep` meets the file
-  witness-entry : get (bytes "x") (abstract .entries witness .below) ≡ some (leaf (entry filed-entry))
+  witness-entry : get (bytes "x") (abstract .entries witness .below) ≡ some (leaf (an-entry filed-entry))
   unfolding witness initial-abstract
   witness-entry =
       let F = update-forest root (insert (bytes "x") (leaf filed-entry)) no-nodes in
       let x = bytes "x" in
-      rw (rooted-below entry top F, get-map entry x F, update-forest-root (insert x (leaf filed-entry)) no-nodes, get-insert x (leaf filed-entry) no-nodes (get-nil x)) (
-      ap some (sym (leaf-map entry filed-entry)))
+      rw (rooted-below an-entry top F, get-map an-entry x F, update-forest-root (insert x (leaf filed-entry)) no-nodes, get-insert x (leaf filed-entry) no-nodes (get-nil x)) (
+      ap some (sym (leaf-map an-entry filed-entry)))
 
   -- who dominates the role may read it, and nobody else
-  witness-readable : (a : Bounded-role) → store .judge u a .readable (map-place met (leaf (entry filed-entry)) .here) ≡ dominated u a b
+  witness-readable : (a : Bounded-role) → store .judge u a .readable (map-place met (leaf (an-entry filed-entry)) .here) ≡ dominated u a b
   unfolding by-dominance filed-readable new-entry
-  witness-readable a = rw (map-here met (leaf (entry filed-entry)), leaf-here (entry filed-entry)) (readable-law u a (entry filed-entry))
+  witness-readable a = rw (map-here met (leaf (an-entry filed-entry)), leaf-here (an-entry filed-entry)) (readable-law u a (an-entry filed-entry))
 
   -- the role's account may read it
-  witness-read : May-read u b (embed witness) (root ▹ bytes "x") (map-place met (leaf (entry filed-entry)))
+  witness-read : May-read u b (embed witness) (root ▹ bytes "x") (map-place met (leaf (an-entry filed-entry)))
   unfolding by-dominance filed-kind filed-passes dominated
   witness-read =
       let j = by-dominance u b in
       let k = witness-tie .kept in
       let t = abstract .entries witness in
-      let e : enter j (t .here) ≡ done tt = rw (rooted-here entry top (witness .entries)) (enters j top directory-is-one refl) in
+      let e : enter j (t .here) ≡ done tt = rw (rooted-here an-entry top (witness .entries)) (enters j top directory-is-one refl) in
       let w = walks-on j t root (bytes "x") (walk-root j t) e witness-entry in
       let v = done-second (account-walk u b witness k (root ▹ bytes "x")) w in
       record { walks = v .1 ∙ ap done (v .2); reads = witness-readable b ∙ dominates-self (u .pairs) (b .role) (b .role) refl }
@@ -206,7 +206,7 @@ module _ (u : Setup) (s : is-setup u ≡ true) (a b : Bounded-role) where
   -- a role whose account may read all that another's may dominates the other
   reading-dominates : Reads-all u a b → dominated u a b ≡ true
   reading-dominates all =
-      let d = map-place met (leaf (entry (filed-entry u b))) in
+      let d = map-place met (leaf (an-entry (filed-entry u b))) in
       sym (witness-readable u b a) ∙ all (witness u b) (witness-tie u b .kept) (witness-formed u b s) (root ▹ bytes "x") d (witness-read u b) .reads
 
   -- so dominance is reading

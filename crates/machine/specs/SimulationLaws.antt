@@ -14,7 +14,7 @@ use Rattle.accounts.specs.Access.{is-root}
 use Rattle.accounts.specs.Dominance.{Bounded-role}
 use Rattle.accounts.specs.Service.{service}
 use Rattle.syntax.specs.Path.{Path, _▹_, Entry-path, parent, in-rep, entry-location, below-rep}
-use Rattle.commands.specs.Command.{Shell-command, Repository-command, login, logout, add, co, commit, up, del, Command, shell, repository}
+use Rattle.commands.specs.Command.{Shell-command, Account-command, login, logout, Entry-command, add, co, commit, up, del, Command, shell, account, entry}
 use Rattle.setup.specs.Setup.{Setup, is-setup}
 use Rattle.tree.specs.declared.Kind.{Kind}
 use Rattle.tree.specs.declared.Cause.the-variants.{Access, WrongKind, NotEmpty, Reserved, Full, NoGrant, Stale, Untagged, RevisionsSpent, TooDeep}
@@ -40,9 +40,9 @@ use Rattle.shell.specs.HidingLaws.{Kept-out, Beside, Alike, update-beside, walk
 use Rattle.store.specs.State.{Sessions, Store}
 use Rattle.store.specs.Initial.{directory-of, top-node, rep-node}
 use Rattle.store.specs.Callers.{caller}
-use Rattle.machine.specs.Machine.{source, run-login, run-logout, session, run-add, run-co, working-file, original, run-commit, run-up, run-del, run-repository, run}
+use Rattle.machine.specs.Machine.{source, run-login, run-logout, session, run-add, run-co, working-file, original, run-commit, run-up, run-del, run-account, run-entry, run}
 use Rattle.machine.specs.StoreMachine.{entry-node, next-node, on-tree, store}
-use Rattle.machine.specs.AbstractMachine.{Entry, Abstract, Filed, top, entry, new-entry, next-entry, on-entries}
+use Rattle.machine.specs.AbstractMachine.{Entry, Abstract, Filed, top, an-entry, new-entry, next-entry, on-entries}
 use Rattle.machine.specs.AbstractInstance.{abstract}
 use Rattle.machine.specs.Embedding.{in-store, stored, met, embed}
 use Rattle.machine.specs.EntryJudgeLaws.{kind-law, passes-law, readable-law, writable-law, top-passed, revision-law, content-law, next-law}
@@ -127,9 +127,9 @@ module _ (h : Abstract) (k : Kept h) where
   count = omega (arith, nodes-graft (stored (h .entries)) (h .workspace) (k .there), leaf-size rep-node, rooted-size in-store rep-node (h .entries))
 
 -- what stands below `/rep` is what a walk from there meets
-pub stored-is-met : (F : Forest Entry) → stored F ≡ map-place met (rooted entry top F)
+pub stored-is-met : (F : Forest Entry) → stored F ≡ map-place met (rooted an-entry top F)
 unfolding stored met
-stored-is-met F = sym (rooted-map met entry top F)
+stored-is-met F = sym (rooted-map met an-entry top F)
 
 -- ---- the account of a session's role
 
@@ -328,21 +328,24 @@ module _ (u : Setup) (c : Caller) (out : Kept-out c top-node (leaf rep-node .her
       check NotEmpty (empty-map met (b .below)) λ _.
       both (changed (remove-tie (start h k) e))))))
 
-  run-repository-agrees : (command : Repository-command)
-      → Agree Tied (run-repository store u (embed h) c command) (run-repository abstract u h c command)
-  unfolding run-repository
-  run-repository-agrees (login z password) = login-agrees z password
-  run-repository-agrees logout = logout-agrees
-  run-repository-agrees (add w e role) = add-agrees w e role
-  run-repository-agrees (co e p) = co-agrees e p
-  run-repository-agrees (commit w) = commit-agrees w
-  run-repository-agrees (up w) = up-agrees w
-  run-repository-agrees (del e) = del-agrees e
+  account-agrees : (command : Account-command) → Agree Tied (run-account store u (embed h) c command) (run-account abstract u h c command)
+  unfolding run-account
+  account-agrees (login z password) = login-agrees z password
+  account-agrees logout = logout-agrees
+
+  entry-agrees : (command : Entry-command) → Agree Tied (run-entry store u (embed h) c command) (run-entry abstract u h c command)
+  unfolding run-entry
+  entry-agrees (add w e role) = add-agrees w e role
+  entry-agrees (co e p) = co-agrees e p
+  entry-agrees (commit w) = commit-agrees w
+  entry-agrees (up w) = up-agrees w
+  entry-agrees (del e) = del-agrees e
 
   run-kept-out : (command : Command) → Agree Tied (run store u (embed h) c command) (run abstract u h c command)
   unfolding run
   run-kept-out (shell command) = bind (shell-agrees command) λ a b s. both (record { text = s .text; state = workspace-tie (start h k) (s .state) })
-  run-kept-out (repository command) = run-repository-agrees command
+  run-kept-out (account command) = account-agrees command
+  run-kept-out (entry command) = entry-agrees command
 
 -- one command of a person
 pub run-agrees : (u : Setup) → is-setup u ≡ true → (v : Uid) (c : Caller) → is-root v ≡ false → caller u v ≡ done c

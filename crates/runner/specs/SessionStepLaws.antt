@@ -12,7 +12,7 @@ use Rattle.accounts.specs.declared.Role.{Role}
 use Rattle.accounts.specs.declared.Session.the-variants.{Nobody, As}
 use Rattle.accounts.specs.Dominance.{Bounded-role}
 use Rattle.accounts.specs.Service.{service}
-use Rattle.commands.specs.Command.{Repository-command, login, logout, add, co, commit, up, del}
+use Rattle.commands.specs.Command.{Entry-command, add, co, commit, up, del}
 use Rattle.tree.specs.declared.Cause.the-variants.{NoSession}
 use Rattle.tree.specs.Result.{refused, done, Outcome}
 use Rattle.tree.specs.ResultLaws.{present-of, present-none, refused-bind}
@@ -21,14 +21,13 @@ use Rattle.shell.specs.declared.Answer.the-variants.{Refused}
 use Rattle.store.specs.State.{Store, State}
 use Rattle.tree.specs.TreeBytes.{Encodes}
 use Rattle.header.specs.HeaderBytes.{session-held}
-use Rattle.machine.specs.Machine.{session, run-add, run-co, run-commit, run-up, run-del, run-repository}
+use Rattle.machine.specs.Machine.{session, run-add, run-co, run-commit, run-up, run-del, run-entry}
 use Rattle.machine.specs.StoreMachine.{store}
-use Rattle.shell.specs.CommandBytes.{Carries-silently, Follows-silently}
+use Rattle.shell.specs.CommandBytes.{Carries, Carries-silently, Follows}
 use Rattle.shell.specs.CommandBytesLaws.{refusal-follows}
 use Rattle.machine.specs.Acting.{Acting, on-tree-steps}
 use Rattle.machine.specs.ActingLaws.{add-keeps-sessions, commit-keeps-sessions, up-keeps-sessions, del-keeps-sessions}
 use Rattle.checkout.specs.CheckoutRunLaws.{co-keeps-sessions}
-use Rattle.meanings.specs.Meaning.{needs-session}
 use Rattle.stored_header.specs.Stored.{Stored, bytes-with}
 use Rattle.runner.specs.RunnerLaws.{lent-tree, tree-back, lent-carries}
 
@@ -57,46 +56,40 @@ module _ {b : List ℕ} {s : State} (h : Stored b s) (c : Caller) where
   some-session z e = rw e (present-of z NoSession)
 
   -- without one such a command is refused by 12
-  refused-without : held ≡ none → (k : Repository-command) → needs-session k ≡ true → run-repository store (s .setup) (s .store) c k ≡ refused NoSession
-  unfolding needs-session run-repository run-add run-co run-commit run-up run-del
-  refused-without e (login z password) n = contra n refl
-  refused-without e logout n = contra n refl
-  refused-without e (add w p z) n = rw (no-session e) (refused-bind NoSession _)
-  refused-without e (co p d) n = rw (no-session e) (refused-bind NoSession _)
-  refused-without e (commit w) n = rw (no-session e) (refused-bind NoSession _)
-  refused-without e (up w) n = rw (no-session e) (refused-bind NoSession _)
-  refused-without e (del p) n = rw (no-session e) (refused-bind NoSession _)
+  refused-without : held ≡ none → (k : Entry-command) → run-entry store (s .setup) (s .store) c k ≡ refused NoSession
+  unfolding run-entry run-add run-co run-commit run-up run-del
+  refused-without e (add w p z) = rw (no-session e) (refused-bind NoSession _)
+  refused-without e (co p d) = rw (no-session e) (refused-bind NoSession _)
+  refused-without e (commit w) = rw (no-session e) (refused-bind NoSession _)
+  refused-without e (up w) = rw (no-session e) (refused-bind NoSession _)
+  refused-without e (del p) = rw (no-session e) (refused-bind NoSession _)
 
-  pub nobody-carries : (k : Repository-command) → needs-session k ≡ true → Nobody ≡ session-held held
-      → Carries-silently (bytes-with (s .setup)) (run-repository store (s .setup) (s .store) c k) b (Refused NoSession) b
-  nobody-carries k n e = refusal-follows b (refused-without (held-none held e) k n)
+  pub nobody-carries : (k : Entry-command) → Nobody ≡ session-held held
+      → Carries-silently (bytes-with (s .setup)) (run-entry store (s .setup) (s .store) c k) b (Refused NoSession) b
+  nobody-carries k e = refusal-follows b (refused-without (held-none held e) k)
 
-  -- in one it acts for the account of its role, on the tree as it is lent
-  abbrev pub acting : {z : Bounded-role} {account : Account} → held ≡ some z → account ≡ service (s .setup .pairs) z → Encodes (lent-tree b) (s .store .tree)
-      → Acting (lent-tree b) c account
-  acting {z} e q t = record {
+  -- in one it acts for the account of its role
+  abbrev pub acting : {z : Bounded-role} {account : Account} → held ≡ some z → account ≡ service (s .setup .pairs) z → Acting c account
+  acting {z} e q = record {
     setup = s .setup;
     state = s .store;
     role = z;
-    tree = t;
     session = some-session z e;
     served = q;
   }
 
   -- and keeps the sessions
-  command-keeps-sessions : (k : Repository-command) → needs-session k ≡ true → (o : Outcome Store) → run-repository store (s .setup) (s .store) c k ≡ done o
+  command-keeps-sessions : (k : Entry-command) (o : Outcome Store) → run-entry store (s .setup) (s .store) c k ≡ done o
       → o .state .sessions ≡ s .store .sessions
-  unfolding needs-session run-repository
-  command-keeps-sessions (login z password) n o e = contra n refl
-  command-keeps-sessions logout n o e = contra n refl
-  command-keeps-sessions (add w p z) n o e = add-keeps-sessions (s .setup) (s .store) c w p z e
-  command-keeps-sessions (co p d) n o e = co-keeps-sessions (s .setup) (s .store) c p d e
-  command-keeps-sessions (commit w) n o e = commit-keeps-sessions (s .setup) (s .store) c w e
-  command-keeps-sessions (up w) n o e = up-keeps-sessions (s .setup) (s .store) c w e
-  command-keeps-sessions (del p) n o e = del-keeps-sessions (s .setup) (s .store) c p e
+  unfolding run-entry
+  command-keeps-sessions (add w p z) o e = add-keeps-sessions (s .setup) (s .store) c w p z e
+  command-keeps-sessions (co p d) o e = co-keeps-sessions (s .setup) (s .store) c p d e
+  command-keeps-sessions (commit w) o e = commit-keeps-sessions (s .setup) (s .store) c w e
+  command-keeps-sessions (up w) o e = up-keeps-sessions (s .setup) (s .store) c w e
+  command-keeps-sessions (del p) o e = del-keeps-sessions (s .setup) (s .store) c p e
 
   -- so what follows its steps on the tree is carried out on the store
-  pub role-carries : (k : Repository-command) → needs-session k ≡ true → (r : Answer) (T : List ℕ)
-      → (Encodes (lent-tree b) (s .store .tree) → Follows-silently (on-tree-steps (run-repository store (s .setup) (s .store) c k)) (lent-tree b) r T)
-      → Carries-silently (bytes-with (s .setup)) (run-repository store (s .setup) (s .store) c k) b r (tree-back b T)
-  role-carries k n r T f a = lent-carries h (run-repository store (s .setup) (s .store) c k) (command-keeps-sessions k n) a a r T (λ e. f e a)
+  pub role-carries : (k : Entry-command) (a a′ : List ℕ) (r : Answer) (T : List ℕ)
+      → (Encodes (lent-tree b) (s .store .tree) → Follows (on-tree-steps (run-entry store (s .setup) (s .store) c k)) (lent-tree b) a r T a′)
+      → Carries (bytes-with (s .setup)) (run-entry store (s .setup) (s .store) c k) b a r (tree-back b T) a′
+  role-carries k a a′ r T f = lent-carries h (run-entry store (s .setup) (s .store) c k) (command-keeps-sessions k) a a′ r T f

@@ -16,7 +16,7 @@ use Rattle.accounts.specs.Compute.{compute as compute-accounts}
 use Rattle.syntax.specs.Pieces.{bytes, newline, pieces}
 use Rattle.syntax.specs.Path.{Path, path}
 use Rattle.syntax.specs.Compute.{compute as compute-syntax}
-use Rattle.commands.specs.Command.{Command, shell, repository, line}
+use Rattle.commands.specs.Command.{Command, shell, account, entry, line}
 use Rattle.commands.specs.Compute.{compute as compute-commands}
 use Rattle.tree.specs.declared.Kind.{Kind}
 use Rattle.tree.specs.declared.Kind.the-variants.{File, Directory}
@@ -94,7 +94,8 @@ start = record {
 
 command-run : ℕ → Place Node → Uid → Command → Result (Outcome (Place Node))
 command-run elsewhere t u (shell c) = run-shell (who u) elsewhere t c
-command-run elsewhere t u (repository c) = refused NoForm
+command-run elsewhere t u (account c) = refused NoForm
+command-run elsewhere t u (entry c) = refused NoForm
 
 line-run : ℕ → Place Node → Text → Result (Outcome (Place Node))
 line-run elsewhere t l = do

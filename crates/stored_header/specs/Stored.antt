@@ -12,6 +12,9 @@ use Rattle.accounts.specs.declared.Session.{Session}
 use Rattle.accounts.specs.declared.Uid.{Uid}
 use Rattle.accounts.specs.Closure.{rows-of}
 use Rattle.accounts.specs.Dominance.{Bounded-role}
+use Rattle.commands.specs.declared.AccountCommand.{AccountCommand as Account-parts}
+use Rattle.commands.specs.Command.{Account-command}
+use Rattle.commands.specs.Meaning.{Account-means}
 use Rattle.setup.specs.Setup.{Setup}
 use Rattle.tree.specs.TreeBytes.{Encodes}
 use Rattle.shell.specs.declared.Answer.{Answer}
@@ -22,7 +25,7 @@ use Rattle.store.specs.StoreBytes.{store-width, encode}
 use Rattle.store.specs.Callers.{caller}
 use Rattle.header.specs.declared.Known.{Known}
 use Rattle.header.specs.HeaderBytes.{Heads, known, session-held}
-use Rattle.machine.specs.Machine.{run-login, run-logout}
+use Rattle.machine.specs.Machine.{run-login, run-logout, run-account}
 use Rattle.machine.specs.StoreMachine.{store}
 
 -- ---- what is asked
@@ -62,3 +65,8 @@ module _ (c : Caller) where
 
   abbrev pub Logout-done : List ℕ → Answer → List ℕ → Type 0
   Logout-done b r b′ = (s : State) → Stored b s → Carries-silently (bytes-with (s .setup)) (run-logout store (s .setup) (s .store) c) b r b′
+
+  -- the one or the other, as the parts of a line mean
+  abbrev pub Account-done : Text → Account-parts → List ℕ → Answer → List ℕ → Type 0
+  Account-done line command b r b′ = (s : State) (k : Account-command) → Stored b s → Account-means line command k
+      → Carries-silently (bytes-with (s .setup)) (run-account store (s .setup) (s .store) c k) b r b′

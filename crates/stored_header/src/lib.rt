@@ -1,19 +1,21 @@
 // Who calls, the sessions and the roles, on a store's bytes: its header is lent.
 ghost use Prim.Native.Nat.{_<_};
 ghost use Rattle.syntax.specs.Parts.{Inside, span-text};
-ghost use Rattle.stored_header.specs.Stored.{Some-store, Caller-told, Session-of, Rows-of, Login-done, Logout-done};
+ghost use Rattle.commands.specs.Meaning.{Some-account-command};
+ghost use Rattle.stored_header.specs.Stored.{Some-store, Caller-told, Session-of, Rows-of, Login-done, Logout-done, Account-done};
 use accounts::Caller;
 use accounts::Dominance;
 use accounts::Role;
 use accounts::Session;
 use accounts::Uid;
+use commands::AccountCommand;
+use commands::part;
 use header::Known;
 use header::caller_of;
 use header::dominance_of;
 use header::login;
 use header::logout;
 use header::session_of;
-use meanings::part;
 use shell::Answer;
 use store::HEADER;
 use syntax::Span;
@@ -44,7 +46,7 @@ pub fn dominance_in(store: &[u8]) -> Dominance
 }
 
 // `login` on the store's header.
-pub fn log_in(store: &mut [u8], caller: Caller, role: Role, line: &[u8], password: Span) -> Answer
+fn log_in(store: &mut [u8], caller: Caller, role: Role, line: &[u8], password: Span) -> Answer
     requires { ⌜ Some-store (now store) ⌝ }
     requires { ⌜ caller .account .uid .0 < 16 ⌝ }
     requires { ⌜ role .0 < 8 ⌝ }
@@ -61,11 +63,29 @@ pub fn log_in(store: &mut [u8], caller: Caller, role: Role, line: &[u8], passwor
 }
 
 // `logout` on the store's header.
-pub fn log_out(store: &mut [u8], caller: Caller) -> Answer
+fn log_out(store: &mut [u8], caller: Caller) -> Answer
     requires { ⌜ Some-store (now store) ⌝ }
     requires { ⌜ caller .account .uid .0 < 16 ⌝ }
     ensures { λ r. ⌜ Logout-done caller (now (store .entry)) r (now (store .exit)) ⌝ }
 {
     let account = caller.account;
     logout(&mut store[..HEADER], account.uid)
+}
+
+// A command about the caller's session.
+pub fn account_command(
+    store: &mut [u8],
+    caller: Caller,
+    line: &[u8],
+    command: AccountCommand,
+) -> Answer
+    requires { ⌜ Some-store (now store) ⌝ }
+    requires { ⌜ Some-account-command (now line) command ⌝ }
+    requires { ⌜ caller .account .uid .0 < 16 ⌝ }
+    ensures { λ r. ⌜ Account-done caller (now (line .entry)) command (now (store .entry)) r (now (store .exit)) ⌝ }
+{
+    match command {
+        AccountCommand::Login { role, password } => log_in(store, caller, role, line, password),
+        AccountCommand::Logout => log_out(store, caller),
+    }
 }

@@ -3,206 +3,169 @@ use mathlib.Core.Path.{sym, ap, _∙_}
 use denote.Ref.{now}
 use Rattle.accounts.specs.Closure.{session-dominates}
 use Rattle.accounts.specs.Dominance.{role-low}
-use Rattle.commands.specs.Parsed.{Means}
-use Rattle.meanings.specs.MeaningLaws.{meant-as, part-read}
+use Rattle.commands.specs.Meaning.{Entry-means}
+use Rattle.commands.specs.MeaningLaws.{means-as, part-read}
 use Rattle.entry_runner.specs.EntryDone.{entry-steps}
 use Rattle.entry_runner.specs.EntryDoneLaws.{same-steps, add-follows}
-use Rattle.meanings.specs.CasesLaws.{no-entry-case}
 use Rattle.entry_runner.proofs.entry_command.Statement.{statement}
 use Rattle.entry_runner.proofs.entry_command.Tie as tie
-
-enum-known-command : tie.Need-enum-known-command
-enum-known-command c = c .match .keys1
 
 dominates-requires : tie.Need-dominates-requires
 dominates-requires c κs = tt
 
 part-requires : tie.Need-part-requires
-unfolding Means
+unfolding Entry-means
 part-requires c κs =
-    let s = c .before .before .before .before .before .before .before in
-    meant-as (c .before .before .before .command .given .1) (s .pre .1 .2) .3 .inside
+    let s = c .before .before .before .before .before .before .before .before in
+    means-as Entry-means (c .before .before .before .command .given .1) (s .pre .1 .0 .1) .3 .inside
 
 part-requires-2 : tie.Need-part-requires-2
-unfolding Means
+unfolding Entry-means
 part-requires-2 c κs =
-    let s = c .before .before .before .before .before .before .before .before in
-    meant-as (c .before .before .before .before .command .given .1) (s .pre .1 .2) .4 .inside
+    let s = c .before .before .before .before .before .before .before .before .before in
+    means-as Entry-means (c .before .before .before .before .command .given .1) (s .pre .1 .0 .1) .4 .inside
 
 add-requires : tie.Need-add-requires
-unfolding Means
+unfolding Entry-means
 add-requires c κs =
-    let s = c .before .before .before .before .before .before .before .before .before in
-    let i = meant-as (c .before .before .before .before .before .command .given .1) (s .pre .1 .2) in
+    let s = c .before .before .before .before .before .before .before .before .before .before in
+    let i = means-as Entry-means (c .before .before .before .before .before .command .given .1) (s .pre .1 .0 .1) in
     let e = part-read _ (c .part2 .ensures) (i .4) in
     (s .pre .0, ((i .0, part-read _ (c .before .part .ensures) (i .3)), ((i .1, e), role-low (i .2) (i .5))))
 
-enum-known-command-2 : tie.Need-enum-known-command-2
-enum-known-command-2 c = c .match .keys2
-
 part-requires-3 : tie.Need-part-requires-3
-unfolding Means
+unfolding Entry-means
 part-requires-3 c κs =
-    let s = c .before .before .before .before .before .before in
-    meant-as (c .before .before .command2 .given .1) (s .pre .1 .2) .2 .inside
+    let s = c .before .before .before .before .before .before .before in
+    means-as Entry-means (c .before .before .command2 .given .1) (s .pre .1 .0 .1) .2 .inside
 
 part-requires-4 : tie.Need-part-requires-4
-unfolding Means
+unfolding Entry-means
 part-requires-4 c κs =
-    let s = c .before .before .before .before .before .before .before in
-    meant-as (c .before .before .before .command2 .given .1) (s .pre .1 .2) .3 .inside
+    let s = c .before .before .before .before .before .before .before .before in
+    means-as Entry-means (c .before .before .before .command2 .given .1) (s .pre .1 .0 .1) .3 .inside
 
 co-requires : tie.Need-co-requires
-unfolding Means
+unfolding Entry-means
 co-requires c κs =
-    let s = c .before .before .before .before .before .before .before .before in
-    let i = meant-as (c .before .before .before .before .command2 .given .1) (s .pre .1 .2) in
+    let s = c .before .before .before .before .before .before .before .before .before in
+    let i = means-as Entry-means (c .before .before .before .before .command2 .given .1) (s .pre .1 .0 .1) in
     (s .pre .0, ((i .0, part-read _ (c .before .part3 .ensures) (i .2)), (i .1, part-read _ (c .part4 .ensures) (i .3))))
 
-enum-known-command-3 : tie.Need-enum-known-command-3
-enum-known-command-3 c = c .match .keys3
-
 part-requires-5 : tie.Need-part-requires-5
-unfolding Means
+unfolding Entry-means
 part-requires-5 c κs =
-    let s = c .before .before .before .before .before .before in
-    meant-as (c .before .before .command3 .given .1) (s .pre .1 .2) .1 .inside
+    let s = c .before .before .before .before .before .before .before in
+    means-as Entry-means (c .before .before .command3 .given .1) (s .pre .1 .0 .1) .1 .inside
 
 commit-requires : tie.Need-commit-requires
-unfolding Means
+unfolding Entry-means
 commit-requires c κs =
-    let s = c .before .before .before .before .before .before .before in
-    let i = meant-as (c .before .before .before .command3 .given .1) (s .pre .1 .2) in
+    let s = c .before .before .before .before .before .before .before .before in
+    let i = means-as Entry-means (c .before .before .before .command3 .given .1) (s .pre .1 .0 .1) in
     (s .pre .0, (i .0, part-read _ (c .part5 .ensures) (i .1)))
 
-enum-known-command-4 : tie.Need-enum-known-command-4
-enum-known-command-4 c = c .match .keys4
-
 part-requires-6 : tie.Need-part-requires-6
-unfolding Means
+unfolding Entry-means
 part-requires-6 c κs =
-    let s = c .before .before .before .before .before .before in
-    meant-as (c .before .before .command4 .given .1) (s .pre .1 .2) .1 .inside
+    let s = c .before .before .before .before .before .before .before in
+    means-as Entry-means (c .before .before .command4 .given .1) (s .pre .1 .0 .1) .1 .inside
 
 up-requires : tie.Need-up-requires
-unfolding Means
+unfolding Entry-means
 up-requires c κs =
-    let s = c .before .before .before .before .before .before .before in
-    let i = meant-as (c .before .before .before .command4 .given .1) (s .pre .1 .2) in
+    let s = c .before .before .before .before .before .before .before .before in
+    let i = means-as Entry-means (c .before .before .before .command4 .given .1) (s .pre .1 .0 .1) in
     (s .pre .0, (i .0, part-read _ (c .part6 .ensures) (i .1)))
 
-enum-known-command-5 : tie.Need-enum-known-command-5
-enum-known-command-5 c = c .match .keys5
-
 part-requires-7 : tie.Need-part-requires-7
-unfolding Means
+unfolding Entry-means
 part-requires-7 c κs =
-    let s = c .before .before .before .before .before .before in
-    meant-as (c .before .before .command5 .given .1) (s .pre .1 .2) .1 .inside
+    let s = c .before .before .before .before .before .before .before in
+    means-as Entry-means (c .before .before .command5 .given .1) (s .pre .1 .0 .1) .1 .inside
 
 del-requires : tie.Need-del-requires
-unfolding Means
+unfolding Entry-means
 del-requires c κs =
-    let s = c .before .before .before .before .before .before .before in
-    let i = meant-as (c .before .before .before .command5 .given .1) (s .pre .1 .2) in
+    let s = c .before .before .before .before .before .before .before .before in
+    let i = means-as Entry-means (c .before .before .before .command5 .given .1) (s .pre .1 .0 .1) in
     (s .pre .0, (i .0, part-read _ (c .part7 .ensures) (i .1)))
 
-same-length : tie.Need-same-length
-same-length c = c .before .before .add .kept .0
-
 returns : tie.Need-returns
-unfolding Means
-returns c t k tree n m =
-    let a = c .before .before .before .before .before .before .before .before .before .before .before .before .args in
-    let i = meant-as (c .before .before .before .before .before .before .before .before .command .given .1) m in
+unfolding Entry-means
+returns c t k tree m =
+    let a = c .before .before .before .before .before .before .before .before .before .before .before .before .before .args in
+    let i = means-as Entry-means (c .before .before .before .before .before .before .before .before .command .given .1) m in
     let dominates = session-dominates (a .session) (a .dominance .rows) in
     let own = c .before .before .before .before .before .dominates .ensures ∙ ap dominates (sym (i .5)) in
     let working = part-read _ (c .before .before .before .before .part .ensures) (i .3) in
     let entry = part-read _ (c .before .before .before .part2 .ensures) (i .4) in
     same-steps (a .caller) (a .account) dominates t (i .6)
     (add-follows (a .caller) (a .account) dominates t (i .0) (i .1) (i .2) own
-    (c .before .before .add .ensures (i .0) (i .1) working entry t (i .2) tree (i .5)))
-
-same-length-2 : tie.Need-same-length-2
-same-length-2 c = c .before .before .co .kept .0
+    (c .before .before .add .ensures (i .0) (i .1) working entry t (i .2) tree (i .5) (now (a .answer))))
 
 returns-2 : tie.Need-returns-2
-unfolding Means entry-steps
-returns-2 c t k tree n m =
-    let a = c .before .before .before .before .before .before .before .before .before .before .before .args in
-    let i = meant-as (c .before .before .before .before .before .before .before .command2 .given .1) m in
+unfolding Entry-means entry-steps
+returns-2 c t k tree m =
+    let a = c .before .before .before .before .before .before .before .before .before .before .before .before .args in
+    let i = means-as Entry-means (c .before .before .before .before .before .before .before .command2 .given .1) m in
     let entry = part-read _ (c .before .before .before .before .part3 .ensures) (i .2) in
     let to = part-read _ (c .before .before .before .part4 .ensures) (i .3) in
-    same-steps (a .caller) (a .account) (session-dominates (a .session) (a .dominance .rows)) t (i .4) (c .before .before .co .ensures t (i .0) tree entry (i .1) to)
-
-same-length-3 : tie.Need-same-length-3
-same-length-3 c = c .before .before .commit .kept .0
+    same-steps (a .caller) (a .account) (session-dominates (a .session) (a .dominance .rows)) t (i .4) (c .before .before .co .ensures t (i .0) tree entry (i .1) to (now (a .answer)))
 
 returns-3 : tie.Need-returns-3
-unfolding Means entry-steps
-returns-3 c t k tree n m =
-    let a = c .before .before .before .before .before .before .before .before .before .before .args in
-    let i = meant-as (c .before .before .before .before .before .before .command3 .given .1) m in
+unfolding Entry-means entry-steps
+returns-3 c t k tree m =
+    let a = c .before .before .before .before .before .before .before .before .before .before .before .args in
+    let i = means-as Entry-means (c .before .before .before .before .before .before .command3 .given .1) m in
     let q = part-read _ (c .before .before .before .part5 .ensures) (i .1) in
-    same-steps (a .caller) (a .account) (session-dominates (a .session) (a .dominance .rows)) t (i .2) (c .before .before .commit .ensures t (i .0) tree q)
-
-same-length-4 : tie.Need-same-length-4
-same-length-4 c = c .before .before .up .kept .0
+    same-steps (a .caller) (a .account) (session-dominates (a .session) (a .dominance .rows)) t (i .2) (c .before .before .commit .ensures t (i .0) tree q (now (a .answer)))
 
 returns-4 : tie.Need-returns-4
-unfolding Means entry-steps
-returns-4 c t k tree n m =
-    let a = c .before .before .before .before .before .before .before .before .before .before .args in
-    let i = meant-as (c .before .before .before .before .before .before .command4 .given .1) m in
+unfolding Entry-means entry-steps
+returns-4 c t k tree m =
+    let a = c .before .before .before .before .before .before .before .before .before .before .before .args in
+    let i = means-as Entry-means (c .before .before .before .before .before .before .command4 .given .1) m in
     let q = part-read _ (c .before .before .before .part6 .ensures) (i .1) in
-    same-steps (a .caller) (a .account) (session-dominates (a .session) (a .dominance .rows)) t (i .2) (c .before .before .up .ensures t (i .0) tree q)
-
-same-length-5 : tie.Need-same-length-5
-same-length-5 c = c .before .before .del .kept .0
+    same-steps (a .caller) (a .account) (session-dominates (a .session) (a .dominance .rows)) t (i .2) (c .before .before .up .ensures t (i .0) tree q (now (a .answer)))
 
 returns-5 : tie.Need-returns-5
-unfolding Means entry-steps
-returns-5 c t k tree n m =
-    let a = c .before .before .before .before .before .before .before .before .before .before .args in
-    let i = meant-as (c .before .before .before .before .before .before .command5 .given .1) m in
+unfolding Entry-means entry-steps
+returns-5 c t k tree m =
+    let a = c .before .before .before .before .before .before .before .before .before .before .before .args in
+    let i = means-as Entry-means (c .before .before .before .before .before .before .command5 .given .1) m in
     let q = part-read _ (c .before .before .before .part7 .ensures) (i .1) in
-    same-steps (a .caller) (a .account) (session-dominates (a .session) (a .dominance .rows)) t (i .2) (c .before .before .del .ensures t (i .0) tree q)
-
-returns-6 : tie.Need-returns-6
-returns-6 c t k tree n m =
-    let a = c .before .before .before .args in
-    no-entry-case (now (a .line)) (a .command) k n (c .match .keys6) (m .means)
+    same-steps (a .caller) (a .account) (session-dominates (a .session) (a .dominance .rows)) t (i .2) (c .before .before .del .ensures t (i .0) tree q (now (a .answer)))
 
 pub entry-command-spec : {M : Type 1} → statement M
 entry-command-spec =
     tie.close
     (tie.spec
-    enum-known-command
+    (λ c. c .match .keys1)
     dominates-requires
     part-requires
     part-requires-2
     add-requires
-    enum-known-command-2
+    (λ c. c .match .keys2)
     part-requires-3
     part-requires-4
     co-requires
-    enum-known-command-3
+    (λ c. c .match .keys3)
     part-requires-5
     commit-requires
-    enum-known-command-4
+    (λ c. c .match .keys4)
     part-requires-6
     up-requires
-    enum-known-command-5
+    (λ c. c .match .keys5)
     part-requires-7
     del-requires
-    same-length
+    (λ c. c .before .before .add .kept .0)
     returns
-    same-length-2
+    (λ c. c .before .before .co .kept .0)
     returns-2
-    same-length-3
+    (λ c. c .before .before .commit .kept .0)
     returns-3
-    same-length-4
+    (λ c. c .before .before .up .kept .0)
     returns-4
-    same-length-5
-    returns-5
-    returns-6)
+    (λ c. c .before .before .del .kept .0)
+    returns-5)

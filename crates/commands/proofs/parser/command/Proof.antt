@@ -4,13 +4,13 @@ use borrow.Author.Needs.{needs}
 use Rattle.syntax.specs.Form.{_>>=_}
 use Rattle.arguments.specs.Kinds.{value, values-of}
 use Rattle.commands.specs.Command.{takes, listed}
-use Rattle.commands.specs.Parsed.{with-path, with-entry, meaning}
+use Rattle.commands.specs.Parsed.{with-path, with-entry, shell-meaning, account-meaning, entry-meaning, meaning}
 use Rattle.commands.specs.ParsedLaws.{as-word}
 use Rattle.commands.proofs.parser.command.Statement.{statement}
 use Rattle.commands.proofs.parser.command.Tie as tie
 
 pub command-spec : {M : Type 1} → statement M
-unfolding meaning with-path with-entry value values-of listed takes _>>=_
+unfolding shell-meaning account-meaning entry-meaning meaning with-path with-entry value values-of listed takes _>>=_
 command-spec =
     tie.close
     (tie.spec

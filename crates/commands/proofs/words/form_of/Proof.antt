@@ -2,14 +2,14 @@
 use denote.Ref.{now}
 use borrow.Author.Needs.{needs}
 use Rattle.syntax.specs.Pieces.{bytes}
-use Rattle.commands.specs.Command.{takes, listed, words}
-use Rattle.commands.specs.Words.{repository-words, form-of}
+use Rattle.commands.specs.Command.{takes, listed, other-words, words}
+use Rattle.commands.specs.Words.{form-of}
 use Rattle.commands.specs.WordsLaws.{shell-words-gone, _and_, all-words}
 use Rattle.commands.proofs.words.form_of.Statement.{statement}
 use Rattle.commands.proofs.words.form_of.Tie as tie
 
 returns : tie.Need-returns
-unfolding words listed takes bytes repository-words form-of
+unfolding words listed takes bytes other-words form-of
 returns c =
     let c6 = c .before .before in
     let c5 = c6 .before .before in

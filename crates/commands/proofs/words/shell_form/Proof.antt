@@ -2,8 +2,7 @@
 use denote.Ref.{now}
 use borrow.Author.Needs.{needs}
 use Rattle.syntax.specs.Pieces.{bytes}
-use Rattle.commands.specs.Command.{takes, listed}
-use Rattle.commands.specs.Words.{shell-words}
+use Rattle.commands.specs.Command.{takes, listed, shell-words}
 use Rattle.commands.specs.WordsLaws.{start, _and_, all-words}
 use Rattle.commands.proofs.words.shell_form.Statement.{statement}
 use Rattle.commands.proofs.words.shell_form.Tie as tie

@@ -5,7 +5,7 @@ use denote.Ref.{now}
 use Rattle.buffers.specs.Cases.{answers-false, answers-true}
 use Rattle.syntax.specs.FormLaws.{the-some}
 use Rattle.commands.specs.Parsed.{parsed}
-use Rattle.commands.specs.ParsedLaws.{parsed-none, parsed-line}
+use Rattle.commands.specs.MeaningLaws.{parsed-none, parsed-line}
 use Rattle.store.specs.StoreBytes.{decode}
 use Rattle.stored_header.specs.StoredLaws.{read-stored}
 use Rattle.library.specs.RunLaws.{run-short, run-unsound, run-unformed, run-carried}
@@ -47,7 +47,7 @@ by-caller-requires c κs =
     let a = wide .before .before .before .before .args in
     let s = the-some (decode (now (a .store))) (answers-true (held .holds-store .ensures) (p .before .if2 .left)) in
     let l = parsed-line (now (a .line)) _ _ (ap (parsed (now (a .line))) (sym (is .caller .given .1)) ∙ p .parse .ensures) in
-    ((s .0, read-stored _ (s .0) (s .1)), ((l .0, record { means = l .1; in-range = l .3 }), omega (arith, wide .if1 .left)))
+    ((s .0, read-stored _ (s .0) (s .1)), ((l .0, l .1), omega (arith, wide .if1 .left)))
 
 same-length-2 : tie.Need-same-length-2
 same-length-2 c = refl
@@ -77,7 +77,7 @@ returns-4 c =
     let a = wide .before .before .before .before .args in
     let s = the-some (decode (now (a .store))) (answers-true (held .holds-store .ensures) (p .before .if2 .left)) in
     let l = parsed-line (now (a .line)) _ _ (ap (parsed (now (a .line))) (sym (is .caller .given .1)) ∙ p .parse .ensures) in
-    let called = c .before .before .before .before .by-caller .ensures (s .0) (l .0) (read-stored _ (s .0) (s .1)) (record { means = l .1; in-range = l .3 }) in
+    let called = c .before .before .before .before .by-caller .ensures (s .0) (l .0) (read-stored _ (s .0) (s .1)) (l .1) in
     run-carried (now (a .store)) (now (a .answer)) (now (a .line)) (s .0) (omega (arith, wide .if1 .left)) (s .1) _ (l .0) (l .2) called
 
 pub run-spec : {M : Type 1} → statement M

@@ -1,9 +1,9 @@
--- `meanings::part` meets its contract: the bytes from the span's start up to its end are its text.
+-- `commands::parts::part` meets its contract: the bytes from the span's start up to its end are its text.
 use mathlib.Core.Path.{refl}
 use Rattle.syntax.specs.Parts.{part, span-text}
 use borrow.Author.Needs.{needs}
-use Rattle.meanings.proofs.part.Statement.{statement}
-use Rattle.meanings.proofs.part.Tie as tie
+use Rattle.commands.proofs.parts.part.Statement.{statement}
+use Rattle.commands.proofs.parts.part.Tie as tie
 
 sub-result : tie.Need-sub-result
 sub-result c = search needs
