@@ -32,8 +32,8 @@ that is not the one due is shown, with its input made shorter.
     --inputs N     how many random inputs (1000)
     --seconds T    the time that one run may take (10)
 
-Judged are the bytes on standard output, and that no signal ended the program and it was in time. Document 01 names no exit status:
-none is wrong. Status of this test: 0 no difference, 1 a difference, 2 nothing could be tried.";
+Judged are the bytes on standard output, and that the program ended in time and by no signal. Document 01 names no exit status, so
+any is right. The status of this test: 0 no difference, 1 a difference, 2 nothing could be tried.";
 
 /// What was asked for.
 struct Options {
