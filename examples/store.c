@@ -185,24 +185,21 @@ static bool load(const char *file)
 static uint8_t *read_file(const char *name, size_t *length)
 {
     uint8_t *bytes = NULL;
-    size_t room = 0;
     int from = open(name, O_RDONLY);
-    ssize_t more = from < 0 ? -1 : 1;
-    for (*length = 0; more > 0; *length += (size_t)more) {
-        if (*length == room) {
-            room = 2 * room + 4096;
-            uint8_t *larger = (uint8_t *)realloc(bytes, room);
-            if (larger == NULL)
-                break;
-            bytes = larger;
-        }
-        more = read_all(from, bytes + *length, room - *length);
+    *length = 0;
+    for (size_t room = 4096; from >= 0; room *= 2) {
+        uint8_t *larger = (uint8_t *)realloc(bytes, room);
+        if (larger == NULL)
+            break;
+        bytes = larger;
+        ssize_t more = read_all(from, bytes + *length, room - *length);
         if (more < 0)
             break;
-    }
-    if (more == 0) {
-        close(from);
-        return bytes;
+        *length += (size_t)more;
+        if (*length < room) { /* the file has no more */
+            close(from);
+            return bytes;
+        }
     }
     wrong(name, strerror(errno));
     free(bytes);
@@ -269,7 +266,8 @@ static bool run(const char *file, char *const *lines)
     if (answers == NULL)
         return wrong("answers", strerror(errno));
     bool good = carry_out(lines, answers, &changed);
-    if (fclose(answers) != 0)
+    bool lost = ferror(answers) != 0;
+    if (fclose(answers) != 0 || lost)
         good = wrong("answers", strerror(errno));
     else if (changed && !save(file, directory))
         good = false;
@@ -304,7 +302,7 @@ int main(int argc, char **argv)
         fputs(usage, stderr);
         return 2;
     }
-    if (fflush(stdout) != 0)
+    if (fflush(stdout) != 0 || ferror(stdout))
         good = wrong("standard output", strerror(errno));
     return good ? 0 : 1;
 }
