@@ -48,7 +48,7 @@ use Rattle.edits.specs.EditLaws.{spot-bound, put-law, place-law}
 use Rattle.node_fields.specs.FieldEditLaws.{tag-law}
 use Rattle.copying.specs.CopyRowLaws.{row-held}
 use Rattle.copying.specs.CopyBytesLaws.{bytes-copied}
-use Rattle.machine.specs.Machine.{tagged}
+use Rattle.machine.specs.Working.{tagged}
 use Rattle.machine.specs.StoreMachine.{entry-node}
 use Rattle.machine.specs.EntryRangeLaws.{entry-fits}
 use Rattle.entries.specs.LinkLaws.{at-node}

@@ -26,7 +26,7 @@ use Rattle.edits.specs.declared.Fresh.{Fresh}
 use Rattle.gaps.specs.GapsLaws.{Standing}
 use Rattle.shell.specs.declared.Answer.{Answer}
 use Rattle.shell.specs.CommandBytes.{Follows-silently}
-use Rattle.machine.specs.Machine.{tagged}
+use Rattle.machine.specs.Working.{tagged}
 use Rattle.machine.specs.StoreMachine.{entry-mode, entry-node}
 use Rattle.entries.specs.EntrySteps.{judged-walk, changing}
 

@@ -18,7 +18,7 @@ use Rattle.tree.specs.Walk.{by-modes, walk}
 use Rattle.tree.specs.WellFormed.{last-revision}
 use Rattle.tree.specs.RowPlaces.{index-of}
 use Rattle.tree.specs.TreeBytes.{At}
-use Rattle.machine.specs.Machine.{tagged}
+use Rattle.machine.specs.Working.{tagged}
 use Rattle.machine.specs.StoreMachine.{next-node}
 use Rattle.entries.specs.declared.Links.{Links}
 use Rattle.entries.specs.declared.Links.the-variants.{To, Refused}

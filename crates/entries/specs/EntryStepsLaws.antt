@@ -25,7 +25,8 @@ use Rattle.tree.specs.UpdateLaws.{by-option}
 use Rattle.tree.specs.WellFormed.{last-revision}
 use Rattle.walks.specs.WalkBytesLaws.{by-result}
 use Rattle.store.specs.State.{Store}
-use Rattle.machine.specs.Machine.{Working, session, working-file, original, run-commit, run-up, run-del}
+use Rattle.machine.specs.Working.{Working}
+use Rattle.machine.specs.Machine.{session, working-file, original, run-commit, run-up, run-del}
 use Rattle.machine.specs.StoreMachine.{store}
 use Rattle.machine.specs.Acting.{Acting, on-tree-steps}
 use Rattle.entries.specs.LinkLaws.{link-on-missing, link-on-done, link-on-refused}

@@ -52,7 +52,7 @@ use Rattle.walks.specs.declared.Walked.the-variants
 use Rattle.walks.specs.RowWalk.{Spot, spot, outcome}
 use Rattle.walks.specs.WalkBytes.{spot-of, Came, spot-from}
 use Rattle.walks.specs.WalkBytesLaws.{came-to, came-not, came-spot}
-use Rattle.machine.specs.Machine.{tagged}
+use Rattle.machine.specs.Working.{tagged}
 use Rattle.machine.specs.StoreMachine.{next-node}
 use Rattle.entries.specs.declared.Links.{Links}
 use Rattle.entries.specs.declared.Links.the-variants.{To, Refused}

@@ -32,7 +32,7 @@ use Rattle.shell.specs.Replies.{reply, after}
 use Rattle.store.specs.State.{Sessions}
 use Rattle.store.specs.Initial.{initial-tree, no-sessions}
 use Rattle.store.specs.Callers.{caller, granted}
-use Rattle.machine.specs.Machine.{Working, tagged}
+use Rattle.machine.specs.Working.{Working, tagged}
 use Rattle.machine.specs.Runs.{Call, least-room, Ran}
 
 pub record Entry : Type 0 where

@@ -39,7 +39,8 @@ use Rattle.shell.specs.Steps.{run-shell}
 use Rattle.store.specs.State.{Store}
 use Rattle.store.specs.Initial.{directory-of, rep-node}
 use Rattle.store.specs.Callers.{caller}
-use Rattle.machine.specs.Machine.{Working, tagged, run-login, run-logout, session, run-add, run-co, working-file, original, run-commit, run-up, run-del, run-account, run-entry, run}
+use Rattle.machine.specs.Working.{Working, tagged}
+use Rattle.machine.specs.Machine.{run-login, run-logout, session, run-add, run-co, working-file, original, run-commit, run-up, run-del, run-account, run-entry, run}
 use Rattle.machine.specs.StoreMachine.{entry-mode, entry-node, next-node, store}
 use Rattle.machine.specs.AbstractMachine.{Entry, Abstract, Filed, top, an-entry, filed-kind, filed-readable, by-dominance, filed-revision, next-entry}
 use Rattle.machine.specs.AbstractInstance.{abstract}

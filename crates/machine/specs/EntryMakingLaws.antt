@@ -29,7 +29,8 @@ use Rattle.tree.specs.HoldsLaws.{put-leaf-none, drop-still-none}
 use Rattle.shell.specs.Steps.{run-shell}
 use Rattle.store.specs.State.{Store}
 use Rattle.store.specs.Callers.{caller}
-use Rattle.machine.specs.Machine.{tagged, run-login, run-logout, session, run-add, run-co, working-file, original, run-commit, run-up, run-del, run-account, run-entry, run}
+use Rattle.machine.specs.Working.{tagged}
+use Rattle.machine.specs.Machine.{run-login, run-logout, session, run-add, run-co, working-file, original, run-commit, run-up, run-del, run-account, run-entry, run}
 use Rattle.machine.specs.StoreMachine.{store}
 use Rattle.machine.specs.AbstractMachine.{Abstract, Filed, an-entry, dominated, by-dominance, new-entry}
 use Rattle.machine.specs.AbstractInstance.{abstract}

@@ -36,7 +36,8 @@ use Rattle.tree.specs.HoldsLaws.{place-map, place-inside, place-outside}
 use Rattle.store.specs.State.{Store, state-of}
 use Rattle.store.specs.StateLaws.{parts}
 use Rattle.store.specs.Callers.{caller}
-use Rattle.machine.specs.Machine.{tagged, session, run}
+use Rattle.machine.specs.Working.{tagged}
+use Rattle.machine.specs.Machine.{session, run}
 use Rattle.machine.specs.StoreMachine.{store}
 use Rattle.machine.specs.AbstractMachine.{Abstract, Filed, top, an-entry, dominated, filed-writable, by-dominance, new-entry, next-entry}
 use Rattle.machine.specs.AbstractInstance.{abstract}

@@ -1,3 +1,4 @@
+pub mod Working
 pub mod Machine
 pub mod StoreMachine
 pub mod AbstractMachine

@@ -28,6 +28,7 @@ use Rattle.copying.specs.Copying.{Source, copy}
 use Rattle.shell.specs.Steps.{fit, run-shell}
 use Rattle.store.specs.State.{Sessions}
 use Rattle.store.specs.Callers.{granted}
+use Rattle.machine.specs.Working.{Working, tagged}
 
 -- A machine with states S and A for what an account meets in its repository.
 pub record Machine (S A : Type 0) : Type 0 where
@@ -53,15 +54,6 @@ pub record Machine (S A : Type 0) : Type 0 where
 -- what copies are made of, as a judge sees it
 abbrev pub source : {S A : Type 0} → Machine S A → Judge A → Source A
 source M j = record { kind = j .kind; readable = j .readable; revision = M .revision; content = M .content }
-
--- a working file and its tag
-pub record Working : Type 0 where
-  pub node : Node
-  pub tag : Tag
-
--- the tag (e, revision) put on what stands at w
-abbrev pub tagged : Path → Entry-path → ℕ → Place Node → Place Node
-tagged w e revision = update w (alter (set-tag (record { path = e; revision = revision })))
 
 -- One command of the caller c on the state s. The account is that of the session's role.
 module _ {S A : Type 0} (M : Machine S A) (setup : Setup) (s : S) (c : Caller) where

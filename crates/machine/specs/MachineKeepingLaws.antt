@@ -52,7 +52,8 @@ use Rattle.store.specs.InitialLaws.{initial-well-formed}
 use Rattle.store.specs.StoreBytes.{encode, decode}
 use Rattle.store.specs.StoreBytesLaws.{decode-encode}
 use Rattle.store.specs.Callers.{caller}
-use Rattle.machine.specs.Machine.{source, Working, run-login, run-logout, run-add, run-co, working-file, original, run-commit, run-up, run-del, run-account, run-entry, run}
+use Rattle.machine.specs.Working.{Working}
+use Rattle.machine.specs.Machine.{source, run-login, run-logout, run-add, run-co, working-file, original, run-commit, run-up, run-del, run-account, run-entry, run}
 use Rattle.machine.specs.StoreMachine.{entry-node, next-node, store}
 use Rattle.machine.specs.Runs.{Call, perform, step, runs}
 use Rattle.machine.specs.Observed.{Reached}
