@@ -40,7 +40,7 @@ module _ {b : List ℕ} {u : Setup} {z : Sessions} (h : Heads b u z) where
 
   slot-read : (v : Uid) → v .0 < 16 → person u v ≡ slot-of (take slot-width (drop (slot-width * v .0) b))
   unfolding person setup-of accounts
-  slot-read v l = ap (λ (s : Setup). getD (s .persons) (v .0) none) setup-read ∙ all-from-at 3 slot-of 16 (v .0) b none l
+  slot-read v l = ap (λ (s : Setup). getD (s .persons) (v .0) none) setup-read ∙ all-from-at slot-width slot-of 16 (v .0) b none l
 
   first-of-slot : (v : Uid) → getD (take 3 (drop (3 * v .0) b)) 0 0 ≡ getD b (3 * v .0) 0
   first-of-slot v = byte-there b (3 * v .0) 3 0 (3 * v .0) (omega arith) (omega arith)

@@ -1,5 +1,5 @@
 -- An accepted setup is in range: every line that fits keeps what has been read in range, from a setup of nothing on.
-use mathlib.Core.Path.{_≡_, refl, ap, _∙_}
+use mathlib.Core.Path.{_≡_, refl, sym, ap, _∙_}
 use mathlib.Core.List.{List, [], _∷_}
 use mathlib.Core.Option.{Option, none, some}
 use mathlib.Core.Bool.{Bool, true, false, _&&_, _||_, not}
@@ -19,9 +19,9 @@ use Rattle.accounts.specs.declared.Uid.{Uid}
 use Rattle.accounts.specs.declared.Gid.{Gid}
 use Rattle.accounts.specs.declared.Role.{Role}
 use Rattle.accounts.specs.declared.Pair.{Pair}
-use Rattle.accounts.specs.Groups.{no-groups, with-group}
+use Rattle.accounts.specs.Groups.{no-groups, no-groups-is, with-group-is}
 use Rattle.accounts.specs.Access.{is-root}
-use Rattle.accounts.specs.Dominance.{falls, all-fall}
+use Rattle.accounts.specs.Dominance.{falls, all-fall, all-fall-every}
 use Rattle.syntax.specs.Pieces.{bytes, comma, newline, pieces}
 use Rattle.syntax.specs.Form.{_>>=_, _>>_, check, is-some}
 use Rattle.syntax.specs.FormLaws.{no-answer, both-read, checked, answered, both, Answers-pass, two-gives, three-gives, Forms-give, no-form, _also_, by-form-gives}
@@ -197,15 +197,15 @@ grant-ranges g s h l r =
 
 -- a person with the primary group alone, and with one group more
 pub new-person : (g : Gid) → one-to-15 (g .0) ≡ true → is-person (record { primary = g; further = no-groups }) ≡ true
-unfolding is-person no-groups one-to-15
-new-person g h = rw h
+unfolding is-person one-to-15
+new-person g h = rw (no-groups-is, h)
 
 power-even : (n : ℕ) → 1 ≤ n → 2 ^ n % 2 ≡ 0
 power-even zero h = omega arith
 power-even (suc n) h = omega (arith, pow-suc 2 n)
 
 pub joining-person : (g : Gid) (p : Person) → one-to-15 (g .0) ≡ true → is-person p ≡ true → is-person (joining g p) ≡ true
-unfolding is-person joining with-group one-to-15
+unfolding is-person joining one-to-15
 joining-person g p h k =
     let bits : ℕ = p .further .0 in
     let i : _ = and-both (leb 1 (p .primary .0) && leb (p .primary .0) 15) _ k in
@@ -213,9 +213,10 @@ joining-person g p h k =
     let l : _ = and-both (leb 1 (g .0)) (leb (g .0) 15) h in
     let small : 2 ^ g .0 < 65536 = pow-lt {j = 16} (omega (arith, leb-true (g .0) 15 (l .1))) in
     let even : 2 ^ g .0 % 2 ≡ 0 = power-even (g .0) (leb-true 1 (g .0) (l .0)) in
-    both (i .0)
+    rw (with-group-is g (p .further))
+    (both (i .0)
     (both (lt-ltb (bitOr bits (2 ^ g .0)) 65536 (or-lt 16 bits (2 ^ g .0) (ltb-true bits 65536 (j .0)) small))
-    (eq-eqb (bitOr bits (2 ^ g .0) % 2) 0 (omega (arith, or-step bits (2 ^ g .0), eqb-true (bits % 2) 0 (j .1), even))))
+    (eq-eqb (bitOr bits (2 ^ g .0) % 2) 0 (omega (arith, or-step bits (2 ^ g .0), eqb-true (bits % 2) 0 (j .1), even)))))
 
 person-found : (s : Setup) (u : Uid) (p : Person) → every is-slot (s .persons) ≡ true → person s u ≡ some p → is-person p ≡ true
 unfolding person is-slot
@@ -287,11 +288,12 @@ nothing = refl
 
 -- pairs in range fall
 falling-pairs : (ps : List Pair) → every is-pair ps ≡ true → all-fall ps ≡ true
-unfolding every is-pair all-fall
-falling-pairs [] h = refl
+unfolding every is-pair
+falling-pairs [] h = all-fall-every []
 falling-pairs (p ∷ ps) h =
     let a = and-both (is-pair p) (every is-pair ps) h in
-    rw (and-both (falls p) (ltb (p .junior .0) 8) (a .0) .0) (falling-pairs ps (a .1))
+    all-fall-every (p ∷ ps)
+    ∙ rw (and-both (falls p) (ltb (p .junior .0) 8) (a .0) .0) (sym (all-fall-every ps) ∙ falling-pairs ps (a .1))
 
 -- and so do those of a setup in range
 pub pairs-fall : (u : Setup) → is-setup u ≡ true → all-fall (u .pairs) ≡ true

@@ -11,15 +11,15 @@ use lib.Dec.{eqb, leb, ltb}
 use lib.ListN.{getD, getElem?}
 use lib.Pow.{pow-mono, pow-add}
 use borrow.Author.Tests.{eqb-true, eqb-false, eq-eqb, ltb-true, lt-ltb, ltb-false, leb-true, leb-false, le-leb}
-use Rattle.buffers.specs.Cases.{case, and-both, contra}
+use Rattle.buffers.specs.Cases.{case, and-both}
 use Rattle.buffers.specs.Text.{every}
 use Rattle.accounts.specs.declared.Pair.{Pair}
-use Rattle.accounts.specs.Groups.{member}
-use Rattle.accounts.specs.Access.{is-root}
-use Rattle.accounts.specs.Dominance.{falls}
+use Rattle.accounts.specs.Groups.{member-is}
+use Rattle.accounts.specs.Access.{is-root, is-root-is}
+use Rattle.accounts.specs.Dominance.{falls, falls-is}
 use Rattle.syntax.specs.Path.{is-name}
 use Rattle.syntax.specs.Form.{is-some}
-use Rattle.syntax.specs.FormLaws.{no-answer, answered, both, the-some}
+use Rattle.syntax.specs.FormLaws.{no-answer, is-none, answered, both, the-some}
 use Rattle.setup.specs.Setup.{Person, Grant, Setup, person, is-person, is-slot, is-pair, is-grant, is-setup}
 use Rattle.setup.specs.SetupLaws.{apart, together}
 use Rattle.setup.specs.SoundSetup.{Sound-person, Sound-pair, Sound-grant, Sound-setup}
@@ -58,7 +58,7 @@ bits-few n h = (
 -- ---- persons
 
 sound-person : (p : Person) → is-person p ≡ true → Sound-person p
-unfolding is-person member
+unfolding is-person
 sound-person p h =
     let i = and-both (leb 1 (p .primary .0) && leb (p .primary .0) 15) (ltb (p .further .0) 65536 && eqb (p .further .0 % 2) 0) h in
     let j = and-both (leb 1 (p .primary .0)) (leb (p .primary .0) 15) (i .0) in
@@ -66,15 +66,15 @@ sound-person p h =
     record {
       primary = record { from = leb-true 1 (p .primary .0) (j .0); to = leb-true (p .primary .0) 15 (j .1) };
       further = λ g m.
-          let r = bit-range (p .further .0) (g .0) (ltb-true (p .further .0) 65536 (k .0)) (eqb-true (p .further .0 % 2) 0 (k .1)) (eqb-true (p .further .0 / 2 ^ g .0 % 2) 1 m) in
+          let r = bit-range (p .further .0) (g .0) (ltb-true (p .further .0) 65536 (k .0)) (eqb-true (p .further .0 % 2) 0 (k .1)) (eqb-true (p .further .0 / 2 ^ g .0 % 2) 1 (sym (member-is g (p .further)) ∙ m)) in
           record { from = r .0; to = r .1 };
     }
 
 is-person-of : (p : Person) → Sound-person p → is-person p ≡ true
-unfolding is-person member
+unfolding is-person
 is-person-of p v =
     let n = p .further .0 in
-    let r = bits-few n (λ k b. let w = v .further (record { 0 = k }) (eq-eqb (n / 2 ^ k % 2) 1 b) in (w .from, w .to)) in
+    let r = bits-few n (λ k b. let w = v .further (record { 0 = k }) (member-is (record { 0 = k }) (p .further) ∙ eq-eqb (n / 2 ^ k % 2) 1 b) in (w .from, w .to)) in
     both (both (le-leb 1 (p .primary .0) (v .primary .from)) (le-leb (p .primary .0) 15 (v .primary .to)))
     (both (lt-ltb n 65536 (r .0)) (eq-eqb (n % 2) 0 (r .1)))
 
@@ -103,31 +103,25 @@ unfolding every
 of-elements f [] h = refl
 of-elements f (b ∷ l) h = both (h 0 b refl) (of-elements f l (λ i. h (suc i)))
 
-nothing : {A : Type 0} (o : Option A) → is-some o ≡ false → o ≡ none
-unfolding is-some
-nothing none h = refl
-nothing (some a) h = contra refl h
-
 -- ---- pairs and grants
 
 sound-pair : (p : Pair) → is-pair p ≡ true → Sound-pair p
-unfolding is-pair falls
+unfolding is-pair
 sound-pair p h =
-    let i = and-both (ltb (p .senior .0) (p .junior .0)) (ltb (p .junior .0) 8) h in
-    record { falls = ltb-true (p .senior .0) (p .junior .0) (i .0); roles = omega (arith, ltb-true (p .junior .0) 8 (i .1)) }
+    let i = and-both (falls p) (ltb (p .junior .0) 8) h in
+    record { falls = ltb-true (p .senior .0) (p .junior .0) (sym (falls-is p) ∙ i .0); roles = omega (arith, ltb-true (p .junior .0) 8 (i .1)) }
 
 is-pair-of : (p : Pair) → Sound-pair p → is-pair p ≡ true
-unfolding is-pair falls
-is-pair-of p v = both (lt-ltb (p .senior .0) (p .junior .0) (v .falls)) (lt-ltb (p .junior .0) 8 (omega arith))
+unfolding is-pair
+is-pair-of p v = both (falls-is p ∙ lt-ltb (p .senior .0) (p .junior .0) (v .falls)) (lt-ltb (p .junior .0) 8 (omega arith))
 
 named : (s : Setup) (g : Grant) → (is-root (g .uid) || is-some (person s (g .uid))) ≡ true → ((p : Person) × (person s (g .uid) ≡ some p)) ⊎ (g .uid .0 ≡ 0)
-unfolding is-root
-named s g h = case (is-root (g .uid)) (λ t. inr (eqb-true (g .uid .0) 0 t)) (λ f. inl (the-some (person s (g .uid)) (rw f at h)))
+named s g h = case (is-root (g .uid)) (λ t. inr (eqb-true (g .uid .0) 0 (sym (is-root-is (g .uid)) ∙ t))) (λ f. inl (the-some (person s (g .uid)) (rw f at h)))
 
 named-of : (s : Setup) (g : Grant) → ((p : Person) × (person s (g .uid) ≡ some p)) ⊎ (g .uid .0 ≡ 0) → (is-root (g .uid) || is-some (person s (g .uid))) ≡ true
-unfolding is-root is-some
+unfolding is-some
 named-of s g (inl i) = rw (i .1) (case (is-root (g .uid)) (λ t. rw t) (λ f. rw f))
-named-of s g (inr e) = rw (eq-eqb (g .uid .0) 0 e)
+named-of s g (inr e) = rw (is-root-is (g .uid), eq-eqb (g .uid .0) 0 e)
 
 sound-grant : (s : Setup) (g : Grant) → is-grant s g ≡ true → Sound-grant s g
 unfolding is-grant
@@ -149,7 +143,7 @@ setup-is-sound s h =
     let r = apart s h in
     record {
       sixteen-accounts = r .count;
-      root-is-no-person = nothing (getD (s .persons) 0 none) (r .zeroth);
+      root-is-no-person = is-none (getD (s .persons) 0 none) (r .zeroth);
       persons = λ u p e. sound-person p (slot-persons (s .persons) (r .slots) (u .0) p e);
       at-most-28-pairs = r .few-pairs;
       pairs = λ i p e. sound-pair p (element-of is-pair (s .pairs) (r .all-pairs) i p e);

@@ -20,7 +20,7 @@ use Rattle.accounts.specs.declared.Pair.{Pair}
 use Rattle.accounts.specs.PairBytes.{pair-bytes, length-pair as pair-wide}
 use Rattle.setup.specs.Setup.{Person, Grant, Setup, accounts, most-pairs, most-grants, with-pair, with-grant, is-slot, is-pair, is-grant, is-setup}
 use Rattle.setup.specs.SetupLaws.{apart}
-use Rattle.store.specs.HeaderLayout.{spare-width}
+use Rattle.store.specs.HeaderLayout.{spare-width, pairs-offset, pair-width, grants-offset, grant-width, pair-start, grant-start}
 use Rattle.store.specs.Initial.{no-sessions}
 use Rattle.store.specs.StoreBytes.{slot-bytes, session-byte, grant-bytes, header-bytes}
 use Rattle.store.specs.HeaderLaws.{grant-password, part-widths}
@@ -150,33 +150,33 @@ module _ (u : Setup) (h : is-setup u ≡ true) where
       let r = apart u h in
       value-replaced 3 is-slot slot-bytes length-slot (u .persons) v o none _ (r .slots) e (every-getD is-slot (u .persons) v none (r .slots) refl) (omega (arith, r .count))
 
-  long-front : length (slots ++ no-roles) ≡ 64
+  long-front : length (slots ++ no-roles) ≡ pairs-offset
   long-front = length-append slots no-roles ∙ omega (arith, part-widths u h .slots, length-no-roles)
 
   -- a pair behind the others
   pub pair-written : (p : Pair) → length (u .pairs) < 28 →
-      paste (paste (header-bytes u no-sessions) (64 + 1 + 2 * length (u .pairs)) (pair-bytes p) 2) 64 (suc (length (u .pairs)) ∷ []) 1 ≡ header-bytes (with-pair p u) no-sessions
+      paste (paste (header-bytes u no-sessions) (pair-start (length (u .pairs))) (pair-bytes p) pair-width) pairs-offset (suc (length (u .pairs)) ∷ []) 1 ≡ header-bytes (with-pair p u) no-sessions
   unfolding header-bytes with-pair no-roles most-pairs
   pair-written p few =
       let G = table-bytes 10 most-grants grant-bytes (u .grants) ++ replicate spare-width 0 in
       let wide : length (all-bytes pair-bytes (u .pairs)) ≡ 2 * length (u .pairs) =
       length-all-bytes 2 is-pair pair-bytes length-pair (u .pairs) (apart u h .all-pairs) ∙ omega arith in
-      ap (λ (y : List ℕ). paste (paste y (64 + 1 + 2 * length (u .pairs)) (pair-bytes p) 2) 64 (suc (length (u .pairs)) ∷ []) 1) (sym (append-assoc slots no-roles _))
-      ∙ table-grows 2 28 pair-bytes (u .pairs) p (slots ++ no-roles) G 64 long-front wide (pair-wide p) few
+      ap (λ (y : List ℕ). paste (paste y (pair-start (length (u .pairs))) (pair-bytes p) pair-width) pairs-offset (suc (length (u .pairs)) ∷ []) 1) (sym (append-assoc slots no-roles _))
+      ∙ table-grows pair-width 28 pair-bytes (u .pairs) p (slots ++ no-roles) G pairs-offset long-front wide (pair-wide p) few
       ∙ append-assoc slots no-roles _
 
   -- a grant behind the others
   pub grant-written : (g : Grant) → length (g .password) ≤ 8 → length (u .grants) < 32 →
-      paste (paste (header-bytes u no-sessions) (121 + 1 + 10 * length (u .grants)) (grant-bytes g) 10) 121 (suc (length (u .grants)) ∷ []) 1 ≡ header-bytes (with-grant g u) no-sessions
+      paste (paste (header-bytes u no-sessions) (grant-start (length (u .grants))) (grant-bytes g) grant-width) grants-offset (suc (length (u .grants)) ∷ []) 1 ≡ header-bytes (with-grant g u) no-sessions
   unfolding header-bytes with-grant no-roles most-grants
   grant-written g short few =
       let T = table-bytes 2 most-pairs pair-bytes (u .pairs) in
       let F = (slots ++ no-roles) ++ T in
       let n = length (u .grants) in
-      let front : length F ≡ 121 = length-append (slots ++ no-roles) T ∙ omega (arith, long-front, part-widths u h .pairs) in
+      let front : length F ≡ grants-offset = length-append (slots ++ no-roles) T ∙ omega (arith, long-front, part-widths u h .pairs) in
       let wide : length (all-bytes grant-bytes (u .grants)) ≡ 10 * n =
       length-all-bytes 10 (is-grant u) grant-bytes (length-grant u) (u .grants) (apart u h .all-grants) ∙ omega arith in
       let parts : (X : List ℕ) → F ++ X ≡ slots ++ (no-roles ++ (T ++ X)) = λ X. append-assoc (slots ++ no-roles) T X ∙ append-assoc slots no-roles (T ++ X) in
-      ap (λ (y : List ℕ). paste (paste y (121 + 1 + 10 * n) (grant-bytes g) 10) 121 (suc n ∷ []) 1) (sym (parts _))
-      ∙ table-grows 10 32 grant-bytes (u .grants) g F (replicate spare-width 0) 121 front wide (grant-width-of g short) few
+      ap (λ (y : List ℕ). paste (paste y (grant-start n) (grant-bytes g) grant-width) grants-offset (suc n ∷ []) 1) (sym (parts _))
+      ∙ table-grows grant-width 32 grant-bytes (u .grants) g F (replicate spare-width 0) grants-offset front wide (grant-width-of g short) few
       ∙ parts _

@@ -41,7 +41,7 @@ use Rattle.setup.specs.Setup.{Person, Grant, Setup, Reading, accounts, most-pai
 use Rattle.setup.specs.SetupLaws.{one-to-15, new-person as newly-named, joining-person, apart, l-name}
 use Rattle.setup.specs.SetupStep.{Line-answer, leads-on, ends-it, is-wrong, fitting, setup-step}
 use Rattle.store.specs.declared.Person.{Person as Slot}
-use Rattle.store.specs.HeaderLayout.{Wide-header}
+use Rattle.store.specs.HeaderLayout.{Wide-header, slot-width, pairs-offset, pair-width, grants-offset, grant-width, pair-start, grant-start}
 use Rattle.store.specs.InitialRows.{slot-value}
 use Rattle.store.specs.Initial.{no-sessions}
 use Rattle.store.specs.StoreBytes.{slot-bytes, slot-of, grant-bytes, grant-of, header-bytes, setup-of}
@@ -128,37 +128,37 @@ module _ (b : List ℕ) (w : Begun b) where
   pub begun-wide : Wide-header b
   begun-wide = ap length (sym (w .whole)) ∙ setup-header-wide (setup-of b) (w .in-range)
 
-  slot-read : (v : Uid) → v .0 < 16 → person (setup-of b) v ≡ slot-of (take 3 (drop (3 * v .0) b))
+  slot-read : (v : Uid) → v .0 < 16 → person (setup-of b) v ≡ slot-of (take slot-width (drop (slot-width * v .0) b))
   unfolding person setup-of accounts
-  slot-read v l = all-from-at 3 slot-of 16 (v .0) b none l
+  slot-read v l = all-from-at slot-width slot-of 16 (v .0) b none l
 
-  first-of-slot : (v : Uid) → getD (take 3 (drop (3 * v .0) b)) 0 0 ≡ getD b (3 * v .0) 0
+  first-of-slot : (v : Uid) → getD (take slot-width (drop (slot-width * v .0) b)) 0 0 ≡ getD b (slot-width * v .0) 0
   first-of-slot v = byte-there b (3 * v .0) 3 0 (3 * v .0) (omega arith) (omega arith)
 
   -- 0 is no person's
-  pub slot-empty : (v : Uid) → v .0 < 16 → getD b (3 * v .0) 0 ≡ 0 → person (setup-of b) v ≡ none
+  pub slot-empty : (v : Uid) → v .0 < 16 → getD b (slot-width * v .0) 0 ≡ 0 → person (setup-of b) v ≡ none
   unfolding slot-of
-  slot-empty v l e = slot-read v l ∙ rw (eq-eqb (getD (take 3 (drop (3 * v .0) b)) 0 0) 0 (first-of-slot v ∙ e))
+  slot-empty v l e = slot-read v l ∙ rw (eq-eqb (getD (take slot-width (drop (slot-width * v .0) b)) 0 0) 0 (first-of-slot v ∙ e))
 
   -- any other is a person's
-  pub slot-filled : (v : Uid) → v .0 < 16 → (getD b (3 * v .0) 0 ≡ 0 → ⊥)
-      → person (setup-of b) v ≡ some (record { primary = record { 0 = getD b (3 * v .0) 0 }; further = record { 0 = number-at (3 * v .0 + 1) b } })
+  pub slot-filled : (v : Uid) → v .0 < 16 → (getD b (slot-width * v .0) 0 ≡ 0 → ⊥)
+      → person (setup-of b) v ≡ some (record { primary = record { 0 = getD b (slot-width * v .0) 0 }; further = record { 0 = number-at (3 * v .0 + 1) b } })
   unfolding slot-of
   slot-filled v l e =
       let f = first-of-slot v in
       let g = number-there b (3 * v .0) 3 1 (3 * v .0 + 1) (omega arith) (omega arith) in
       slot-read v l
-      ∙ rw (ne-eqb (getD (take 3 (drop (3 * v .0) b)) 0 0) 0 (λ q. e (sym f ∙ q)))
+      ∙ rw (ne-eqb (getD (take slot-width (drop (slot-width * v .0) b)) 0 0) 0 (λ q. e (sym f ∙ q)))
       (λ j. some (record { primary = record { 0 = f j }; further = record { 0 = g j } }))
 
   -- how many pairs and grants there are
-  pub pairs-counted : getD b 64 0 ≡ length (setup-of b .pairs)
+  pub pairs-counted : getD b pairs-offset 0 ≡ length (setup-of b .pairs)
   unfolding setup-of
-  pairs-counted = table-count 2 pair-of b 64
+  pairs-counted = table-count pair-width pair-of b pairs-offset
 
-  pub grants-counted : getD b 121 0 ≡ length (setup-of b .grants)
+  pub grants-counted : getD b grants-offset 0 ≡ length (setup-of b .grants)
   unfolding setup-of
-  grants-counted = table-count 10 grant-of b 121
+  grants-counted = table-count grant-width grant-of b grants-offset
 
   -- a wrong line leaves it
   pub wrong-done : {m : Option Reading} → m ≡ none → read-as Wrong b ≡ after-line b (fitting m)
@@ -178,28 +178,28 @@ module _ (b : List ℕ) (w : Begun b) where
       fits-done k (with-person v p (setup-of b)) b′ e
       (h ∙ ap (λ (y : List ℕ). paste y (3 * v .0) (slot-bytes (some p)) 3) (sym (w .whole)) ∙ slot-written (setup-of b) (w .in-range) (v .0) (some p) l i)
 
-  pub pair-done : {m : Option Reading} (p : Pair) (c b′ : List ℕ) → getD b 64 0 < 28 →
-      m ≡ some (record { kind = 2; so-far = with-pair p (setup-of b) }) → length c ≡ length b → c ≡ paste b (65 + 2 * getD b 64 0) (pair-bytes p) 2 → b′ ≡ set c 64 (getD b 64 0 + 1) →
+  pub pair-done : {m : Option Reading} (p : Pair) (c b′ : List ℕ) → getD b pairs-offset 0 < 28 →
+      m ≡ some (record { kind = 2; so-far = with-pair p (setup-of b) }) → length c ≡ length b → c ≡ paste b (pair-start (getD b pairs-offset 0)) (pair-bytes p) pair-width → b′ ≡ set c pairs-offset (getD b pairs-offset 0 + 1) →
       read-as (More 2) b′ ≡ after-line b (fitting m)
   pair-done p c b′ few e long one two =
-      let n = getD b 64 0 in
+      let n = getD b pairs-offset 0 in
       fits-done 2 (with-pair p (setup-of b)) b′ e
       (two
-      ∙ set-paste c 64 (n + 1) (omega (arith, long, begun-wide))
-      ∙ ap₂ (λ (x : List ℕ) (j : ℕ). paste x 64 (j ∷ []) 1) one (add-one n)
-      ∙ ap₂ (λ (x : List ℕ) (j : ℕ). paste (paste x (65 + 2 * j) (pair-bytes p) 2) 64 (suc j ∷ []) 1) (sym (w .whole)) pairs-counted
+      ∙ set-paste c pairs-offset (n + 1) (omega (arith, long, begun-wide))
+      ∙ ap₂ (λ (x : List ℕ) (j : ℕ). paste x pairs-offset (j ∷ []) 1) one (add-one n)
+      ∙ ap₂ (λ (x : List ℕ) (j : ℕ). paste (paste x (pair-start j) (pair-bytes p) pair-width) pairs-offset (suc j ∷ []) 1) (sym (w .whole)) pairs-counted
       ∙ pair-written (setup-of b) (w .in-range) p (omega (arith, few, pairs-counted)))
 
-  pub grant-done : {m : Option Reading} (g : Grant) (c b′ : List ℕ) → length (g .password) ≤ 8 → getD b 121 0 < 32 →
-      m ≡ some (record { kind = 3; so-far = with-grant g (setup-of b) }) → length c ≡ length b → c ≡ paste b (122 + 10 * getD b 121 0) (grant-bytes g) 10 → b′ ≡ set c 121 (getD b 121 0 + 1) →
+  pub grant-done : {m : Option Reading} (g : Grant) (c b′ : List ℕ) → length (g .password) ≤ 8 → getD b grants-offset 0 < 32 →
+      m ≡ some (record { kind = 3; so-far = with-grant g (setup-of b) }) → length c ≡ length b → c ≡ paste b (grant-start (getD b grants-offset 0)) (grant-bytes g) grant-width → b′ ≡ set c grants-offset (getD b grants-offset 0 + 1) →
       read-as (More 3) b′ ≡ after-line b (fitting m)
   grant-done g c b′ short few e long one two =
-      let n = getD b 121 0 in
+      let n = getD b grants-offset 0 in
       fits-done 3 (with-grant g (setup-of b)) b′ e
       (two
-      ∙ set-paste c 121 (n + 1) (omega (arith, long, begun-wide))
-      ∙ ap₂ (λ (x : List ℕ) (j : ℕ). paste x 121 (j ∷ []) 1) one (add-one n)
-      ∙ ap₂ (λ (x : List ℕ) (j : ℕ). paste (paste x (122 + 10 * j) (grant-bytes g) 10) 121 (suc j ∷ []) 1) (sym (w .whole)) grants-counted
+      ∙ set-paste c grants-offset (n + 1) (omega (arith, long, begun-wide))
+      ∙ ap₂ (λ (x : List ℕ) (j : ℕ). paste x grants-offset (j ∷ []) 1) one (add-one n)
+      ∙ ap₂ (λ (x : List ℕ) (j : ℕ). paste (paste x (grant-start j) (grant-bytes g) grant-width) grants-offset (suc j ∷ []) 1) (sym (w .whole)) grants-counted
       ∙ grant-written (setup-of b) (w .in-range) g short (omega (arith, few, grants-counted)))
 
 -- ---- slots as they are written

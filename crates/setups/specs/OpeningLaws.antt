@@ -19,7 +19,7 @@ use Rattle.setup.specs.SetupStep.{Line-answer, leads-on, ends-it, setup-step}
 use Rattle.setup.specs.SetupStepLaws.{step-keeps}
 use Rattle.tree.specs.Encoding.{encode-tree}
 use Rattle.store.specs.declared.Person.{Person as Slot}
-use Rattle.store.specs.HeaderLayout.{header-width}
+use Rattle.store.specs.HeaderLayout.{header-width, slot-width}
 use Rattle.store.specs.Initial.{no-sessions, initial-tree, initial-store}
 use Rattle.store.specs.InitialRows.{slot-value}
 use Rattle.store.specs.StoreBytes.{store-width, slot-of, header-bytes, setup-of, encode}
@@ -33,7 +33,7 @@ use Rattle.setups.specs.LineReadLaws.{header-begun, more-led, end-ended,
 -- ---- the slots
 
 -- a slot's value by its bytes
-pub slot-is : (b : List ℕ) (k : ℕ) (p : Slot) → p .primary .0 ≡ getD b (3 * k) 0 → p .further .0 ≡ number-at (3 * k + 1) b → slot-value p ≡ slot-of (take 3 (drop (3 * k) b))
+pub slot-is : (b : List ℕ) (k : ℕ) (p : Slot) → p .primary .0 ≡ getD b (3 * k) 0 → p .further .0 ≡ number-at (3 * k + 1) b → slot-value p ≡ slot-of (take slot-width (drop (slot-width * k) b))
 unfolding slot-value slot-of
 slot-is b k p e f =
     let x = byte-there b (3 * k) 3 0 (3 * k) (omega arith) (omega arith) in
@@ -58,7 +58,7 @@ pub no-slots : (b : List ℕ) (persons : List Slot) → length persons ≡ 16 �
 unfolding all-from
 no-slots b persons l = record { le = omega arith; sixteen = l; so-far = refl }
 
-pub one-slot-more : (b : List ℕ) (persons : List Slot) (k : ℕ) (p : Slot) → Slots-read b persons k → k < 16 → slot-value p ≡ slot-of (take 3 (drop (3 * k) b)) → Slots-read b (set persons k p) (k + 1)
+pub one-slot-more : (b : List ℕ) (persons : List Slot) (k : ℕ) (p : Slot) → Slots-read b persons k → k < 16 → slot-value p ≡ slot-of (take slot-width (drop (slot-width * k) b)) → Slots-read b (set persons k p) (k + 1)
 one-slot-more b persons k p r h e = record {
   le = omega arith;
   sixteen = length-set persons k p ∙ r .sixteen;

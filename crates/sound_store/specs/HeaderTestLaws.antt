@@ -27,7 +27,7 @@ use Rattle.syntax.specs.Field.{bounded, bounded-by}
 use Rattle.setup.specs.Setup.{Setup, accounts, most-pairs, most-grants, person, is-person, is-slot, is-pair, is-grant, is-setup}
 use Rattle.soundness.specs.RowTestLaws.{length-text-at, same-filled, same-zeros-at}
 use Rattle.store.specs.StoreBytes.{slot-bytes, slot-of, session-byte, session-of, grant-bytes, grant-of, header-bytes, setup-of, sessions-of, is-header}
-use Rattle.store.specs.HeaderLayout.{pair-start, grant-start, grants-offset, spare-offset, spare-width, sessions-offset, pairs-offset, Wide-header, pair-width, grant-width}
+use Rattle.store.specs.HeaderLayout.{pair-start, grant-start, grants-offset, spare-offset, spare-width, sessions-offset, pairs-offset, Wide-header, pair-width, grant-width, slot-width}
 use Rattle.sound_store.specs.HeaderTests.{passes-from, slot-start, is-slot-at, has-slots, is-session-at, has-sessions, is-pair-at, has-pairs, named-at, is-password-at, is-grant-at, has-grants, header-test}
 use Rattle.sound_store.specs.PassesLaws.{passes-both, passes-same, stretch, opened, all-pass, all-same, table-values, table-same}
 
@@ -139,7 +139,7 @@ parts-shuffled true true true true true true true true true true true true zu = 
 -- ---- the parts
 
 module _ (b : List ℕ) (wide : Wide-header b) (small : (k : ℕ) → getD b k 0 < 256) where
-  slot-is : (k : ℕ) → k < 16 → let s = stretch 3 0 b k in (is-slot (slot-of s) && same-text (slot-bytes (slot-of s)) s) ≡ is-slot-at b k
+  slot-is : (k : ℕ) → k < 16 → let s = stretch slot-width 0 b k in (is-slot (slot-of s) && same-text (slot-bytes (slot-of s)) s) ≡ is-slot-at b k
   unfolding is-slot-at zeros-at
   slot-is k h =
       let i = 3 * k in
@@ -164,11 +164,11 @@ module _ (b : List ℕ) (wide : Wide-header b) (small : (k : ℕ) → getD b k 0
   unfolding person setup-of accounts
   named-is v = case (leb v 15)
       (λ t.
-      let at : getD (all-from 3 slot-of 16 b) v none ≡ slot-of (take 3 (drop (3 * v) b)) = all-from-at 3 slot-of 16 v b none (omega (arith, leb-true v 15 t)) in
-      let first : getD (take 3 (drop (3 * v) b)) 0 0 ≡ getD b (3 * v) 0 =
+      let at : getD (all-from slot-width slot-of 16 b) v none ≡ slot-of (take slot-width (drop (slot-width * v) b)) = all-from-at slot-width slot-of 16 v b none (omega (arith, leb-true v 15 t)) in
+      let first : getD (take slot-width (drop (slot-width * v) b)) 0 0 ≡ getD b (3 * v) 0 =
       byte-there b (3 * v) 3 0 (3 * v) (omega arith) (add-zero (3 * v)) in
-      rw (at, t) (some-slot (take 3 (drop (3 * v) b)) ∙ rw first))
-      (λ t. rw (List·getD-eq-default (all-from 3 slot-of 16 b) none {n = v} (omega (arith, length-all-from 3 slot-of 16 b, leb-false v 15 t)), t) (unfold is-some in refl))
+      rw (at, t) (some-slot (take slot-width (drop (slot-width * v) b)) ∙ rw first))
+      (λ t. rw (List·getD-eq-default (all-from slot-width slot-of 16 b) none {n = v} (omega (arith, length-all-from slot-width slot-of 16 b, leb-false v 15 t)), t) (unfold is-some in refl))
 
   grant-is : (k : ℕ) → k < 32 → let s = stretch grant-width (grants-offset + 1) b k in (is-grant (setup-of b) (grant-of s) && same-text (grant-bytes (grant-of s)) s) ≡ is-grant-at b k
   unfolding is-grant-at is-password-at named-at
@@ -183,7 +183,7 @@ module _ (b : List ℕ) (wide : Wide-header b) (small : (k : ℕ) → getD b k 0
   -- ---- the parts, tested and written as they are read
 
   abbrev slots-same : Bool
-  slots-same = passes-from (λ k. same-text (slot-bytes (slot-of (stretch 3 0 b k))) (stretch 3 0 b k)) 0 16
+  slots-same = passes-from (λ k. same-text (slot-bytes (slot-of (stretch slot-width 0 b k))) (stretch slot-width 0 b k)) 0 16
 
   abbrev sessions-same : Bool
   sessions-same = passes-from (λ k. same-text (session-byte (session-of (getD (stretch 1 sessions-offset b k) 0 0)) ∷ []) (stretch 1 sessions-offset b k)) 0 16
@@ -205,9 +205,9 @@ module _ (b : List ℕ) (wide : Wide-header b) (small : (k : ℕ) → getD b k 0
   slots-are : (every is-slot (u .persons) && slots-same) ≡ passes-from (is-slot-at b) 0 16
   unfolding setup-of accounts
   slots-are =
-      let P : ℕ → Bool = λ k. is-slot (slot-of (stretch 3 0 b k)) in
-      let T : ℕ → Bool = λ k. same-text (slot-bytes (slot-of (stretch 3 0 b k))) (stretch 3 0 b k) in
-      ap (λ (t : Bool). t && slots-same) (all-pass 3 0 b slot-of is-slot 16)
+      let P : ℕ → Bool = λ k. is-slot (slot-of (stretch slot-width 0 b k)) in
+      let T : ℕ → Bool = λ k. same-text (slot-bytes (slot-of (stretch slot-width 0 b k))) (stretch slot-width 0 b k) in
+      ap (λ (t : Bool). t && slots-same) (all-pass slot-width 0 b slot-of is-slot 16)
       ∙ passes-both P T 0 16
       ∙ passes-same (λ k. P k && T k) (is-slot-at b) 0 16 (λ k h. slot-is k (omega arith))
 
@@ -250,16 +250,16 @@ module _ (b : List ℕ) (wide : Wide-header b) (small : (k : ℕ) → getD b k 0
       && ((leb (getD b pairs-offset 0) 28 && every is-pair (u .pairs)) && (leb (getD b grants-offset 0) 32 && every (is-grant u) (u .grants))))
   unfolding is-setup accounts most-pairs most-grants
   setup-is =
-      let sixteen : length (u .persons) ≡ 16 = unfold setup-of in length-all-from 3 slot-of 16 b in
+      let sixteen : length (u .persons) ≡ 16 = unfold setup-of in length-all-from slot-width slot-of 16 b in
       rw (eq-eqb (length (u .persons)) 16 sixteen, account-0-is, pair-number, grant-number)
 
   -- the bytes of what is read, with a name for the zeros at their end
   header-with : (R : List ℕ) → R ≡ replicate spare-width 0 → header-bytes u (sessions-of b)
-      ≡ all-bytes slot-bytes (all-from 3 slot-of 16 b) ++ (all-bytes (λ z. session-byte z ∷ []) (all-from 1 (λ s. session-of (getD s 0 0)) 16 (drop sessions-offset b))
+      ≡ all-bytes slot-bytes (all-from slot-width slot-of 16 b) ++ (all-bytes (λ z. session-byte z ∷ []) (all-from 1 (λ s. session-of (getD s 0 0)) 16 (drop sessions-offset b))
       ++ (table-bytes 2 28 pair-bytes (table-from 2 pair-of (drop pairs-offset b)) ++ (table-bytes 10 32 grant-bytes (table-from 10 grant-of (drop grants-offset b)) ++ R)))
   unfolding header-bytes setup-of sessions-of accounts most-pairs most-grants
   header-with R e =
-      ap (λ (l : List ℕ). all-bytes slot-bytes (all-from 3 slot-of 16 b) ++ (all-bytes (λ z. session-byte z ∷ []) (all-from 1 (λ s. session-of (getD s 0 0)) 16 (drop sessions-offset b))
+      ap (λ (l : List ℕ). all-bytes slot-bytes (all-from slot-width slot-of 16 b) ++ (all-bytes (λ z. session-byte z ∷ []) (all-from 1 (λ s. session-of (getD s 0 0)) 16 (drop sessions-offset b))
       ++ (table-bytes 2 28 pair-bytes (table-from 2 pair-of (drop pairs-offset b)) ++ (table-bytes 10 32 grant-bytes (table-from 10 grant-of (drop grants-offset b)) ++ l)))) (sym e)
 
   pairs-zero : Bool
@@ -283,7 +283,7 @@ module _ (b : List ℕ) (wide : Wide-header b) (small : (k : ℕ) → getD b k 0
       let grants = table-same 10 32 grants-offset b grant-of (omega arith) grant-bytes grant-long R (spare-offset - grant-start m) spare-offset (omega arith) (omega arith) (omega arith) in
       let pairs = table-same 2 28 pairs-offset b pair-of (omega arith) pair-bytes pair-long G (grants-offset - pair-start n) grants-offset (omega arith) (omega arith) (omega arith) in
       let sessions = all-same 1 sessions-offset b (λ s. session-of (getD s 0 0)) (λ z. session-byte z ∷ []) session-long P 16 pairs-offset refl (omega arith) in
-      let slots = all-same 3 0 b slot-of slot-bytes slot-long Z 16 sessions-offset refl (omega arith) in
+      let slots = all-same slot-width 0 b slot-of slot-bytes slot-long Z 16 sessions-offset refl (omega arith) in
       ap (λ (l : List ℕ). same-text l b) (header-with R e)
       ∙ slots
       ∙ ap (λ (t : Bool). slots-same && t) (sessions
