@@ -5,12 +5,23 @@ use mathlib.Core.List.{List, [], _∷_, _++_, append-assoc}
 use mathlib.Core.Bool.{Bool, true}
 use Prim.Native.Nat.{ℕ, zero, suc, _+_, _-_, _*_, _≤_, _<_}
 use native.Mathlib.Omega.{arith}
-use native.Mathlib.Nat.{zero-mul, suc-mul, mul-zero, mul-suc, add-comm, add-mul, add-sub-of-le}
+use native.Mathlib.Nat.{zero-add, suc-add, zero-mul, suc-mul, mul-zero, mul-suc, add-comm, add-mul, add-sub-of-le}
 use lib.ListN.{length, getD, take, drop, replicate, length-append, length-replicate}
 use lib.Seq.{take-at, drop-at, getD-drop, drop-drop}
 use Rattle.buffers.specs.Cases.{and-both}
 use Rattle.buffers.specs.Text.{every}
 use Rattle.buffers.specs.Fields.{all-bytes, all-from, table-bytes, table-from}
+
+-- zeros and more zeros
+pub zeros-join : (m n : ℕ) → replicate {A = ℕ} (m + n) 0 ≡ replicate m 0 ++ replicate n 0
+zeros-join zero n = ap (λ (k : ℕ). replicate {A = ℕ} k 0) (zero-add n)
+zeros-join (suc m) n = ap (λ (k : ℕ). replicate {A = ℕ} k 0) (suc-add m n) ∙ ap (λ (l : List ℕ). 0 ∷ l) (zeros-join m n)
+
+-- the bytes of values and more values
+pub all-bytes-append : {A : Type 0} (f : A → List ℕ) (k l : List A) → all-bytes f (k ++ l) ≡ all-bytes f k ++ all-bytes f l
+unfolding all-bytes
+all-bytes-append f [] l = refl
+all-bytes-append f (a ∷ k) l = ap (λ (r : List ℕ). f a ++ r) (all-bytes-append f k l) ∙ sym (append-assoc (f a) (all-bytes f k) (all-bytes f l))
 
 -- so many widths and those left over are all of them
 widths : (n most width : ℕ) → n ≤ most → n * width + (most - n) * width ≡ most * width

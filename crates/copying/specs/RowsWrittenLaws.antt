@@ -10,14 +10,13 @@ use borrow.Author.Tests.{eqb-true, eq-eqb}
 use Rattle.buffers.specs.Text.{every}
 use Rattle.buffers.specs.TextLaws.{every-append}
 use Rattle.buffers.specs.Fields.{all-bytes}
-use Rattle.buffers.specs.TableLaws.{length-all-bytes}
+use Rattle.buffers.specs.TableLaws.{all-bytes-append, length-all-bytes}
 use Rattle.buffers.specs.PasteLaws.{paste-join}
 use Rattle.tree.specs.Layout.{row-width, row-start}
 use Rattle.tree.specs.Node.{Node}
 use Rattle.tree.specs.Rows.{Row}
 use Rattle.tree.specs.Encoding.{row-bytes}
 use Rattle.tree.specs.RowAt.{row-at, tag-text-at}
-use Rattle.edits.specs.EncodedRowsLaws.{all-append}
 use Rattle.copying.specs.CopyRows.{row-put, is-wide, Written}
 use Rattle.copying.specs.CopyBytesLaws.{tag-beside, depth-beside}
 
@@ -53,7 +52,7 @@ module _ {o z : List ℕ} {to r : ℕ} {xs : List (Row Node)} (v : Written o to 
       let X = all-bytes row-bytes xs in
       let Y = all-bytes row-bytes ys in
       let l = length-append xs ys in
-      let a = all-append xs ys in
+      let a = all-bytes-append row-bytes xs ys in
       let i : row-start r ≡ row-start to + row-width * length xs = omega (arith, v .next) in
       let s : row-width * length xs + row-width * length ys ≡ row-width * length (xs ++ ys) = omega arith in
       record {

@@ -2,11 +2,11 @@
 -- written into a row change that row alone.
 use mathlib.Core.Path.{_≡_, refl, sym, _∙_, ap}
 use mathlib.Core.List.{List, [], _∷_, _++_, append-assoc}
-use Prim.Native.Nat.{ℕ, zero, suc, _+_, _-_, _*_, _≤_}
+use Prim.Native.Nat.{ℕ, suc, _+_, _-_, _*_, _≤_}
 use native.Mathlib.Omega.{arith}
-use native.Mathlib.Nat.{zero-add, suc-add}
 use lib.ListN.{length, take, drop, replicate, length-append, length-replicate}
 use lib.Seq.{take-at, drop-at}
+use Rattle.buffers.specs.TableLaws.{zeros-join, all-bytes-append}
 use Rattle.buffers.specs.Fields.{two-bytes, all-bytes}
 use Rattle.buffers.specs.FieldsLaws.{length-two-bytes, number-at-bytes}
 use Rattle.buffers.specs.PasteLaws.{paste-piece}
@@ -91,17 +91,6 @@ encode-tree-rows t = refl
 abbrev pub Rows-wide : List (Row Node) → Type 0
 Rows-wide rs = length (all-bytes row-bytes rs) ≡ length rs * row-width
 
--- the bytes of rows one behind the other
-pub all-append : (xs ys : List (Row Node)) → all-bytes row-bytes (xs ++ ys) ≡ all-bytes row-bytes xs ++ all-bytes row-bytes ys
-unfolding all-bytes
-all-append [] ys = refl
-all-append (x ∷ xs) ys =
-    ap (λ (l : List ℕ). row-bytes x ++ l) (all-append xs ys) ∙ sym (append-assoc (row-bytes x) (all-bytes row-bytes xs) (all-bytes row-bytes ys))
-
-pub zeros-join : (m n : ℕ) → replicate {A = ℕ} (m + n) 0 ≡ replicate m 0 ++ replicate n 0
-zeros-join zero n = ap (λ (k : ℕ). replicate {A = ℕ} k 0) (zero-add n)
-zeros-join (suc m) n = ap (λ (k : ℕ). replicate {A = ℕ} k 0) (suc-add m n) ∙ ap (λ (l : List ℕ). 0 ∷ l) (zeros-join m n)
-
 -- the zeros of n rows fewer are those and the zeros of n rows
 zeros-split : (c n : ℕ) → c + n ≤ 256 → replicate {A = ℕ} ((256 - c) * row-width) 0 ≡ replicate (row-width * n) 0 ++ replicate ((256 - (c + n)) * row-width) 0
 zeros-split c n h =
@@ -127,7 +116,7 @@ table-part xs ms ys wx wm =
     let Y = all-bytes row-bytes ys in
     let c = length (xs ++ (ms ++ ys)) in
     let Z : List ℕ = replicate ((256 - c) * row-width) 0 in
-    let a : all-bytes row-bytes (xs ++ (ms ++ ys)) ≡ X ++ (M ++ Y) = all-append xs (ms ++ ys) ∙ ap (λ (l : List ℕ). X ++ l) (all-append ms ys) in
+    let a : all-bytes row-bytes (xs ++ (ms ++ ys)) ≡ X ++ (M ++ Y) = all-bytes-append row-bytes xs (ms ++ ys) ∙ ap (λ (l : List ℕ). X ++ l) (all-bytes-append row-bytes ms ys) in
     let g : (X ++ (M ++ Y)) ++ Z ≡ X ++ (M ++ (Y ++ Z)) = simp append-assoc in
     let is : encode-rows (xs ++ (ms ++ ys)) ≡ two-bytes c ++ (X ++ (M ++ (Y ++ Z))) =
     encoded (xs ++ (ms ++ ys)) c (X ++ (M ++ Y)) refl a ∙ ap (λ (l : List ℕ). two-bytes c ++ l) g in
@@ -149,12 +138,12 @@ table-put xs ns ys Q wx wn wy few =
     let R : List ℕ = replicate ((256 - (c + n)) * row-width) 0 in
     let C = two-bytes c in
     let was : encode-rows (xs ++ ys) ≡ C ++ (X ++ (Y ++ (Z ++ R))) =
-    encoded (xs ++ ys) c (X ++ Y) (length-append xs ys) (all-append xs ys)
+    encoded (xs ++ ys) c (X ++ Y) (length-append xs ys) (all-bytes-append row-bytes xs ys)
     ∙ ap (λ (l : List ℕ). C ++ ((X ++ Y) ++ l)) (zeros-split c n few)
     ∙ ap (λ (l : List ℕ). C ++ l) (append-assoc X Y (Z ++ R)) in
     let lys : length (ns ++ ys) ≡ n + length ys = length-append ns ys in
     let l : length (xs ++ (ns ++ ys)) ≡ c + n = length-append xs (ns ++ ys) ∙ omega arith in
-    let a : all-bytes row-bytes (xs ++ (ns ++ ys)) ≡ X ++ (S ++ Y) = all-append xs (ns ++ ys) ∙ ap (λ (l : List ℕ). X ++ l) (all-append ns ys) in
+    let a : all-bytes row-bytes (xs ++ (ns ++ ys)) ≡ X ++ (S ++ Y) = all-bytes-append row-bytes xs (ns ++ ys) ∙ ap (λ (l : List ℕ). X ++ l) (all-bytes-append row-bytes ns ys) in
     let g : (X ++ (S ++ Y)) ++ R ≡ X ++ (S ++ (Y ++ R)) = simp append-assoc in
     let is : encode-rows (xs ++ (ns ++ ys)) ≡ two-bytes (c + n) ++ (X ++ (S ++ (Y ++ R))) =
     encoded (xs ++ (ns ++ ys)) (c + n) (X ++ (S ++ Y)) l a ∙ ap (λ (l : List ℕ). two-bytes (c + n) ++ l) g in
@@ -177,7 +166,7 @@ table-taken xs ms ys wx wm wy few =
     let C = two-bytes c in
     let lys : length (ms ++ ys) ≡ n + length ys = length-append ms ys in
     let l : length (xs ++ (ms ++ ys)) ≡ c = length-append xs (ms ++ ys) ∙ omega arith in
-    let a : all-bytes row-bytes (xs ++ (ms ++ ys)) ≡ X ++ (M ++ Y) = all-append xs (ms ++ ys) ∙ ap (λ (l : List ℕ). X ++ l) (all-append ms ys) in
+    let a : all-bytes row-bytes (xs ++ (ms ++ ys)) ≡ X ++ (M ++ Y) = all-bytes-append row-bytes xs (ms ++ ys) ∙ ap (λ (l : List ℕ). X ++ l) (all-bytes-append row-bytes ms ys) in
     let g : (X ++ (M ++ Y)) ++ R ≡ X ++ (M ++ (Y ++ R)) = simp append-assoc in
     let was : encode-rows (xs ++ (ms ++ ys)) ≡ C ++ (X ++ (M ++ (Y ++ R))) =
     encoded (xs ++ (ms ++ ys)) c (X ++ (M ++ Y)) l a ∙ ap (λ (l : List ℕ). C ++ l) g in
@@ -186,7 +175,7 @@ table-taken xs ms ys wx wm wy few =
     let z : replicate {A = ℕ} ((256 - (c - n)) * row-width) 0 ≡ Z ++ R =
     zeros-split (c - n) n (omega arith) ∙ ap (λ (j : ℕ). Z ++ replicate {A = ℕ} ((256 - j) * row-width) 0) e in
     let is : encode-rows (xs ++ ys) ≡ two-bytes (c - n) ++ (X ++ (Y ++ (Z ++ R))) =
-    encoded (xs ++ ys) (c - n) (X ++ Y) k (all-append xs ys)
+    encoded (xs ++ ys) (c - n) (X ++ Y) k (all-bytes-append row-bytes xs ys)
     ∙ ap (λ (l : List ℕ). two-bytes (c - n) ++ ((X ++ Y) ++ l)) z
     ∙ ap (λ (l : List ℕ). two-bytes (c - n) ++ l) (append-assoc X Y (Z ++ R)) in
     ap (λ (b : List ℕ). rows-taken b i n) was
@@ -211,7 +200,7 @@ module _ (xs ys : List (Row Node)) (P Q : List ℕ) (w : Rows-wide xs) where
       let Z : List ℕ = replicate ((256 - n) * row-width) 0 in
       let g : (X ++ ((P ++ (s ++ Q)) ++ Y)) ++ Z ≡ (X ++ P) ++ (s ++ (Q ++ (Y ++ Z))) = simp append-assoc in
       encoded (xs ++ r ∷ ys) n (X ++ ((P ++ (s ++ Q)) ++ Y)) (length-append xs (r ∷ ys))
-      (all-append xs (r ∷ ys) ∙ ap (λ (l : List ℕ). X ++ (l ++ Y)) e)
+      (all-bytes-append row-bytes xs (r ∷ ys) ∙ ap (λ (l : List ℕ). X ++ (l ++ Y)) e)
       ∙ ap (λ (l : List ℕ). two-bytes n ++ l) g
       ∙ sym (append-assoc (two-bytes n) (X ++ P) (s ++ (Q ++ (Y ++ Z))))
 

@@ -5,6 +5,7 @@ use Prim.Native.Nat.{ℕ, _+_, _-_, _≤_, _<_}
 use native.Mathlib.Omega.{arith}
 use lib.ListN.{length, set, take, drop, replicate, length-append, length-drop, length-replicate, take-append-drop}
 use lib.Seq.{paste, length-paste, length-take-le, take-append-le, drop-append-le, take-all, take-take}
+use Rattle.buffers.specs.TableLaws.{zeros-join}
 use Rattle.buffers.specs.Fields.{two-bytes, padded}
 use Rattle.buffers.specs.FieldsLaws.{length-padded, length-two-bytes, text-part}
 use Rattle.buffers.specs.PasteLaws.{paste-join, paste-piece, set-paste, set-behind}
@@ -12,7 +13,6 @@ use Rattle.tree.specs.Layout.{row-width, row-start, tag-offset, tag-width, tag-
 use Rattle.tree.specs.RowAt.{tag-text-at}
 use Rattle.tree.specs.RowAtLaws.{text-in-row}
 use Rattle.edits.specs.Changes.{field-bytes, field-put}
-use Rattle.edits.specs.EncodedRowsLaws.{zeros-join}
 
 module _ (b : List ℕ) (i k : ℕ) where
   -- a piece as long as is said

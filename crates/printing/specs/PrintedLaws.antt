@@ -5,11 +5,10 @@ use mathlib.Core.Bool.{false}
 use Prim.Native.Nat.{ℕ, _+_, _≤_, _<_}
 use native.Mathlib.Omega.{arith}
 use native.Mathlib.Nat.{zero-add}
-use borrow.Author.Tests.{eqb-true, eqb-false, eq-eqb, ne-eqb}
 use lib.Dec.{eqb}
 use lib.ListN.{length, take, drop, set, length-append}
 use lib.Seq.{paste, take-all, take-at, length-take-le, take-take}
-use Rattle.buffers.specs.Cases.{case}
+use Rattle.buffers.specs.Cases.{eqb-flip}
 use Rattle.buffers.specs.Text.{Text}
 use Rattle.buffers.specs.Over.{Wrote}
 use Rattle.buffers.specs.OverLaws.{over-paste, over-front, wrote-byte, wrote-both}
@@ -60,14 +59,9 @@ pub wrong-line-not-missing : (n : ℕ) → false ≡ eqb (number Missing) (told 
 unfolding told
 wrong-line-not-missing n = rw (missing-number, wrong-setup-is)
 
-same-numbers : (m n : ℕ) → eqb m n ≡ eqb n m
-same-numbers m n = case (eqb m n)
-    (λ e. rw (e, eq-eqb n m (sym (eqb-true m n e))))
-    (λ e. rw (e, ne-eqb n m (λ q. eqb-false m n e (sym q))))
-
 pub refusal-missing : (why : Cause) → eqb (number why) 3 ≡ eqb (number Missing) (told (Refused why) .number)
 unfolding told
-refusal-missing why = rw missing-number (same-numbers (number why) 3)
+refusal-missing why = rw missing-number (eqb-flip (number why) 3)
 
 -- ---- bytes written
 

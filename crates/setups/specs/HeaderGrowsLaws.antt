@@ -1,7 +1,7 @@
 -- What becomes of a header's bytes when an account's slot is written, or a value behind those of a table.
 use mathlib.Core.Path.{_≡_, refl, sym, _∙_, ap, ap₂}
 use mathlib.Core.List.{List, [], _∷_, _++_, append-assoc, append-nil}
-use mathlib.Core.Option.{Option, none, some}
+use mathlib.Core.Option.{Option, none}
 use mathlib.Core.Bool.{Bool, true}
 use Prim.Native.Nat.{ℕ, zero, suc, _+_, _-_, _*_, _≤_, _<_}
 use native.Mathlib.Omega.{arith}
@@ -12,9 +12,9 @@ use lib.Seq.{paste}
 use Rattle.buffers.specs.Cases.{and-both}
 use Rattle.buffers.specs.Text.{every}
 use Rattle.buffers.specs.Fields.{all-bytes, table-bytes}
-use Rattle.buffers.specs.TableLaws.{length-all-bytes}
+use Rattle.buffers.specs.TableLaws.{zeros-join, all-bytes-append, length-all-bytes}
 use Rattle.buffers.specs.PasteLaws.{paste-piece}
-use Rattle.buffers.specs.FieldsLaws.{length-two-bytes, length-padded}
+use Rattle.buffers.specs.FieldsLaws.{length-padded}
 use Rattle.buffers.specs.TextLaws.{every-getD}
 use Rattle.accounts.specs.declared.Pair.{Pair}
 use Rattle.accounts.specs.PairBytes.{pair-bytes, length-pair as pair-wide}
@@ -23,8 +23,7 @@ use Rattle.setup.specs.SetupLaws.{apart}
 use Rattle.store.specs.HeaderLayout.{spare-width, pairs-offset, pair-width, grants-offset, grant-width, pair-start, grant-start}
 use Rattle.store.specs.Initial.{no-sessions}
 use Rattle.store.specs.StoreBytes.{slot-bytes, session-byte, grant-bytes, header-bytes}
-use Rattle.store.specs.HeaderLaws.{grant-password, part-widths}
-use Rattle.store.specs.SetupHeaderLaws.{zeros-split}
+use Rattle.store.specs.HeaderLaws.{length-slot, length-grant, part-widths}
 
 -- ---- values one after another
 
@@ -71,11 +70,6 @@ value-replaced w test f long l i v d R h e k n =
 
 -- ---- tables
 
-all-bytes-append : {A : Type 0} (f : A → List ℕ) (k l : List A) → all-bytes f (k ++ l) ≡ all-bytes f k ++ all-bytes f l
-unfolding all-bytes
-all-bytes-append f [] l = refl
-all-bytes-append f (a ∷ k) l = ap (λ (r : List ℕ). f a ++ r) (all-bytes-append f k l) ∙ sym (append-assoc (f a) (all-bytes f k) (all-bytes f l))
-
 one-more : {A : Type 0} (f : A → List ℕ) (l : List A) (x : A) → all-bytes f (l ++ (x ∷ [])) ≡ all-bytes f l ++ f x
 unfolding all-bytes
 one-more f l x = all-bytes-append f l (x ∷ []) ∙ ap (λ (r : List ℕ). all-bytes f l ++ r) (append-nil (f x))
@@ -104,7 +98,7 @@ table-grows w most f l x P Q at p b k few =
     let O : List ℕ = replicate w 0 in
     let zeros : (most - n) * w ≡ w + m = ap (λ (j : ℕ). j * w) (less most n few) ∙ suc-mul (most - suc n) w ∙ add-comm ((most - suc n) * w) w in
     let counted : length (l ++ (x ∷ [])) ≡ suc n = length-append l (x ∷ []) ∙ add-one n in
-    let split : replicate {A = ℕ} ((most - n) * w) 0 ≡ O ++ Z = ap (λ (j : ℕ). replicate {A = ℕ} j 0) zeros ∙ zeros-split w m in
+    let split : replicate {A = ℕ} ((most - n) * w) 0 ≡ O ++ Z = ap (λ (j : ℕ). replicate {A = ℕ} j 0) zeros ∙ zeros-join w m in
     let whole = ap (λ (y : List ℕ). P ++ ((n ∷ (B ++ y)) ++ Q)) split ∙ room-left P B O Z Q n in
     let front : length (P ++ (n ∷ B)) ≡ at + 1 + w * n = length-append P (n ∷ B) ∙ omega (arith, p, b) in
     ap (λ (y : List ℕ). paste (paste y (at + 1 + w * n) (f x) w) at (suc n ∷ []) 1) whole
@@ -115,20 +109,12 @@ table-grows w most f l x P Q at p b k few =
 
 -- ---- the header
 
-length-slot : (o : Option Person) → is-slot o ≡ true → length (slot-bytes o) ≡ 3
-unfolding slot-bytes
-length-slot none h = refl
-length-slot (some p) h = ap suc (length-two-bytes (p .further .0))
-
 grant-width-of : (g : Grant) → length (g .password) ≤ 8 → length (grant-bytes g) ≡ 10
 unfolding grant-bytes
 grant-width-of g short = ap (λ (n : ℕ). suc (suc n)) (length-padded 8 (g .password) short)
 
 length-pair : (p : Pair) → is-pair p ≡ true → length (pair-bytes p) ≡ 2
 length-pair p h = pair-wide p
-
-length-grant : (u : Setup) (g : Grant) → is-grant u g ≡ true → length (grant-bytes g) ≡ 10
-length-grant u g h = grant-width-of g (grant-password u g h .0)
 
 -- the sessions before any login
 no-roles : List ℕ

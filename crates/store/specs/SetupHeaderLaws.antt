@@ -2,9 +2,9 @@
 use mathlib.Core.Path.{_≡_, refl, sym, _∙_, ap}
 use mathlib.Core.List.{List, [], _∷_, _++_, append-nil}
 use mathlib.Core.Bool.{true}
-use Prim.Native.Nat.{ℕ, zero, suc, _+_}
-use native.Mathlib.Nat.{zero-add, suc-add}
+use Prim.Native.Nat.{ℕ, _+_}
 use lib.ListN.{length, drop, replicate}
+use Rattle.buffers.specs.TableLaws.{zeros-join}
 use Rattle.buffers.specs.Fields.{all-bytes, table-bytes}
 use Rattle.accounts.specs.PairBytes.{pair-bytes}
 use Rattle.setup.specs.Setup.{Setup, accounts, most-pairs, most-grants, no-setup, is-setup}
@@ -29,14 +29,10 @@ header-holds u h = ap setup-of (sym (append-nil (header-bytes u no-sessions))) �
 
 -- ---- a header of zeros
 
-pub zeros-split : (n m : ℕ) → replicate {A = ℕ} (n + m) 0 ≡ replicate n 0 ++ replicate m 0
-zeros-split zero m = rw (zero-add m)
-zeros-split (suc n) m = rw (suc-add n m) (ap (λ (x : List ℕ). 0 ∷ x) (zeros-split n m))
-
 five-zeros : (k l m n o : ℕ) (S Z P G U : List ℕ) → S ≡ replicate k 0 → Z ≡ replicate l 0 → P ≡ replicate m 0 → G ≡ replicate n 0 → U ≡ replicate o 0 →
     S ++ (Z ++ (P ++ (G ++ U))) ≡ replicate (k + (l + (m + (n + o)))) 0
 five-zeros k l m n o S Z P G U s z p g u =
-    rw (s, z, p, g, u, zeros-split k (l + (m + (n + o))), zeros-split l (m + (n + o)), zeros-split m (n + o), zeros-split n o)
+    rw (s, z, p, g, u, zeros-join k (l + (m + (n + o))), zeros-join l (m + (n + o)), zeros-join m (n + o), zeros-join n o)
 
 -- its parts, the last of which is not computed
 parts-of-zeros : (U : List ℕ) → U ≡ replicate spare-width 0 →
