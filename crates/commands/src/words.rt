@@ -1,4 +1,5 @@
-// The words of commands, each with the shape of its arguments.
+// The words of commands, each with the shape of its arguments. They are data, one line each of `shell_form` or `form_of` as
+// of `listed` in `Command.antt`, and arguments are read by their kind. docs/ADDING.md says what a new one touches.
 ghost use mathlib.Core.Path.{_≡_};
 ghost use mathlib.Core.List.{[], _∷_};
 ghost use Rattle.buffers.specs.Text.{same-text};

@@ -1,4 +1,6 @@
-// The copies of an entry and of all below it that may be read, written as rows into a buffer of their own.
+// The copies of an entry and of all below it that may be read, written as rows into a buffer of their own. A copy is the
+// original's row with head and tag written over, for the first the name too: one move of 227 bytes, instead of a row filled
+// up and then written again. So a row that is copied is one of a well-formed tree, whose bytes are those of its node.
 ghost use mathlib.Core.Path.{_≡_};
 ghost use Prim.Native.Nat.{suc, _+_, _≤_, _<_};
 ghost use lib.ListN.{length};

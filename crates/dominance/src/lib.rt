@@ -1,4 +1,5 @@
-// Dominance closed from role pairs: from a slice of them, and from the bytes that say them.
+// Dominance closed from role pairs: from a slice of them, and from the bytes that say them. Each pair in turn grows the
+// rows (`Dominance::with`), and `grown-rows-are` of `accounts` says that this is dominance by one pair more.
 ghost use mathlib.Core.Path.{_≡_};
 ghost use mathlib.Core.Bool.{true};
 ghost use mathlib.Core.List.{_++_};

@@ -1,4 +1,6 @@
--- What the changes of a tree's bytes are: rows put in or taken out, and a field of a row written. Each says every byte afterwards.
+-- What the changes of a tree's bytes are: rows put in or taken out, and a field of a row written. Each says every byte
+-- afterwards, of any buffer. Only what is made of several changes, a move, copies and a home, requires the tree that it is
+-- made for: a move and copies that the command's checks have passed (`Movable`, `Entry-job`).
 use mathlib.Core.List.{List, [], _∷_, _++_}
 use mathlib.Core.Option.{none}
 use Prim.Native.Nat.{ℕ, _+_, _-_, _*_}

@@ -1,5 +1,5 @@
-// The three library calls for C and Rust: a slice passes as a pointer and a length, an answer as its number and a value.
-// include/patterns.h declares them.
+// The three library calls for C and Rust: a slice passes as a pointer and a length, an answer, since an enum does not pass
+// to C, as its number and a value through a lent number. include/patterns.h declares them.
 ghost use mathlib.Core.Path.{_≡_};
 ghost use Rattle.shell.specs.Replies.{told};
 ghost use Rattle.calls.specs.Calls.{setup-call, run-call, listing-call};
@@ -10,7 +10,7 @@ use library::setup;
 use printing::number;
 use shell::Answer;
 
-// Where there is no value.
+// Where there is no value: so a done command without a text is told from one with an empty text.
 const NO_VALUE: u64 = 18446744073709551615;
 
 // The number of a wrong setup line.

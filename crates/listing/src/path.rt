@@ -1,4 +1,5 @@
-// The path of a row: the names of the rows last seen at each depth up to its own, each behind `/`.
+// The path of a row: the names of the rows last seen at each depth up to its own, each behind `/`. Rows stand in preorder,
+// so one pass over the rows up to it finds them, and no row holds its path.
 ghost use mathlib.Core.Path.{_≡_};
 ghost use mathlib.Core.List.{_∷_};
 ghost use Prim.Native.Nat.{_+_, _≤_, _<_};

@@ -1,4 +1,6 @@
-// A place moved with all below it: its rows are held in a buffer, taken out, and put in under the new name and at the new depth.
+// A place moved with all below it: its rows are held in a buffer, taken out, and put in under the new name and at the new
+// depth. The room is found again once they are out: where rows then stand is known by the laws of that search, and needs no
+// arithmetic of its own.
 ghost use mathlib.Core.Path.{_≡_};
 ghost use Prim.Native.Nat.{_+_, _*_, _≤_, _<_};
 ghost use lib.ListN.{length, drop};

@@ -1,4 +1,5 @@
-// `mv`.
+// `mv`. It asks for room, w on the target's directory with it, before w on the source's: both are refused by 5, so the
+// order does not show (`moving-there` in `NodeChecksLaws.antt`).
 ghost use mathlib.Core.Path.{_≡_};
 ghost use Rattle.tree.specs.TreeBytes.{Has-row, Used, Whole, Path-text};
 ghost use Rattle.walks.specs.RowWalk.{outcome};

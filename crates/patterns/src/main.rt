@@ -174,7 +174,8 @@ fn turn(store: &mut [u8], window: &mut [u8], at: Place, answer: &mut [u8], out: 
     }
 }
 
-// The whole program over its buffers. The turns are more than any run uses.
+// The whole program over its buffers. A proved loop has to end and an input need not, so this one counts down, from more
+// turns than any run uses.
 fn serve(store: &mut [u8], window: &mut [u8], answer: &mut [u8], out: &mut [u8])
     requires { ⌜ Wide (lent (now window) (now store) (now answer) (now out)) ⌝ }
     ensures { λ _. ⌜ Serves most-turns first-place (lent (now (window .entry)) (headed no-setup (now (store .entry))) (now (answer .entry)) (now (out .entry)))

@@ -1,4 +1,6 @@
-// What is left of `co` behind its first checks: the copies are made in a buffer and judged there, and then put in.
+// What is left of `co` behind its first checks: the copies are made in a buffer and judged there, and then put in. So they
+// are of the tree "as it stood before the command", and 19 and 10 are decided before anything changes. The buffer has room
+// for as many rows as the entry has with all below it (`subtree-rows`), since there are no more copies.
 ghost use mathlib.Core.Path.{_≡_};
 ghost use Prim.Native.Nat.{_≤_};
 ghost use lib.ListN.{length, drop};

@@ -1,4 +1,6 @@
-// The bytes of one row, field by field.
+// The bytes of one row, field by field. Name and content are judged by loops of fixed length without early exit, which put
+// together by `&` and `|` the tests of each byte with the next: so the compiler can test many bytes at once. Every call
+// judges every row, and nearly all are sound.
 ghost use mathlib.Core.Path.{_≡_};
 ghost use mathlib.Core.List.{List};
 ghost use Prim.Native.Nat.{ℕ, _+_, _-_, _<_};
@@ -83,7 +85,7 @@ fn has_numbers(tree: &[u8], i: usize) -> bool
     tree::revision_at(tree, i) <= LAST_REVISION
 }
 
-// Whether zeros fill up the name: behind a zero stands none but a zero. All bytes are looked at, as in `all_stand`.
+// Whether zeros fill up the name: behind a zero stands none but a zero.
 fn name_is_filled(tree: &[u8], i: usize) -> bool
     requires { ⌜ Has-row (now tree) i ⌝ }
     ensures { λ r. ⌜ r ≡ is-filled name-offset name-width (row-bytes-at (now (tree .entry)) i) ⌝ }
@@ -122,8 +124,7 @@ fn may_stand(b: u8, next: u8) -> bool
     ((b == 0) & (next == 0)) | ((32 <= b) & (b <= 126) & (b != 44))
 }
 
-// Whether the longest content's bytes from a place may each stand before the next. All of them are looked at, with no exit
-// before the last, so that many are tested at once.
+// Whether the longest content's bytes from a place may each stand before the next.
 fn all_stand(s: &[u8], at: usize) -> bool
     requires { ⌜ at + 64 < length (now s) ⌝ }
     ensures { λ r. ⌜ r ≡ neighbours-pass may-stand at 64 (now (s .entry)) ⌝ }

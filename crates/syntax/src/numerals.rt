@@ -1,4 +1,5 @@
-// Numbers: decimal without leading zeros, and the four octal digits of a mode.
+// Numbers: decimal without leading zeros, and the four octal digits of a mode. Those of a command line are at most 9999, so
+// a decimal of more than four digits is refused unread; the unbounded definition is proved to say the same.
 ghost use mathlib.Core.Path.{_≡_};
 ghost use mathlib.Core.Bool.{true};
 ghost use Prim.Native.Nat.{_≤_, _<_};

@@ -1,4 +1,5 @@
-// Numbers written as texts over a buffer, each from a place on; the answer is where it ends.
+// Numbers written as texts over a buffer, each from a place on; the answer is where it ends. A decimal asks for the room of
+// its digits alone: the wrong line of a setup may be any number, those of a listing are small.
 ghost use Prim.Native.Nat.{_+_, _≤_};
 ghost use lib.ListN.{length};
 ghost use Rattle.buffers.specs.Over.{Wrote};

@@ -1,5 +1,6 @@
 -- What it is that bytes are a tree's: as many as a tree has, with a number of rows, with a row in use; the bytes of a well-formed
--- tree; the row of a place in them; and room for a row, in whatever bytes. What the code asks for is said in these words.
+-- tree; the row of a place in them; and room for a row, in whatever bytes. What the code asks for is said in these words;
+-- larger requirements include these records instead of listing their fields again.
 use mathlib.Core.Path.{_≡_}
 use mathlib.Core.List.{List}
 use mathlib.Core.Option.{some}

@@ -49,7 +49,8 @@ pub enum Kind {
     Directory,
 }
 
-// Why a call was refused; document 01 gives each cause a number.
+// Why a call was refused; document 01 gives each cause a number. Causes stand in this crate, the lowest that refuses
+// anything, so that a walk answers what the call will.
 pub enum Cause {
     NoForm,
     UnknownCaller,

@@ -1,4 +1,6 @@
-// Walks along a path: name by name from `/`, each directory entered before a name is looked up in it.
+// Walks along a path: name by name from `/`, each directory entered before a name is looked up in it. The row above is
+// answered too, since `rm`, `rmdir` and `mv` test w there. The parent walk is the walk along the text before the last `/`,
+// and then the x test.
 ghost use mathlib.Core.Path.{_≡_};
 ghost use Rattle.tree.specs.RowAt.{all-rows};
 ghost use Rattle.tree.specs.TreeBytes.{Sized, Used};
@@ -78,7 +80,7 @@ pub fn walk(tree: &[u8], account: Account, path: &[u8]) -> Walked
     }
 }
 
-// The walk to the directory that the last name of a path is in, with its x test.
+// The walk to the directory that the last name of a path is in.
 pub fn parent_walk(tree: &[u8], account: Account, path: &[u8]) -> Walked
     requires { ⌜ Sized (now tree) ⌝ }
     ensures { λ r. ⌜ outcome r ≡ parent-walk-in account (all-rows (now (tree .entry))) (now (path .entry)) ⌝ }
