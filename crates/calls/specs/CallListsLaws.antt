@@ -64,7 +64,7 @@ run-on-state u s h q = ap (called (encode (state-of u s)) (q .answer)) (run-is-s
 -- ---- a list of calls
 
 -- calls on the bytes of a well-formed state are those of the machine
-run-calls-on-state : (u : Setup) → is-setup u ≡ true → (s : Store) → well-formed (state-of u s) ≡ true → (qs : List Request) →
+pub run-calls-on-state : (u : Setup) → is-setup u ≡ true → (s : Store) → well-formed (state-of u s) ≡ true → (qs : List Request) →
     let ran = runs store u s (map call-for qs) in
     run-calls (encode (state-of u s)) qs ≡ record { responses = responses-to qs (ran .replies); store = encode (state-of u (ran .state)) }
 unfolding run-calls runs responses-to response

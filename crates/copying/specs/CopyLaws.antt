@@ -122,22 +122,25 @@ module _ (c : Caller) (o : is-caller c ≡ true) where
 
 -- ---- copies of payloads that are told alike
 
-module _ {A B : Type 0} (c : Caller) (s : Source A) (t : Source B) (f : B → A)
-    (kinds : (b : B) → s .kind (f b) ≡ t .kind b) (reads : (b : B) → s .readable (f b) ≡ t .readable b)
-    (revisions : (b : B) → s .revision (f b) ≡ t .revision b) (contents : (b : B) → s .content (f b) ≡ t .content b) where
-  copied-map : (parent : Node) (e : Entry-path) (b : B) → copied c s parent e (f b) ≡ copied c t parent e b
+-- the same are readable, and what is readable is copied alike
+module _ {A B : Type 0} (c : Caller) (s : Source A) (t : Source B) (f : B → A) (reads : (b : B) → s .readable (f b) ≡ t .readable b)
+    (kinds : (b : B) → t .readable b ≡ true → s .kind (f b) ≡ t .kind b) (revisions : (b : B) → t .readable b ≡ true → s .revision (f b) ≡ t .revision b)
+    (contents : (b : B) → t .readable b ≡ true → s .content (f b) ≡ t .content b) where
+  copied-map : (parent : Node) (e : Entry-path) (b : B) → t .readable b ≡ true → copied c s parent e (f b) ≡ copied c t parent e b
   unfolding copied
-  copied-map parent e b = rw (kinds b, contents b, revisions b)
+  copied-map parent e b r = rw (kinds b r, contents b r, revisions b r)
 
   children-map : (parent : Node) (folder : Path) (F : Forest B) → copy-children c s parent folder (map-forest f F) ≡ copy-children c t parent folder F
   unfolding copy-children
   children-map parent folder nil = rw (map-nil f)
   children-map parent folder (node n b cs rest) =
       let e : Entry-path = record { folder = folder; name = n } in
-      rw (map-node f n b cs rest) (
-      rw (reads b, copied-map parent e b, children-map (copied c t parent e b) (folder ▹ n) cs, children-map parent folder rest))
+      let others = children-map parent folder rest in
+      rw (map-node f n b cs rest, reads b) (case (t .readable b)
+      (λ r. rw (r, copied-map parent e b r, children-map (copied c t parent e b) (folder ▹ n) cs, others))
+      (λ r. rw (r, others)))
 
-  -- the copies of a place whose payloads are mapped are those of the place
-  pub copy-map : (parent : Node) (e : Entry-path) (d : Place B) → copy c s parent e (map-place f d) ≡ copy c t parent e d
+  -- the copies of a readable place whose payloads are mapped are those of the place
+  pub copy-map : (parent : Node) (e : Entry-path) (d : Place B) → t .readable (d .here) ≡ true → copy c s parent e (map-place f d) ≡ copy c t parent e d
   unfolding copy
-  copy-map parent e d = rw (map-here f d, map-below f d) (rw (copied-map parent e (d .here)) (rw (children-map _ (below-rep e) (d .below))))
+  copy-map parent e d r = rw (map-here f d, map-below f d) (rw (copied-map parent e (d .here) r) (rw (children-map _ (below-rep e) (d .below))))

@@ -113,6 +113,11 @@ module _ (u : Setup) (e : is-setup u ≡ true) where
       let g = runs-agree calls (c .1) (after s (step store u s call)) (after h (step abstract u h call)) (after-tied t a) in
       (ap₂ _∷_ (reply-tied a) (g .0), g .1)
 
+  -- on the abstract machine's own text
+  pub lists-agree : (calls : List Call) → without-root calls ≡ true → (s : Store) (h : Abstract) → Tie s h
+      → (runs store u s calls .replies ≡ abstract-runs u h calls .replies) × Tie (runs store u s calls .state) (abstract-runs u h calls .state)
+  lists-agree calls r s h t = rw (← runs-are u h calls) (runs-agree calls r s h t)
+
 -- ---- what demand 3 compares
 
 workspace-back : (h : Abstract) → Kept h → workspace-of (embed h) ≡ h .workspace
@@ -140,8 +145,8 @@ tie-compared {b} r t = record {
 pub compared-lists : (text : Text) (u : Setup) → setup text ≡ accepted u → (calls : List Call) → without-root calls ≡ true
     → Compared (runs store u (initial-store u) calls) (abstract-runs u (initial-abstract u) calls)
 compared-lists text u e calls r =
-    let t = runs-agree u (accepted-is-setup text u e) calls r (initial-store u) (initial-abstract u) (initial-tie u) in
-    rw (← runs-are u (initial-abstract u) calls) (tie-compared (t .0) (t .1))
+    let t = lists-agree u (accepted-is-setup text u e) calls r (initial-store u) (initial-abstract u) (initial-tie u) in
+    tie-compared (t .0) (t .1)
 
 -- a store reached without root holds what the abstract machine holds after the same calls
 pub reached-tie : (u : Setup) (s : Store) (r : Reached-without-root u s)

@@ -168,9 +168,9 @@ module _ (u : Setup) (z : Bounded-role) where
 
   module _ (c : Caller) where
     -- what is copied from the store is what is copied apart
-    copy-law : (parent : Node) (e : Entry-path) (d : Place Filed)
+    copy-law : (parent : Node) (e : Entry-path) (d : Place Filed) → apart .readable (d .here) ≡ true
         → copy c in-tree parent e (map-place met d) ≡ copy c apart parent e d
-    copy-law = copy-map c in-tree apart met (kind-law u z) (readable-law u z) revision-law content-law
+    copy-law = copy-map c in-tree apart met (readable-law u z) (λ x _. kind-law u z x) (λ x _. revision-law x) (λ x _. content-law x)
 
 -- ---- the commands
 
@@ -284,8 +284,8 @@ module _ (u : Setup) (c : Caller) (out : Kept-out c top-node (leaf rep-node .her
       bind (room-agrees p) λ f g s.
       bind (account-walk u z h k (below-rep e)) λ a b y.
       rw y (
-      check Access (rw (map-here met b) (readable-law u z (b .here))) λ _.
-      rw (s .0, copy-law u z c (g .here) e b) (
+      check Access (rw (map-here met b) (readable-law u z (b .here))) λ i.
+      rw (s .0, copy-law u z c (g .here) e b (sym (readable-law u z (b .here)) ∙ (rw (map-here met b) at i))) (
       check TooDeep refl λ _.
       check Full (fits-agree _) λ _.
       both (changed (people-tie (start h k) (parent p) (s .1) _))))

@@ -33,6 +33,12 @@ module _ {A B : Type 0} (g : A → B) where
   unfolding map-place
   map-below d = refl
 
+  -- two maps are one by both
+  pub map-map : {C : Type 0} (h : B → C) (F : Forest A) → map-forest h (map-forest g F) ≡ map-forest (λ a. h (g a)) F
+  unfolding map-forest
+  map-map h nil = refl
+  map-map h (node n a cs rest) = rw (map-map h cs, map-map h rest)
+
   -- ---- searches
 
   absent-map : (c : Option (Place A)) → absent (Option·map (map-place g) c) Exists ≡ absent c Exists

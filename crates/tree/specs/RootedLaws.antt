@@ -1,8 +1,9 @@
 -- Laws of a forest below a payload of its own: what stands there, and that a change of the forest is the change of the place.
 use mathlib.Core.Path.{_≡_, refl}
 use Rattle.syntax.specs.Path.{Name, Path, root, _▹_}
-use Rattle.tree.specs.Forest.{Forest, nil, node, Place, insert, remove, at, under, update, update-forest, alter, put, drop, size, map-forest, map-place, rooted}
+use Rattle.tree.specs.Forest.{Forest, Place, insert, remove, at, under, update, update-forest, alter, put, drop, size, map-forest, map-place, rooted}
 use Rattle.tree.specs.ForestLaws.{size-map, insert-map, remove-map, under-map, at-map, alter-map}
+use Rattle.tree.specs.MapLaws.{map-map}
 
 -- the whole forest changed
 pub update-forest-root : {A : Type 0} (g : Forest A → Forest A) (F : Forest A) → update-forest root g F ≡ g F
@@ -50,12 +51,12 @@ module _ {A B : Type 0} (g : A → B) (x : B) where
 
 -- ---- another map of the payloads
 
-map-map : {A B C : Type 0} (h : B → C) (g : A → B) (F : Forest A) → map-forest h (map-forest g F) ≡ map-forest (λ a. h (g a)) F
-unfolding map-forest
-map-map h g nil = refl
-map-map h g (node n a cs rest) = rw (map-map h g cs, map-map h g rest)
-
 -- a rooted forest maps with its payload above
 pub rooted-map : {A B C : Type 0} (h : B → C) (g : A → B) (x : B) (F : Forest A) → map-place h (rooted g x F) ≡ rooted (λ a. h (g a)) (h x) F
 unfolding map-place rooted
-rooted-map h g x F = rw (map-map h g F)
+rooted-map h g x F = rw (map-map g h F)
+
+-- a mapped forest is rooted by both maps
+pub rooted-of-map : {A B C : Type 0} (h : B → C) (g : A → B) (x : C) (F : Forest A) → rooted h x (map-forest g F) ≡ rooted (λ a. h (g a)) x F
+unfolding rooted
+rooted-of-map h g x F = rw (map-map g h F)

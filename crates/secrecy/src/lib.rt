@@ -1,0 +1,1 @@
+// What a role that does not dominate another cannot learn of that role's files: definitions and theorems, no code.
