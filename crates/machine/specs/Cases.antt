@@ -160,6 +160,23 @@ first-check-decides : Answered orders
 unfolding compute orders
 first-check-decides = (refl, refl)
 
+-- whether a `commit` is stale is told to no one who may not read the entry: 5 comes before 14, in the store and in the abstract machine
+unreadable : List Case
+unreadable =
+    all-done "1,login,0,oak\n1,mkdir,/u1/d,0700\n1,add,/u1/d,/rep/d,1\n1,create,/u1/a,0600\n1,add,/u1/a,/rep/d/a,2\n1,co,/rep/d/a,/u1/c\n1,commit,/u1/a\n1,login,1,ash" ++ (
+    "1,commit,/u1/c" gives 5 ∷
+    "1,commit,/u1/a" gives 5 ∷
+    "1,login,0,oak" gives 0 ∷
+    "1,commit,/u1/c" gives 14 ∷ [])
+
+unreadable-in-store : replies (runs store) initial-store 4096 (setup roles) unreadable ≡ unreadable
+unfolding compute unreadable
+unreadable-in-store = refl
+
+unreadable-in-abstract : replies abstract-runs initial-abstract 4096 (setup roles) unreadable ≡ unreadable
+unfolding compute unreadable
+unreadable-in-abstract = refl
+
 -- a line for each of the bytes, which stands between the two parts; all are done without a text
 for-each : String → String → String → List Case
 for-each l names r = map (λ b. answered (bytes l ++ (b ∷ bytes r)) (ok none)) (bytes names)
@@ -214,7 +231,7 @@ with-revision v x = record { kind = x .kind; role = x .role; revision = v; conte
 abstract-with : ℕ → Setup → Abstract
 abstract-with v u = on-entries (at (bytes "a") (alter (with-revision v))) (abstract-runs u (initial-abstract u) (calls 4096 filed) .state)
 
--- a commit makes 9999 of 9998 and nothing of 9999; 14 comes before 16
+-- a commit makes 9999 of 9998 and nothing of 9999; 14 comes before 16, and 5 before both
 last : List Case
 last =
     "1,co,/rep/a,/u1/b" gives 0 ∷
@@ -222,7 +239,9 @@ last =
     "1,commit,/u1/a" gives 14 ∷
     "1,commit,/u1/b" gives 16 ∷
     "1,up,/u1/a" gives 0 ∷
-    "1,commit,/u1/a" gives 16 ∷ []
+    "1,commit,/u1/a" gives 16 ∷
+    "1,login,1,ash" gives 0 ∷
+    "1,commit,/u1/a" gives 5 ∷ []
 
 last-answered : Answered-from (store-with 9998) (abstract-with 9998) 4096 last
 unfolding compute filed store-with with-revision abstract-with last

@@ -3,7 +3,6 @@
 use mathlib.Core.Path.{_≡_, refl, sym, _∙_, ap}
 use mathlib.Core.List.{[]}
 use mathlib.Core.Bool.{Bool, true, false, _&&_, not, cond, and-false}
-use Prim.Native.Nat.{ℕ}
 use Rattle.buffers.specs.Cases.{case, contra}
 use Rattle.buffers.specs.Text.{Text}
 use Rattle.accounts.specs.declared.Caller.{Caller}
@@ -65,6 +64,10 @@ module _ (r : Bounded-role) where
 
   pub hidden-twice : (F : Forest Entry) → hidden (hidden F) ≡ hidden F
   hidden-twice F = map-map redacted-entry redacted-entry F ∙ (λ i. map-forest (λ x. twice x i) F)
+
+  pub redacted-twice : (h : Abstract) → redacted-abstract (redacted-abstract h) ≡ redacted-abstract h
+  unfolding redacted-abstract
+  redacted-twice h = λ i. record { workspace = h .workspace; entries = hidden-twice (h .entries) i; sessions = h .sessions }
 
   -- ---- changes of redacted entries
 

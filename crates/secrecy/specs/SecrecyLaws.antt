@@ -3,7 +3,7 @@
 use mathlib.Core.Path.{_≡_, refl, sym, _∙_, ap, ap₂}
 use mathlib.Core.List.{List, [], _∷_}
 use mathlib.Core.Option.{Option, none, some}
-use mathlib.Core.Bool.{Bool, true, false, not}
+use mathlib.Core.Bool.{true, false, not}
 use Prim.Native.Nat.{ℕ, _+_}
 use borrow.Author.Tests.{not-true}
 use lib.Dec.{leb}
@@ -36,13 +36,13 @@ use Rattle.store.specs.Callers.{caller}
 use Rattle.machine.specs.AbstractMachine.{Abstract, Filed, new-entry, dominated, filed-readable, abstract-login, abstract-logout, abstract-session, abstract-add, abstract-co, abstract-working, abstract-original, abstract-commit, abstract-up, abstract-del, abstract-account, abstract-entry, abstract-run, abstract-step, abstract-runs}
 use Rattle.machine.specs.Runs.{Call}
 use Rattle.secrecy.specs.Redacted.{is-senior, without-seniors, admits-senior, is-junior's, by-junior, by-juniors}
-use Rattle.secrecy.specs.RedactedLaws.{redacted-entry, redacted-filed, hidden, redacted-abstract, hidden-twice, insert-alike, remove-alike, revise-alike, kind-kept, readable-kept, writable-kept, walk-kept, parent-walk-kept, open-filed, copy-kept}
+use Rattle.secrecy.specs.RedactedLaws.{redacted-entry, redacted-filed, hidden, redacted-abstract, hidden-twice, redacted-twice, insert-alike, remove-alike, revise-alike, kind-kept, readable-kept, writable-kept, walk-kept, parent-walk-kept, open-filed, copy-kept}
 
 module _ (u : Setup) (r : Bounded-role) where
   -- states that are one once redacted, the second without a session that dominates r
-  pub record Alike (a b : Abstract) : Type 0 where
-    pub same : redacted-abstract r a ≡ redacted-abstract r b
-    pub junior : without-seniors u r (b .sessions) ≡ true
+  record Alike (a b : Abstract) : Type 0 where
+    same : redacted-abstract r a ≡ redacted-abstract r b
+    junior : without-seniors u r (b .sessions) ≡ true
 
   -- outcomes with one text and such states
   record Alike-outcomes (a b : Outcome Abstract) : Type 0 where
@@ -219,11 +219,6 @@ module _ (u : Setup) (r : Bounded-role) where
   after-alike t (refusal n) = t
   after-alike t (both g) = g .state
 
-  -- a machine and the machine redacted
-  pub with-redacted : (h : Abstract) → without-seniors u r (h .sessions) ≡ true → Alike (redacted-abstract r h) h
-  unfolding redacted-abstract
-  with-redacted h w = record { same = λ i. record { workspace = h .workspace; entries = hidden-twice r (h .entries) i; sessions = h .sessions }; junior = w }
-
   -- ---- lists of calls
 
   -- one call on a state and on its redacted self
@@ -235,7 +230,7 @@ module _ (u : Setup) (r : Bounded-role) where
     reply-kept = reply-alike (step-kept call j h w)
 
     after-kept : Alike (after (redacted-abstract r h) (outcome (redacted-abstract r h))) (after h (outcome h))
-    after-kept = after-alike (with-redacted h w) (step-kept call j h w)
+    after-kept = after-alike (record { same = redacted-twice r h; junior = w }) (step-kept call j h w)
 
   -- on states that are one once redacted
   module _ (call : Call) (j : by-junior u r (line (call .line)) ≡ true) (g h : Abstract) (same : redacted-abstract r g ≡ redacted-abstract r h)

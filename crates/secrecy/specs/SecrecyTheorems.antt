@@ -19,8 +19,8 @@ use Rattle.machine.specs.Observed.{without-root, Reached-without-root}
 use Rattle.machine.specs.Simulation.{Tie}
 use Rattle.machine.specs.ComparedLaws.{lists-agree, reached-tie}
 use Rattle.secrecy.specs.Redacted.{redacted, without-seniors, is-junior's, by-junior, by-juniors}
-use Rattle.secrecy.specs.RedactedLaws.{redacted-abstract, tie-redacted}
-use Rattle.secrecy.specs.SecrecyLaws.{Alike, with-redacted, runs-alike}
+use Rattle.secrecy.specs.RedactedLaws.{redacted-abstract, redacted-twice, tie-redacted}
+use Rattle.secrecy.specs.SecrecyLaws.{runs-alike}
 
 module _ (u : Setup) (r : Bounded-role) where
   -- lines that juniors give are not root's
@@ -51,7 +51,7 @@ module _ (u : Setup) (r : Bounded-role) where
         let k = rootless calls j in
         let plain = lists-agree u g calls k s h t in
         let hidden = lists-agree u g calls k (redacted r s) (redacted-abstract r h) (tie-redacted r t) in
-        let apart = runs-alike u r calls j (redacted-abstract r h) h (with-redacted u r h junior .same) junior junior in (
+        let apart = runs-alike u r calls j (redacted-abstract r h) h (redacted-twice r h) junior junior in (
           plain .0 ∙ sym (apart .0) ∙ sym (hidden .0),
           tie-redacted r (plain .1) .same ∙ ap embed (sym (apart .1)) ∙ sym (tie-redacted r (hidden .1) .same),
         )
