@@ -177,6 +177,9 @@ answers = refl
 learns-nothing : runs store u s (calls 4096 junior) .replies ≡ runs store u s′ (calls 4096 junior) .replies
 learns-nothing = junior-learns-nothing u r s s′ reached reached′ same no-senior (calls 4096 junior) by-junior-alone .0
 
+answers′ : replied junior (runs store u s′ (calls 4096 junior) .replies) ≡ junior
+answers′ = ap (replied junior) (sym learns-nothing) ∙ answers
+
 -- a senior who logs in reads another text in each
 senior : String → List Case
 senior shown = all-done "1,login,0,oak\n1,up,/u1/c" ++ ("1,read,/u1/c" shows shown ∷ [])
