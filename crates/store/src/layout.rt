@@ -6,7 +6,7 @@
 // | sessions of accounts 0 to 15: role + 1, or 0 | 48 | 16 of 1 |
 // | role pairs: how many, then senior, junior | 64 | 1 + 28 of 1 + 1 |
 // | grants: how many, then uid, role, password | 121 | 1 + 32 of 1 + 1 + 8 |
-// | zero | 442 | 5700 |
+// | zero | 442 | 6980 |
 //
 // The specification's offsets are in specs/HeaderLayout.antt; a proof fails where the two differ.
 
