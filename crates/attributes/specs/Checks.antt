@@ -5,7 +5,7 @@ use Prim.Native.Nat.{ℕ}
 use Rattle.buffers.specs.Text.{Text}
 use Rattle.accounts.specs.declared.Account.{Account}
 use Rattle.accounts.specs.declared.Gid.{Gid}
-use Rattle.accounts.specs.declared.Right.the-variants.{R, W}
+use Rattle.accounts.specs.declared.Right.the-variants.{R, W, X}
 use Rattle.accounts.specs.Groups.{member}
 use Rattle.accounts.specs.Access.{is-root, same-uid}
 use Rattle.syntax.specs.Number.{set-gid}
@@ -21,7 +21,7 @@ use Rattle.walks.specs.RowBelow.{child-text-in}
 use Rattle.walks.specs.RowWalk.{Spot, spot}
 use Rattle.walks.specs.WalkBytes.{spot-of}
 use Rattle.attributes.specs.declared.Deed.{Deed}
-use Rattle.attributes.specs.declared.Deed.the-variants.{Read, Write, Chmod, Chgrp, Chown}
+use Rattle.attributes.specs.declared.Deed.the-variants.{Read, Write, Chmod, Chgrp, Chown, Enter}
 
 -- two tests, the first of which that fails tells its cause
 abbrev pub two-tests : Bool → Cause → Bool → Cause → Result (Unit {0})
@@ -39,6 +39,7 @@ tests a Write n = two-tests (not (is-directory (n .kind))) WrongKind (allows a W
 tests a (Chmod mode) n = two-tests (is-directory (n .kind) || not (set-gid mode)) WrongKind (owns a n) Reserved
 tests a (Chgrp group) n = require (may-give a group n) Reserved
 tests a Chown n = require (is-root (a .uid)) Reserved
+tests a Enter n = two-tests (is-directory (n .kind)) WrongKind (allows a X n) Access
 
 -- the place at a path, if the account may come there and do the deed
 unfoldable pub may-do : Account → Deed → Place Node → Path → Result (Place Node)

@@ -1,7 +1,7 @@
 -- The checks are those of the steps, and what was answered and left follows the steps.
 --
 -- In order:
---   the steps by the checks: read-checked to chown-checked;
+--   the steps by the checks: read-checked to chown-checked, enter-checked;
 --   the tests at a node, one by one: passes to passes-first;
 --   the decision, from the walk and the tests at the row: tested, not-walked;
 --   the text of a row: file-text to text-there;
@@ -19,7 +19,7 @@ use Rattle.accounts.specs.declared.Account.{Account}
 use Rattle.accounts.specs.declared.Caller.{Caller}
 use Rattle.accounts.specs.declared.Gid.{Gid}
 use Rattle.accounts.specs.declared.Uid.{Uid}
-use Rattle.accounts.specs.declared.Right.the-variants.{W}
+use Rattle.accounts.specs.declared.Right.the-variants.{W, X}
 use Rattle.syntax.specs.Number.{set-gid}
 use Rattle.syntax.specs.Path.{Path, path}
 use Rattle.tree.specs.declared.Kind.the-variants.{File, Directory}
@@ -51,7 +51,7 @@ use Rattle.shell.specs.Steps.{text-of, run-read, run-write, run-chmod, run-chgr
 use Rattle.shell.specs.CommandBytes.{Follows, Follows-silently}
 use Rattle.shell.specs.CommandBytesLaws.{refusal-follows, silence-follows, text-follows}
 use Rattle.attributes.specs.declared.Deed.{Deed}
-use Rattle.attributes.specs.declared.Deed.the-variants.{Read, Write, Chmod, Chgrp, Chown}
+use Rattle.attributes.specs.declared.Deed.the-variants.{Read, Write, Chmod, Chgrp, Chown, Enter}
 use Rattle.attributes.specs.Checks.{two-tests, may-give, tests, may-do, passed, may-do-at, row-text}
 
 -- ---- the steps by the checks
@@ -106,6 +106,14 @@ module _ (c : Caller) (n : ℕ) (t : Place Node) (p : Path) where
   pub chown-checked : (owner : Uid) → run-chown c n t p owner ≡ (may-do (c .account) Chown t p >>= λ d. done (changed t p (set-owner owner)))
   unfolding run-chown tests
   chown-checked owner = after-tests (c .account) Chown t p (λ d. done (changed t p (set-owner owner)))
+
+-- into a directory, whatever follows
+pub enter-checked : {B : Type 0} (a : Account) (t : Place Node) (p : Path) (k : Place Node → Result B)
+    → (walk (by-modes a) t p >>= λ d. require (is-directory (d .here .kind)) WrongKind >> (require (allows a X (d .here)) Access >> k d)) ≡ (may-do a Enter t p >>= k)
+unfolding tests
+enter-checked a t p k =
+    by-two (walk (by-modes a) t p) (λ d. require (is-directory (d .here .kind)) WrongKind) (λ d. require (allows a X (d .here)) Access) k
+    ∙ after-tests a Enter t p k
 
 -- ---- the tests at a node
 

@@ -7,7 +7,7 @@ ghost use Rattle.tree.specs.Node.{is-directory};
 ghost use Rattle.tree.specs.RowAt.{row-at};
 ghost use Rattle.tree.specs.TreeBytes.{Has-row, Whole, Path-text, Whichever};
 ghost use Rattle.walks.specs.RowWalk.{outcome};
-ghost use Rattle.attributes.specs.declared.Deed.the-variants.{Write, Chmod};
+ghost use Rattle.attributes.specs.declared.Deed.the-variants.{Write, Chmod, Enter};
 ghost use Rattle.attributes.specs.Checks.{two-tests, may-give, tests, passed, may-do-at};
 use crate::Deed;
 use accounts::Account;
@@ -97,6 +97,16 @@ fn test_chmod(tree: &[u8], account: Account, row: usize, above: usize, mode: u16
     judged_twice(fits, Cause::WrongKind, owns, Cause::Reserved, row, above)
 }
 
+// A directory, with x.
+fn test_enter(tree: &[u8], account: Account, row: usize, above: usize) -> Walked
+    requires { ⌜ Has-row (now tree) row ⌝ }
+    ensures { λ r. ⌜ outcome r ≡ passed (tests account Enter (row-at (now (tree .entry)) row .here)) row above ⌝ }
+{
+    let directory = is_directory(kind_at(tree, row));
+    let may = may_at(tree, row, account, Right::X);
+    judged_twice(directory, Cause::WrongKind, may, Cause::Access, row, above)
+}
+
 // The tests of the deed.
 fn test(tree: &[u8], account: Account, row: usize, above: usize, deed: Deed) -> Walked
     requires { ⌜ Has-row (now tree) row ⌝ }
@@ -118,6 +128,7 @@ fn test(tree: &[u8], account: Account, row: usize, above: usize, deed: Deed) -> 
             above,
         ),
         Deed::Chown => judged(account.uid.is_root(), Cause::Reserved, row, above),
+        Deed::Enter => test_enter(tree, account, row, above),
     }
 }
 

@@ -1,4 +1,4 @@
-// The shell commands that read or change one place of a tree: `read`, `write`, `chmod`, `chgrp`, `chown`.
+// The shell commands that read or change one place of a tree: `read`, `write`, `chmod`, `chgrp`, `chown`; and the checks of `cd`.
 mod changes;
 mod checks;
 mod reading;
@@ -18,4 +18,5 @@ pub enum Deed {
     Chmod(u16),
     Chgrp(Gid),
     Chown,
+    Enter,
 }

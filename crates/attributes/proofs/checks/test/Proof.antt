@@ -43,6 +43,12 @@ is-root-requires c κs = search needs
 judged-requires-3 : tie.Need-judged-requires-3
 judged-requires-3 c κs = search needs
 
+enum-told-4 : tie.Need-enum-told-4
+enum-told-4 c = search needs
+
+test-enter-requires : tie.Need-test-enter-requires
+test-enter-requires c κs = search needs
+
 returns : tie.Need-returns
 unfolding tests
 returns c = rw (c .before .before .enum-told .given .1, ← c .before .may-at .ensures) (c .judged .ensures)
@@ -61,6 +67,9 @@ returns-5 : tie.Need-returns-5
 unfolding tests
 returns-5 c = rw (c .before .before .enum-told3 .given .1, ← c .before .is-root .ensures) (c .judged3 .ensures)
 
+returns-6 : tie.Need-returns-6
+returns-6 c = rw (c .before .enum-told4 .given .1) (c .test-enter .ensures)
+
 pub test-spec : {M : Type 1} → statement M
 test-spec =
     tie.close
@@ -78,8 +87,11 @@ test-spec =
     enum-told-3
     is-root-requires
     judged-requires-3
+    enum-told-4
+    test-enter-requires
     returns
     returns-2
     returns-3
     returns-4
-    returns-5)
+    returns-5
+    returns-6)
