@@ -6,11 +6,11 @@ const NAMES: [&str; 14] = ["rep", "u1", "u2", "u3", "a", "b", "c", "d", "e", "f"
 const PASSWORDS: [&str; 3] = ["oak", "elm", "ash"];
 const MODES: [&str; 14] =
     ["0755", "0755", "0777", "0777", "0700", "0770", "0600", "0644", "0444", "0040", "0711", "2775", "2750", "0000"];
-/// The last eight do not come where a store is to grow.
-const COMMANDS: [&str; 32] = [
+/// The last ten do not come where a store is to grow.
+const COMMANDS: [&str; 34] = [
     "create", "create", "create", "mkdir", "mkdir", "mkdir", "read", "write", "write", "mv", "mv", "login", "login", "add",
     "add", "add", "add", "co", "co", "co", "co", "commit", "commit", "up", "chmod", "chgrp", "chown", "rm", "rmdir", "del",
-    "del", "logout",
+    "del", "logout", "cd", "cd",
 ];
 
 /// Xorshift numbers.
@@ -124,9 +124,19 @@ impl Random {
         }
         if path.is_empty() {
             "/".to_string()
+        } else if self.once_in(3) {
+            self.shortened(&path)
         } else {
             path
         }
+    }
+
+    /// A path without its first names, or with more names than a path may have.
+    fn shortened(&mut self, path: &str) -> String {
+        let names: Vec<&str> = path.split('/').skip(1).collect();
+        let kept = if self.once_in(12) { 0 } else { self.below(names.len()) };
+        let more = if self.once_in(12) { "/a/b/c/d/e" } else { "" };
+        names[kept..].join("/") + more
     }
 
     fn entry(&mut self, store: &[u8], nodes: usize) -> String {
@@ -166,7 +176,7 @@ impl Random {
         let word = self.pick(if self.growing { &COMMANDS[..24] } else { &COMMANDS });
         let arguments = match word {
             "create" | "mkdir" | "chmod" => format!(",{},{}", self.path(store, nodes), self.pick(&MODES)),
-            "read" | "rm" | "rmdir" => format!(",{}", self.path(store, nodes)),
+            "read" | "rm" | "rmdir" | "cd" => format!(",{}", self.path(store, nodes)),
             "commit" | "up" => format!(",{}", self.tagged(store, nodes)),
             "write" => format!(",{},{}", self.path(store, nodes), self.content()),
             "mv" => format!(",{},{}", self.path(store, nodes), self.path(store, nodes)),

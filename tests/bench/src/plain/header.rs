@@ -1,13 +1,16 @@
-//! The header: accounts with their groups, sessions, role pairs and grants.
+//! The header: accounts with their groups, sessions, role pairs, grants and working directories.
 
-use super::rows::Header;
+use super::rows::{unpadded, Header};
+use super::text::Path;
 
 pub const SESSIONS: usize = 48;
 pub const PAIRS: usize = 64;
 pub const MOST_PAIRS: usize = 28;
 pub const GRANTS: usize = 121;
 pub const MOST_GRANTS: usize = 32;
-pub const SPARE: usize = 442;
+pub const DIRECTORIES: usize = 442;
+pub const DIRECTORY: usize = 54;
+pub const SPARE: usize = 1306;
 pub const SPARE_END: usize = 7422;
 
 /// A person's primary group, or 0 where there is no such person.
@@ -47,13 +50,29 @@ pub fn pairs(header: &Header) -> &[[u8; 2]] {
 
 /// The grants: uid, role, password.
 pub fn grants(header: &Header) -> &[[u8; 10]] {
-    let grants = header[GRANTS + 1..SPARE].as_chunks().0;
+    let grants = header[GRANTS + 1..DIRECTORIES].as_chunks().0;
     &grants[..header[GRANTS].into()]
 }
 
 pub fn has_grant(header: &Header, uid: u8, role: u8, password: u64) -> bool {
     let [a, b, c, d, e, f, g, h] = password.to_be_bytes();
     grants(header).contains(&[uid, role, a, b, c, d, e, f, g, h])
+}
+
+/// The accounts' working directories: a path's text each, then zeros.
+pub fn directories(header: &Header) -> &[[u8; DIRECTORY]] {
+    header[DIRECTORIES..SPARE].as_chunks().0
+}
+
+/// The working directory of an account, in a sound store.
+pub fn directory(header: &Header, uid: u8) -> Path<'_> {
+    Path::parse(unpadded(&directories(header)[usize::from(uid)])).expect("a sound store's are paths")
+}
+
+pub fn set_directory(header: &mut Header, uid: u8, path: &Path) {
+    let field = &mut header[DIRECTORIES + DIRECTORY * usize::from(uid)..][..DIRECTORY];
+    field.fill(0);
+    path.write(field);
 }
 
 /// The roles that a role dominates, a bit each: itself, and down every chain of pairs.

@@ -57,10 +57,11 @@ fn run_line(store: &mut [u8], line: &[u8], into: &mut [u8]) -> Outcome {
     if !sound::is_sound(store.header, store.rows) {
         return Err(UNSOUND);
     }
-    let (uid, command) = command::parse(line).ok_or(NO_FORM)?;
+    let (uid, mut command) = command::parse(line).ok_or(NO_FORM)?;
     if !header::is_caller(store.header, uid) {
         return Err(UNKNOWN_CALLER);
     }
+    command.join(store.header, uid)?;
     shell::run(&mut store, uid, &command, into)
 }
 

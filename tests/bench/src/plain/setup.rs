@@ -1,8 +1,8 @@
 //! Setup texts, and the fresh store they say.
 
-use super::header::{GRANTS, MOST_GRANTS, MOST_PAIRS, PAIRS, SPARE};
+use super::header::{DIRECTORIES, DIRECTORY, GRANTS, MOST_GRANTS, MOST_PAIRS, PAIRS};
 use super::rows::{new_row, Row, Store};
-use super::text::{name, number};
+use super::text::{name, number, Writer};
 use super::STORE;
 
 /// Makes the fresh store of a setup; or the first wrong line, from 1, and the store is left.
@@ -10,7 +10,14 @@ pub fn setup(bytes: &mut [u8; STORE], text: &[u8]) -> Result<(), u64> {
     let draft = parse(text)?;
     bytes.fill(0);
     let mut store = Store::of(bytes);
-    store.header[..SPARE].copy_from_slice(&draft.bytes);
+    store.header[..DIRECTORIES].copy_from_slice(&draft.bytes);
+    for uid in 0..16 {
+        let mut directory = Writer::new(&mut store.header[DIRECTORIES + DIRECTORY * usize::from(uid)..]);
+        directory.put(b"/");
+        if draft.bytes[3 * usize::from(uid)] != 0 {
+            directory.put_name(home(uid));
+        }
+    }
     let mut count = 0;
     let mut put = |row: Row| {
         store.rows[count] = row;
@@ -44,12 +51,12 @@ fn home(uid: u8) -> u64 {
 
 /// The header's used bytes while lines are read, and the kind of the last line: 0 to 3 for p, g, r, l.
 struct Draft {
-    bytes: [u8; SPARE],
+    bytes: [u8; DIRECTORIES],
     stage: u8,
 }
 
 fn parse(text: &[u8]) -> Result<Draft, u64> {
-    let mut draft = Draft { bytes: [0; SPARE], stage: 0 };
+    let mut draft = Draft { bytes: [0; DIRECTORIES], stage: 0 };
     let mut rest = text;
     for line in 1.. {
         let end = rest.iter().position(|&b| b == b'\n').ok_or(line)?;

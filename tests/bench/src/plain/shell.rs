@@ -1,6 +1,6 @@
-//! The shell's commands, each with its checks as listed.
+//! The shell's commands and `cd`, each with its checks as listed.
 
-use super::access::{Who, R, W};
+use super::access::{Who, R, W, X};
 use super::command::Command;
 use super::header;
 use super::number::*;
@@ -23,6 +23,7 @@ pub fn run(store: &mut Store, uid: u8, command: &Command, into: &mut [u8]) -> Ou
         Command::Chmod(path, mode) => chmod(store, &who, path, *mode),
         Command::Chgrp(path, gid) => chgrp(store, &who, path, *gid),
         Command::Chown(path, uid) => chown(store, &who, path, *uid),
+        Command::Cd(path) => cd(store, &who, path),
         _ => repository::run(store, &who, command),
     }?;
     Ok(None)
@@ -166,5 +167,15 @@ fn chown(store: &mut Store, who: &Who, path: &Path, uid: u8) -> Result<(), Numbe
         return Err(RESERVED);
     }
     store.rows[at].set_owner(uid);
+    Ok(())
+}
+
+fn cd(store: &mut Store, who: &Who, path: &Path) -> Result<(), Number> {
+    let at = store.walk(who, path.names())?.at;
+    if !store.rows[at].is_directory() {
+        return Err(WRONG_KIND);
+    }
+    store.need(who, at, X)?;
+    header::set_directory(store.header, who.uid, path);
     Ok(())
 }

@@ -1,6 +1,7 @@
 //! Whether a store is sound: exactly the bytes of some tree, sessions and setup with every value in range.
 
-use super::header::{grants, is_caller, pairs, primary, GRANTS, MOST_GRANTS, MOST_PAIRS, PAIRS, SESSIONS, SPARE, SPARE_END};
+use super::header::{directories, grants, is_caller, pairs, primary};
+use super::header::{DIRECTORIES, DIRECTORY, GRANTS, MOST_GRANTS, MOST_PAIRS, PAIRS, SESSIONS, SPARE, SPARE_END};
 use super::rows::{count, unpadded, Fields, Header, Row, LAST_REVISION, MOST_NAMES, MOST_NODES, SET_GID};
 use super::text::{is_content_byte, is_name, Path};
 
@@ -22,7 +23,7 @@ fn is_header(header: &Header) -> bool {
     let persons = header[..SESSIONS].as_chunks().0;
     let sessions = &header[SESSIONS..PAIRS];
     let unused_pairs = &header[PAIRS + 1 + 2 * pairs(header).len()..GRANTS];
-    let unused_grants = &header[GRANTS + 1 + 10 * grants(header).len()..SPARE];
+    let unused_grants = &header[GRANTS + 1 + 10 * grants(header).len()..DIRECTORIES];
     primary(header, 0) == 0
         && persons.iter().all(is_person)
         && sessions.iter().all(|&session| session <= 8)
@@ -30,6 +31,7 @@ fn is_header(header: &Header) -> bool {
         && grants(header).iter().all(|grant| is_grant(header, grant))
         && is_zero(unused_pairs)
         && is_zero(unused_grants)
+        && directories(header).iter().all(is_directory)
         && is_zero(&header[SPARE..SPARE_END])
 }
 
@@ -44,6 +46,12 @@ fn is_person(&[primary, low, high]: &[u8; 3]) -> bool {
 
 fn is_grant(header: &Header, &[uid, role, a, b, c, d, e, f, g, h]: &[u8; 10]) -> bool {
     is_caller(header, uid) && role < 8 && is_name(u64::from_be_bytes([a, b, c, d, e, f, g, h]))
+}
+
+/// A path, then zeros.
+fn is_directory(field: &[u8; DIRECTORY]) -> bool {
+    let path = unpadded(field);
+    Path::parse(path).is_some() && is_zero(&field[path.len()..])
 }
 
 fn is_tree(count: usize, rows: &[Row]) -> bool {

@@ -26,25 +26,73 @@ pub fn is_name(number: u64) -> bool {
     number != 0 && bytes[..8 - zeros].iter().all(|&b| is_name_byte(b))
 }
 
-/// A path with its text and its names; `/` has none.
+/// A path as it is typed: its text and its names; `/` has none. A short one follows the working directory.
 pub struct Path<'a> {
     pub text: &'a [u8],
     names: [u64; MOST_NAMES],
     length: usize,
+    is_short: bool,
 }
 
+const REP: u64 = u64::from_be_bytes(*b"rep\0\0\0\0\0");
+
 impl<'a> Path<'a> {
+    /// `/`, or names each after a `/`.
     pub fn parse(text: &'a [u8]) -> Option<Self> {
-        let mut path = Path { text, names: [0; MOST_NAMES], length: 0 };
-        let names = text.strip_prefix(b"/")?;
-        if names.is_empty() {
-            return Some(path);
+        match text {
+            b"/" => Some(Path { text, names: [0; MOST_NAMES], length: 0, is_short: false }),
+            [b'/', names @ ..] => Self::parse_names(text, names, false),
+            _ => None,
         }
+    }
+
+    /// A path, or the names of a short one.
+    pub fn parse_typed(text: &'a [u8]) -> Option<Self> {
+        if text.starts_with(b"/") {
+            Self::parse(text)
+        } else {
+            Self::parse_names(text, text, true)
+        }
+    }
+
+    fn parse_names(text: &'a [u8], names: &[u8], is_short: bool) -> Option<Self> {
+        let mut path = Path { text, names: [0; MOST_NAMES], length: 0, is_short };
         for part in names.split(|&b| b == b'/') {
             *path.names.get_mut(path.length)? = name(part)?;
             path.length += 1;
         }
         Some(path)
+    }
+
+    /// Puts a working directory in front of a short path, if that is not too deep.
+    pub fn join(&mut self, directory: &Path) -> Option<()> {
+        if self.is_short {
+            let length = directory.length + self.length;
+            if length > MOST_NAMES {
+                return None;
+            }
+            self.names.copy_within(..self.length, directory.length);
+            self.names[..directory.length].copy_from_slice(directory.names());
+            self.length = length;
+            self.is_short = false;
+        }
+        Some(())
+    }
+
+    pub fn is_short(&self) -> bool {
+        self.is_short
+    }
+
+    /// Writes the text of a whole path.
+    pub fn write(&self, into: &mut [u8]) {
+        let mut writer = Writer::new(into);
+        if self.length == 0 {
+            writer.put(b"/");
+        }
+        for name in self.names() {
+            writer.put(b"/");
+            writer.put_name(*name);
+        }
     }
 
     /// A path of at least two names, the first `rep`.
@@ -60,7 +108,7 @@ impl<'a> Path<'a> {
     }
 
     pub fn is_reserved(&self) -> bool {
-        self.text == b"/" || self.text == b"/rep"
+        matches!(self.names(), [] | [REP])
     }
 }
 
