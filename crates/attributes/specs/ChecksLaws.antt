@@ -5,7 +5,7 @@
 --   the tests at a node, one by one: passes to passes-first;
 --   the decision, from the walk and the tests at the row: tested, not-walked;
 --   the text of a row: file-text to text-there;
---   the commands, from the decision: refused-there, changed-there, told-there, row-used, row-there.
+--   the commands, from the decision: decided-refused to told-there, row-used, row-there.
 use mathlib.Core.Path.{_≡_, sym, _∙_, ap}
 use mathlib.Core.List.{List, _++_}
 use mathlib.Core.Option.{none, some}
@@ -25,7 +25,7 @@ use Rattle.syntax.specs.Path.{Path, path}
 use Rattle.tree.specs.declared.Kind.the-variants.{File, Directory}
 use Rattle.tree.specs.declared.Cause.{Cause}
 use Rattle.tree.specs.declared.Cause.the-variants.{Access, WrongKind, Reserved}
-use Rattle.tree.specs.Result.{Result, done, _>>=_, _>>_, require, Outcome}
+use Rattle.tree.specs.Result.{Result, refused, done, _>>=_, _>>_, require, Outcome}
 use Rattle.tree.specs.ResultLaws.{bind-done, then-done, done-then, refused-then, done-bind, refused-bind}
 use Rattle.tree.specs.ResultLaws.{require-true, require-false, then-then, then-bind, bind-bind}
 use Rattle.tree.specs.Forest.{Place, place-at, update, alter}
@@ -191,24 +191,25 @@ leads a deed t p d e =
 
 module _ {b : List ℕ} {t : Place Node} (tree : Encodes b t) (a : Account) (deed : Deed) (p : Path) {r : Walked}
     (same : outcome r ≡ may-do-at a deed t p) where
-  came-there : {row above : ℕ} → r ≡ To row above → Came b t p (may-do a deed t p) row above
+  pub came-there : {row above : ℕ} → r ≡ To row above → Came b t p (may-do a deed t p) row above
   came-there e = came-to tree (may-do a deed t p) p same (leads a deed t p) e
+
+  module _ {B : Type 0} (k : Place Node → Result B) where
+    -- a refused decision is the refusal of all that follows
+    pub decided-refused : {cause : Cause} → r ≡ Refused cause → (may-do a deed t p >>= k) ≡ refused cause
+    decided-refused {cause} e = ap (λ (x : Result (Place Node)). x >>= k) (came-not tree (may-do a deed t p) p same e) ∙ refused-bind cause k
+
+    -- after one that is not it goes on at the row's place
+    pub decided-there : {row above : ℕ} (e : r ≡ To row above) → (may-do a deed t p >>= k) ≡ k (came-there e .place)
+    decided-there e = let c = came-there e in ap (λ (x : Result (Place Node)). x >>= k) (c .walked) ∙ done-bind (c .place) k
 
   module _ {steps : Result (Outcome (Place Node))} (k : Place Node → Outcome (Place Node))
       (checked : steps ≡ (may-do a deed t p >>= λ d. done (k d))) where
-    -- a refused decision is the refusal of the steps
     pub refused-there : {cause : Cause} → r ≡ Refused cause → Follows-silently steps b (the-variants.Refused cause) b
-    refused-there {cause} e =
-        refusal-follows b
-        (checked
-        ∙ ap (λ (x : Result (Place Node)). x >>= λ d. done (k d)) (came-not tree (may-do a deed t p) p same e)
-        ∙ refused-bind cause (λ d. done (k d)))
+    refused-there e = refusal-follows b (checked ∙ decided-refused (λ d. done (k d)) e)
 
-    -- after one that is not the steps are done at the row's place
     done-there : {row above : ℕ} (e : r ≡ To row above) → steps ≡ done (k (came-there e .place))
-    done-there e =
-        let c = came-there e in
-        checked ∙ ap (λ (x : Result (Place Node)). x >>= λ d. done (k d)) (c .walked) ∙ done-bind (c .place) (λ d. done (k d))
+    done-there e = checked ∙ decided-there (λ d. done (k d)) e
 
   module _ {steps : Result (Outcome (Place Node))} {row above : ℕ} (e : r ≡ To row above) where
     -- one node changed
