@@ -14,6 +14,7 @@ pub mod Parts
 pub mod PartsLaws
 pub mod PathPartsLaws
 pub mod ParentLaws
+pub mod FollowsLaws
 pub mod PathTextLaws
 pub mod FieldPartsLaws
 pub mod Compute

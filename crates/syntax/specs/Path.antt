@@ -107,16 +107,41 @@ unfoldable pub extended : Path → List Name → Path
 extended p [] = p
 extended p (n ∷ ns) = extended (p ▹ n) ns
 
+-- 1 to 6 names
+abbrev pub some-names : List Text → Option Path
+some-names ns = do
+  check (every is-name ns && (leb 1 (length ns) && leb (length ns) most-names))
+  some (extended root ns)
+
 -- 1 to 6 names each after a `/`: the pieces at `/` are nothing and then the names
 unfoldable pub names-from-top : List Text → Option Path
 names-from-top [] = none
 names-from-top ((b ∷ t) ∷ ns) = none
-names-from-top ([] ∷ ns) = do
-  check (every is-name ns && (leb 1 (length ns) && leb (length ns) most-names))
-  some (extended root ns)
+names-from-top ([] ∷ ns) = some-names ns
 
 unfoldable pub path : Text → Option Path
 path t = cond (same-text t (bytes "/")) (some root) (names-from-top (pieces 47 t))
+
+-- a path as it is typed: from `/`, or one to six names that follow the working directory
+pub data Typed-path : Type 0 where
+  whole short : Path → Typed-path
+
+unfoldable pub begins-with-slash : Text → Bool
+begins-with-slash [] = false
+begins-with-slash (b ∷ t) = eqb b 47
+
+unfoldable pub typed-path : Text → Option Typed-path
+typed-path t = cond (begins-with-slash t) (path t >>= λ p. some (whole p)) (some-names (pieces 47 t) >>= λ p. some (short p))
+
+-- the path p behind the path q
+unfoldable pub follows : Path → Path → Path
+follows q root = q
+follows q (p ▹ n) = follows q p ▹ n
+
+-- its names are those of a path
+unfoldable pub is-typed-path : Typed-path → Bool
+is-typed-path (whole p) = is-path p
+is-typed-path (short p) = is-path p
 
 -- an entry path has at least two names, the first `rep`
 unfoldable pub without-rep : Path → Option Path

@@ -130,11 +130,9 @@ lies-text {p} (deeper {n = n} l) = elim (lies-text l) [
   | inr e ↦ inr (e .0 ++ (47 ∷ n), ap (λ (s : Text). s ++ (47 ∷ n)) (e .1) ∙ append-assoc (names-text p) (47 ∷ e .0) (47 ∷ n))
 ]
 
-names-back : (p : Path) → is-path p ≡ true → 1 ≤ depth p → names-from-top (pieces 47 (names-text p)) ≡ some p
-unfolding is-path names-from-top check _>>_
-names-back p h l =
-    let i : _ = and-both (has-names p) (leb (depth p) most-names) h in
-    rw (pieces-names p (i .0), every-names p, i .0, length-names p, le-leb 1 (depth p) l, i .1, extended-names p)
+names-back : (p : Path) → has-names p ≡ true → 1 ≤ depth p → names-from-top (pieces 47 (names-text p)) ≡ (check (leb (depth p) most-names) >> some p)
+unfolding names-from-top
+names-back p h l = rw (pieces-names p h, every-names p, h, length-names p, le-leb 1 (depth p) l, extended-names p)
 
 -- the text of one or more names is not `/`
 not-top : (p : Path) (n : Name) → is-name n ≡ true → same-text (names-text (p ▹ n)) (bytes "/") ≡ false
@@ -146,13 +144,20 @@ not-top p n h = case (same-text (names-text (p ▹ n)) (bytes "/"))
     absurd z)
     (λ t. t)
 
--- the text of a path is read as that path
+-- the text of names is read as the path of these, where they are not too many
+pub path-of-names : (p : Path) (n : Name) → has-names (p ▹ n) ≡ true → path (names-text (p ▹ n)) ≡ (check (leb (depth (p ▹ n)) most-names) >> some (p ▹ n))
+unfolding path has-names depth
+path-of-names p n h =
+    let i : _ = and-both (has-names p) (is-name n) h in
+    rw (not-top p n (i .1)) (names-back (p ▹ n) h (omega arith))
+
+-- so the text of a path is read as that path
 pub path-of-text : (p : Path) → is-path p ≡ true → path (path-text p) ≡ some p
-unfolding path path-text is-path has-names same-text bytes depth
+unfolding path path-text is-path same-text bytes check _>>_
 path-of-text root h = refl
 path-of-text (p ▹ n) h =
-    let i : _ = and-both (has-names p) (is-name n) (and-both (has-names (p ▹ n)) (leb (depth (p ▹ n)) most-names) h .0) in
-    rw (not-top p n (i .1)) (names-back (p ▹ n) h (omega arith))
+    let i : _ = and-both (has-names (p ▹ n)) (leb (depth (p ▹ n)) most-names) h in
+    rw (path-of-names p n (i .0), i .1)
 
 has-names-extended : (q : Path) (ns : List Name) → has-names q ≡ true → every is-name ns ≡ true → has-names (extended q ns) ≡ true
 unfolding extended has-names every

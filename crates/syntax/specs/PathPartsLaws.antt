@@ -2,7 +2,7 @@
 -- and what the readers of names give of a path.
 use mathlib.Core.Path.{_≡_, refl, sym, ap, _∙_}
 use mathlib.Core.List.{List, [], _∷_, _++_}
-use mathlib.Core.Option.{none, some}
+use mathlib.Core.Option.{Option, none, some}
 use mathlib.Core.Bool.{Bool, true, false, _&&_, and-false}
 use Prim.Native.Nat.{ℕ, zero, suc, _+_, _≤_, _<_}
 use native.Mathlib.Omega.{arith}
@@ -15,7 +15,7 @@ use Rattle.buffers.specs.Text.{Text, same-text, every}
 use Rattle.buffers.specs.TextLaws.{same-text-refl, same-text-sound}
 use Rattle.syntax.specs.Pieces.{bytes, prefix-first, pieces, joined, piece-length}
 use Rattle.syntax.specs.Form.{_>>=_, _>>_, check, is-some}
-use Rattle.syntax.specs.Path.{Name, Path, root, _▹_, rep, is-name, most-names, extended, names-from-top, path, without-rep, entry-at, entry-path}
+use Rattle.syntax.specs.Path.{Name, Path, root, _▹_, rep, is-name, most-names, extended, some-names, names-from-top, path, whole, short, begins-with-slash, typed-path, without-rep, entry-at, entry-path}
 use Rattle.syntax.specs.PathLaws.{name-length}
 use Rattle.syntax.specs.FormLaws.{checked, answered}
 use Rattle.syntax.specs.declared.NextName.the-variants
@@ -97,14 +97,41 @@ path-pieces [] h e = let z : ⊥ = omega arith in absurd z
 path-pieces (b ∷ []) h e = let z : ⊥ = omega arith in absurd z
 path-pieces (b ∷ (c ∷ t)) h e = rw (eq-eqb b 47 e)
 
--- whether it is one, by the names left to read
-pub path-is-names : (t : Text) → 1 < length t → getD t 0 0 ≡ 47 → is-some (path t) ≡ names-left 0 (pieces 47 (drop 1 t))
-unfolding names-left names-from-top
-path-is-names t h e =
-    let ns : List Text = pieces 47 (drop 1 t) in
+-- whether pieces are names, by the names left to read
+pub names-are : (t : Text) → is-some (some-names (pieces 47 t)) ≡ names-left 0 (pieces 47 t)
+unfolding names-left
+names-are t =
+    let ns : List Text = pieces 47 t in
     let many : 0 + length ns ≡ length ns = omega arith in
     let all : _ = check-some (every is-name ns && (leb 1 (length ns) && leb (length ns) most-names)) (extended root ns) in
-    rw (path-pieces t h e, many, all, le-leb 1 (length ns) (pieces-some 47 (drop 1 t)))
+    rw (many, all, le-leb 1 (length ns) (pieces-some 47 t))
+
+-- whether it is one, by the names behind its `/`
+pub path-is-names : (t : Text) → 1 < length t → getD t 0 0 ≡ 47 → is-some (path t) ≡ is-some (some-names (pieces 47 (drop 1 t)))
+unfolding names-from-top
+path-is-names t h e = rw (path-pieces t h e)
+
+-- ---- paths as they are typed
+
+map-is-some : {A B : Type 0} (o : Option A) (f : A → B) → is-some (o >>= λ a. some (f a)) ≡ is-some o
+unfolding _>>=_ is-some
+map-is-some none f = refl
+map-is-some (some a) f = refl
+
+pub typed-empty : (t : Text) → length t ≡ 0 → is-some (typed-path t) ≡ false
+unfolding typed-path begins-with-slash pieces every check _>>_ _>>=_ is-some is-name
+typed-empty [] h = refl
+typed-empty (b ∷ t) h = let z : ⊥ = omega arith in absurd z
+
+pub typed-whole : (t : Text) → 0 < length t → getD t 0 0 ≡ 47 → is-some (typed-path t) ≡ is-some (path t)
+unfolding typed-path begins-with-slash
+typed-whole [] h e = let z : ⊥ = omega arith in absurd z
+typed-whole (b ∷ t) h e = rw (eq-eqb b 47 e) (map-is-some (path (b ∷ t)) whole)
+
+pub typed-short : (t : Text) → 0 < length t → (getD t 0 0 ≡ 47 → ⊥) → is-some (typed-path t) ≡ is-some (some-names (pieces 47 (drop 0 t)))
+unfolding typed-path begins-with-slash
+typed-short [] h f = let z : ⊥ = omega arith in absurd z
+typed-short (b ∷ t) h f = rw (ne-eqb b 47 f) (map-is-some (some-names (pieces 47 (b ∷ t))) short)
 
 entry-goes-on : (p : Path) (m n : Name) (ns : List Name) → is-some (entry-at (extended (p ▹ m ▹ n) ns)) ≡ is-some (without-rep (p ▹ m))
 unfolding extended entry-at without-rep

@@ -14,6 +14,7 @@ pub use parts::number_at;
 pub use parts::word_is;
 pub use paths::is_entry_path;
 pub use paths::is_path;
+pub use paths::is_typed_path;
 pub use paths::last_slash;
 pub use render::write_decimal;
 pub use render::write_mode;

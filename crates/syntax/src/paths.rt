@@ -1,9 +1,10 @@
 // Paths: their form, and their names one after another.
 ghost use mathlib.Core.Path.{_≡_};
 ghost use Prim.Native.Nat.{_≤_};
-ghost use lib.ListN.{length};
+ghost use lib.ListN.{length, drop};
+ghost use Rattle.syntax.specs.Pieces.{pieces};
 ghost use Rattle.syntax.specs.Form.{is-some};
-ghost use Rattle.syntax.specs.Path.{path, entry-path};
+ghost use Rattle.syntax.specs.Path.{some-names, path, typed-path, entry-path};
 ghost use Rattle.syntax.specs.Parts.{next-name, last-slash};
 use crate::MOST_NAMES;
 use crate::Names;
@@ -12,20 +13,12 @@ use crate::text::is_name;
 use crate::text::piece_end;
 use buffers::same;
 
-// Whether a text is a path: `/`, or 1 to 6 names each after a `/`.
-pub fn is_path(s: &[u8]) -> bool
-    ensures { λ r. ⌜ r ≡ is-some (path (now (s .entry))) ⌝ }
+// Whether a text from a place on is 1 to 6 names parted by `/`.
+fn are_names(s: &[u8], from: usize) -> bool
+    requires { ⌜ from ≤ length (now s) ⌝ }
+    ensures { λ r. ⌜ r ≡ is-some (some-names (pieces 47 (drop from (now (s .entry))))) ⌝ }
 {
-    if s.len() == 0 {
-        return false;
-    }
-    if s[0] != 47 {
-        return false;
-    }
-    if s.len() == 1 {
-        return true;
-    }
-    let mut at: usize = 1;
+    let mut at = from;
     let mut count: usize = 0;
     loop {
         let end = piece_end(s, at, 47);
@@ -41,6 +34,35 @@ pub fn is_path(s: &[u8]) -> bool
         at = end + 1;
         count += 1;
     }
+}
+
+// Whether a text is a path: `/`, or 1 to 6 names each after a `/`.
+pub fn is_path(s: &[u8]) -> bool
+    ensures { λ r. ⌜ r ≡ is-some (path (now (s .entry))) ⌝ }
+{
+    if s.len() == 0 {
+        return false;
+    }
+    if s[0] != 47 {
+        return false;
+    }
+    if s.len() == 1 {
+        return true;
+    }
+    are_names(s, 1)
+}
+
+// Whether a text is a path as it is typed: from `/`, or from the working directory.
+pub fn is_typed_path(s: &[u8]) -> bool
+    ensures { λ r. ⌜ r ≡ is-some (typed-path (now (s .entry))) ⌝ }
+{
+    if s.len() == 0 {
+        return false;
+    }
+    if s[0] == 47 {
+        return is_path(s);
+    }
+    are_names(s, 0)
 }
 
 // Whether a text is an entry path: a path of at least two names, the first `rep`.
