@@ -39,12 +39,22 @@ pairs-width = 57
 abbrev pub grants-width : ℕ
 grants-width = 321
 
+-- the accounts' working directories, a path's text each
+abbrev pub directories-offset : ℕ
+directories-offset = 442
+
+abbrev pub directory-width : ℕ
+directory-width = 54
+
+abbrev pub directories-width : ℕ
+directories-width = 864
+
 -- zeros up to the header's end
 abbrev pub spare-offset : ℕ
-spare-offset = 442
+spare-offset = 1306
 
 abbrev pub spare-width : ℕ
-spare-width = 6980
+spare-width = 6116
 
 -- the whole header; the tree begins behind it
 abbrev pub header-width : ℕ
@@ -53,9 +63,12 @@ header-width = 7422
 abbrev pub Wide-header : List ℕ → Type 0
 Wide-header b = length b ≡ header-width
 
--- where the pair and the grant of an index begin
+-- where the pair, the grant and the working directory of an index begin
 abbrev pub pair-start : ℕ → ℕ
 pair-start i = pairs-offset + 1 + pair-width * i
 
 abbrev pub grant-start : ℕ → ℕ
 grant-start i = grants-offset + 1 + grant-width * i
+
+abbrev pub directory-start : ℕ → ℕ
+directory-start i = directories-offset + directory-width * i

@@ -1,5 +1,5 @@
--- The initial state (document 01's fresh store): `/`, `/rep`, a home for each person, and no sessions.
-use mathlib.Core.List.{[], _++_}
+-- The initial state (document 01's fresh store): `/`, `/rep`, a home for each person, who works there, and no sessions.
+use mathlib.Core.List.{List, [], _∷_, _++_}
 use mathlib.Core.Option.{Option, none, some}
 use Prim.Native.Nat.{ℕ, zero, suc}
 use lib.ListN.{replicate}
@@ -7,12 +7,12 @@ use Rattle.accounts.specs.declared.Uid.{Uid}
 use Rattle.accounts.specs.declared.Gid.{Gid}
 use Rattle.syntax.specs.Pieces.{bytes}
 use Rattle.syntax.specs.Number.{octal, decimal-text}
-use Rattle.syntax.specs.Path.{Name, rep}
+use Rattle.syntax.specs.Path.{Name, rep, Path, root, _▹_}
 use Rattle.setup.specs.Setup.{Person, Setup, accounts, person}
 use Rattle.tree.specs.declared.Kind.the-variants.{Directory}
 use Rattle.tree.specs.Forest.{Forest, no-nodes, Place, insert, leaf}
 use Rattle.tree.specs.Node.{Node}
-use Rattle.store.specs.State.{Sessions, Store}
+use Rattle.store.specs.State.{Sessions, Registry, Store}
 
 unfoldable pub directory-of : Uid → Gid → ℕ → Node
 directory-of owner group mode = record { kind = Directory; owner = owner; group = group; mode = mode; revision = 0; tag = none; content = [] }
@@ -52,5 +52,18 @@ initial-tree setup = topped (homes setup accounts)
 unfoldable pub no-sessions : Sessions
 no-sessions = replicate accounts none
 
+-- a person begins at home; root, and an account that is no person's, at `/`
+unfoldable pub first-directory : Uid → Option Person → Path
+first-directory uid none = root
+first-directory uid (some who) = root ▹ home-name uid
+
+-- of the accounts from k on
+unfoldable pub first-directories : ℕ → List (Option Person) → List Path
+first-directories k [] = []
+first-directories k (o ∷ os) = first-directory (record { 0 = k }) o ∷ first-directories (suc k) os
+
+unfoldable pub initial-registry : Setup → Registry
+initial-registry setup = record { sessions = no-sessions; directories = first-directories 0 (setup .persons) }
+
 unfoldable pub initial-store : Setup → Store
-initial-store setup = record { tree = initial-tree setup; sessions = no-sessions }
+initial-store setup = record { tree = initial-tree setup; registry = initial-registry setup }

@@ -6,7 +6,8 @@
 // | sessions of accounts 0 to 15: role + 1, or 0 | 48 | 16 of 1 |
 // | role pairs: how many, then senior, junior | 64 | 1 + 28 of 1 + 1 |
 // | grants: how many, then uid, role, password | 121 | 1 + 32 of 1 + 1 + 8 |
-// | zero | 442 | 6980 |
+// | working directories of accounts 0 to 15 | 442 | 16 of 54 |
+// | zero | 1306 | 6116 |
 //
 // The specification's offsets are in specs/HeaderLayout.antt; a proof fails where the two differ.
 
@@ -35,5 +36,10 @@ pub const PASSWORD: usize = 2;
 
 pub const PASSWORD_WIDTH: usize = 8;
 
+pub const DIRECTORIES: usize = 442;
+
+// The bytes of a working directory: a path's text, filled up with zeros.
+pub const DIRECTORY: usize = 54;
+
 // Where the zeros begin that end the header.
-pub const SPARE: usize = 442;
+pub const SPARE: usize = 1306;

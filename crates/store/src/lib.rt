@@ -5,6 +5,8 @@ mod layout;
 use accounts::Gid;
 use accounts::Groups;
 pub use initial::write_initial;
+pub use layout::DIRECTORIES;
+pub use layout::DIRECTORY;
 pub use layout::GRANT;
 pub use layout::GRANTS;
 pub use layout::HEADER;
