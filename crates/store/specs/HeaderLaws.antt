@@ -1,116 +1,48 @@
--- The header of the store: it always takes as many bytes, and setup and sessions are read back from it.
+-- The header of the store: it always takes as many bytes, setup and registry are read back from it, and an account's session or
+-- working directory written in its place makes the header of the registry with it.
 use mathlib.Core.Path.{_≡_, refl, sym, _∙_, ap}
-use mathlib.Core.List.{List, [], _∷_, _++_, append-assoc, append-nil}
-use mathlib.Core.Option.{Option, none, some}
-use mathlib.Core.Bool.{Bool, true, false, _&&_, _||_, Bool-set}
-use Prim.Native.Nat.{ℕ, zero, suc, _+_, _≤_, _<_, _%_}
+use mathlib.Core.List.{List, [], _++_, append-assoc, append-nil}
+use mathlib.Core.Option.{Option, none}
+use mathlib.Core.Bool.{true}
+use Prim.Native.Nat.{ℕ, _+_, _*_, _<_}
 use native.Mathlib.Omega.{arith}
-use native.Mathlib.Nat.{zero-add, suc-add}
-use lib.Dec.{eqb, leb, ltb}
-use lib.ListN.{length, getD, set, drop, replicate, length-append, length-replicate, List·getD-append}
-use lib.Seq.{drop-at, getD-append-add, set-append-left}
-use borrow.Author.Tests.{ne-eqb, leb-true}
-use Rattle.buffers.specs.Cases.{and-both, contra}
-use Rattle.buffers.specs.Text.{every, lacks}
-use Rattle.buffers.specs.Fields.{two-bytes, number-at, padded, text-at, all-bytes, all-from, table-bytes, table-from}
-use Rattle.buffers.specs.FieldsLaws.{length-two-bytes, number-at-bytes, length-padded, text-at-padded}
-use Rattle.buffers.specs.TableLaws.{length-all-bytes, length-table, all-from-bytes, table-from-bytes}
-use Rattle.accounts.specs.Access.{is-root}
+use lib.ListN.{length, getD, set, take, drop, replicate, length-append, length-replicate}
+use lib.Seq.{paste, drop-drop}
+use Rattle.buffers.specs.Text.{every}
+use Rattle.buffers.specs.Fields.{text-at, all-bytes, all-from}
+use Rattle.buffers.specs.FieldsLaws.{length-padded, text-at-padded, text-there}
+use Rattle.buffers.specs.TableLaws.{length-all-bytes, all-bytes-at, all-from-bytes}
+use Rattle.accounts.specs.declared.Uid.{Uid}
 use Rattle.accounts.specs.Dominance.{Bounded-role}
-use Rattle.accounts.specs.PairBytes.{pair-bytes, pair-of, length-pair, pair-back}
-use Rattle.syntax.specs.Path.{is-name}
-use Rattle.syntax.specs.PathLaws.{name-fits}
-use Rattle.syntax.specs.Field.{bounded, bounded-by}
-use Rattle.syntax.specs.Form.{is-some}
-use Rattle.setup.specs.Setup.{Person, Grant, Setup, accounts, most-pairs, most-grants, person, is-person, is-slot, is-pair, is-grant, is-setup}
-use Rattle.setup.specs.SetupLaws.{apart}
-use Rattle.store.specs.HeaderLayout.{sessions-offset, pair-width, grant-width, grants-offset, grants-width, header-width, spare-width, pairs-offset, pairs-width}
-use Rattle.store.specs.State.{Sessions}
-use Rattle.store.specs.StoreBytes.{slot-bytes, slot-of, session-byte, session-of, grant-bytes, grant-of, header-bytes, setup-of, sessions-of}
+use Rattle.syntax.specs.Path.{Path, root, is-path, path-text}
+use Rattle.syntax.specs.PathLaws.{path-of-text, path-text-fits}
+use Rattle.setup.specs.Setup.{Setup, accounts, is-setup}
+use Rattle.store.specs.HeaderLayout.{sessions-offset, directories-offset, directory-width, directories-width, directory-start, spare-width, header-width}
+use Rattle.store.specs.State.{Registry, set-session, working-directory, set-directory, is-registry}
+use Rattle.store.specs.RegistryLaws.{registry-parts, working-directory-is-path}
+use Rattle.store.specs.StoreBytes.{session-byte, directory-bytes, path-or-root, directory-from, front-bytes, header-bytes, setup-of, sessions-of, directories-of, registry-of}
+use Rattle.store.specs.ValuesLaws.{value-replaced}
+use Rattle.store.specs.FrontLaws.{front-before, length-front, behind-front, paste-behind-front, setup-of-front, sessions-of-front, session-in-front, front-with-session}
 
--- ---- one value
+-- ---- one working directory
 
-person-number : (p : Person) → is-person p ≡ true → eqb (p .primary .0) 0 ≡ false
-unfolding is-person
-person-number p h =
-    let i = and-both (leb 1 (p .primary .0) && leb (p .primary .0) 15) (ltb (p .further .0) 65536 && eqb (p .further .0 % 2) 0) h in
-    let j = leb-true 1 (p .primary .0) (and-both (leb 1 (p .primary .0)) (leb (p .primary .0) 15) (i .0) .0) in
-    ne-eqb (p .primary .0) 0 (λ e. omega arith)
+-- a path takes its width
+pub length-directory : (p : Path) → is-path p ≡ true → length (directory-bytes p) ≡ directory-width
+unfolding directory-bytes
+length-directory p h = length-padded directory-width (path-text p) (path-text-fits p h .0)
 
--- an account takes 3 bytes
-pub length-slot : (o : Option Person) → is-slot o ≡ true → length (slot-bytes o) ≡ 3
-unfolding slot-bytes
-length-slot none h = refl
-length-slot (some p) h = rw (length-two-bytes (p .further .0))
+-- its text stands in its bytes, before whatever follows
+directory-text : (p : Path) → is-path p ≡ true → text-at 0 directory-width (directory-bytes p) ≡ path-text p
+unfolding directory-bytes
+directory-text p h =
+    let f = path-text-fits p h in
+    rw append-nil at (text-at-padded [] [] 0 directory-width (path-text p) refl (f .0) (f .1))
 
-slot-back : (o : Option Person) → is-slot o ≡ true → slot-of (slot-bytes o) ≡ o
-unfolding slot-bytes slot-of is-slot
-slot-back none h = refl
-slot-back (some p) h =
-    let n : number-at 1 (p .primary .0 ∷ two-bytes (p .further .0)) ≡ p .further .0 =
-    rw append-nil at (number-at-bytes (p .primary .0 ∷ []) [] 1 (p .further .0) refl) in
-    rw (person-number p h) (λ i. some (record { primary = p .primary; further = record { 0 = n i } }))
+directory-back : (p : Path) → is-path p ≡ true → directory-from (directory-bytes p) ≡ p
+unfolding directory-from path-or-root
+directory-back p h = rw (directory-text p h, path-of-text p h)
 
-bounded-back : (z : Bounded-role) (small : Bool) (e : ltb (z .role .0) 8 ≡ small) → bounded-by (z .role .0) small e ≡ some z
-unfolding bounded-by
-bounded-back z true e = λ i. some (record { role = z .role; bound = Bool-set (ltb (z .role .0) 8) true e (z .bound) i })
-bounded-back z false e = contra (z .bound) e
-
-session-back : (z : Option Bounded-role) → session-of (session-byte z) ≡ z
-unfolding session-byte session-of bounded
-session-back none = refl
-session-back (some z) = bounded-back z (ltb (z .role .0) 8) refl
-
--- a session's byte as a field, and the test that every session passes
-one-session : Option Bounded-role → List ℕ
-one-session z = session-byte z ∷ []
-
-any-session : Option Bounded-role → Bool
-any-session z = true
-
-every-session : (z : Sessions) → every any-session z ≡ true
-unfolding every any-session
-every-session [] = refl
-every-session (a ∷ z) = every-session z
-
-length-session : (z : Option Bounded-role) → any-session z ≡ true → length (one-session z) ≡ 1
-unfolding one-session
-length-session z t = refl
-
--- a password fits its field, and has no zero
-pub grant-password : (u : Setup) (g : Grant) → is-grant u g ≡ true → (length (g .password) ≤ 8) × (lacks 0 (g .password) ≡ true)
-unfolding is-grant
-grant-password u g h =
-    let i = and-both (is-root (g .uid) || is-some (person u (g .uid))) (ltb (g .role .0) 8 && is-name (g .password)) h in
-    name-fits (g .password) (and-both (ltb (g .role .0) 8) (is-name (g .password)) (i .1) .1)
-
--- a grant takes 10
-pub length-grant : (u : Setup) (g : Grant) → is-grant u g ≡ true → length (grant-bytes g) ≡ 10
-unfolding grant-bytes
-length-grant u g h = rw (length-padded 8 (g .password) (grant-password u g h .0))
-
-grant-back : (u : Setup) (g : Grant) → is-grant u g ≡ true → grant-of (grant-bytes g) ≡ g
-unfolding grant-bytes grant-of
-grant-back u g h =
-    let f = grant-password u g h in
-    let t : text-at 2 8 (g .uid .0 ∷ g .role .0 ∷ padded 8 (g .password)) ≡ g .password =
-    rw append-nil at (text-at-padded (g .uid .0 ∷ g .role .0 ∷ []) [] 2 8 (g .password) refl (f .0) (f .1)) in
-    λ i. record { uid = g .uid; role = g .role; password = t i }
-
--- ---- the parts of a header
-
--- what follows the first parts of known lengths
-past-two : (S Z Q : List ℕ) (k l n : ℕ) → length S ≡ k → length Z ≡ l → k + l ≡ n → drop n (S ++ (Z ++ Q)) ≡ Q
-past-two S Z Q k l n s z e = rw (← append-assoc S Z Q) (drop-at (S ++ Z) Q n (length-append S Z ∙ omega arith))
-
-past-three : (S Z P Q : List ℕ) (k l m n : ℕ) → length S ≡ k → length Z ≡ l → length P ≡ m → k + l + m ≡ n → drop n (S ++ (Z ++ (P ++ Q))) ≡ Q
-past-three S Z P Q k l m n s z p e = rw (← append-assoc S Z (P ++ Q)) (past-two (S ++ Z) P Q (k + l) m n (length-append S Z ∙ omega arith) p e)
-
-appended : (S Z P G R B : List ℕ) → (S ++ (Z ++ (P ++ (G ++ R)))) ++ B ≡ S ++ (Z ++ (P ++ (G ++ (R ++ B))))
-appended S Z P G R B = rw (append-assoc S (Z ++ (P ++ (G ++ R))) B, append-assoc Z (P ++ (G ++ R)) B, append-assoc P (G ++ R) B, append-assoc G R B)
-
-length-five : (S Z P G R : List ℕ) → length (S ++ (Z ++ (P ++ (G ++ R)))) ≡ length S + (length Z + (length P + (length G + length R)))
-length-five S Z P G R = rw (length-append S (Z ++ (P ++ (G ++ R))), length-append Z (P ++ (G ++ R)), length-append P (G ++ R), length-append G R)
+-- ---- what stands behind setup and sessions
 
 -- the bytes that are zero, not computed
 unused : List ℕ
@@ -120,146 +52,119 @@ length-unused : length unused ≡ spare-width
 unfolding unused
 length-unused = length-replicate {A = ℕ} spare-width 0
 
--- what stands before them
-slots-part : Setup → List ℕ
-slots-part u = all-bytes slot-bytes (u .persons)
+directories-part : List Path → List ℕ
+directories-part l = all-bytes directory-bytes l
 
-sessions-part : Sessions → List ℕ
-sessions-part z = all-bytes one-session z
-
-pairs-part : Setup → List ℕ
-pairs-part u = table-bytes 2 most-pairs pair-bytes (u .pairs)
-
-grants-part : Setup → List ℕ
-grants-part u = table-bytes 10 most-grants grant-bytes (u .grants)
-
-header-parts : (u : Setup) (z : Sessions) → header-bytes u z ≡ slots-part u ++ (sessions-part z ++ (pairs-part u ++ (grants-part u ++ unused)))
-unfolding header-bytes slots-part sessions-part pairs-part grants-part unused one-session
-header-parts u z = refl
+header-parts : (u : Setup) (r : Registry) → header-bytes u r ≡ front-bytes u (r .sessions) (directories-part (r .directories) ++ unused)
+unfolding header-bytes directories-part unused
+header-parts u r = refl
 
 -- a header before other bytes
-before : (u : Setup) (z : Sessions) (B : List ℕ) →
-    header-bytes u z ++ B ≡ slots-part u ++ (sessions-part z ++ (pairs-part u ++ (grants-part u ++ (unused ++ B))))
-before u z B = ap (λ (l : List ℕ). l ++ B) (header-parts u z) ∙ appended (slots-part u) (sessions-part z) (pairs-part u) (grants-part u) unused B
+before : (u : Setup) (r : Registry) (B : List ℕ) → header-bytes u r ++ B ≡ front-bytes u (r .sessions) (directories-part (r .directories) ++ (unused ++ B))
+before u r B =
+    let D = directories-part (r .directories) in
+    ap (λ (l : List ℕ). l ++ B) (header-parts u r)
+    ∙ front-before u (r .sessions) (D ++ unused) B
+    ∙ ap (front-bytes u (r .sessions)) (append-assoc D unused B)
 
-length-slots : (u : Setup) → is-setup u ≡ true → length (slots-part u) ≡ sessions-offset
-unfolding slots-part
-length-slots u h = let r = apart u h in length-all-bytes 3 is-slot slot-bytes length-slot (u .persons) (r .slots) ∙ omega (arith, r .count)
+module _ (l : List Path) (n : length l ≡ 16) (h : every is-path l ≡ true) where
+  length-directories : length (directories-part l) ≡ directories-width
+  unfolding directories-part
+  length-directories = length-all-bytes directory-width is-path directory-bytes length-directory l h ∙ omega arith
 
-length-sessions : (z : Sessions) → length z ≡ 16 → length (sessions-part z) ≡ 16
-unfolding sessions-part
-length-sessions z e = length-all-bytes 1 any-session one-session length-session z (every-session z) ∙ omega arith
+  directories-back : (Q : List ℕ) → all-from directory-width directory-from accounts (directories-part l ++ Q) ≡ l
+  unfolding directories-part accounts
+  directories-back Q =
+      ap (λ k. all-from directory-width directory-from k (directories-part l ++ Q)) (sym n)
+      ∙ all-from-bytes directory-width is-path directory-bytes length-directory directory-from directory-back l Q h
 
-length-pairs : (u : Setup) → is-setup u ≡ true → length (pairs-part u) ≡ pairs-width
-unfolding pairs-part most-pairs
-length-pairs u h = let r = apart u h in length-table 2 is-pair pair-bytes (λ p h. length-pair p) 28 (u .pairs) (r .all-pairs) (r .few-pairs)
+  module _ (i : ℕ) (k : i < 16) (Q : List ℕ) where
+    directory-in-part : take directory-width (drop (directory-width * i) (directories-part l ++ Q)) ≡ directory-bytes (getD l i root)
+    unfolding directories-part
+    directory-in-part = all-bytes-at directory-width is-path directory-bytes length-directory l i Q root h (omega arith)
 
-length-grants : (u : Setup) → is-setup u ≡ true → length (grants-part u) ≡ grants-width
-unfolding grants-part most-grants
-length-grants u h = let r = apart u h in length-table 10 (is-grant u) grant-bytes (length-grant u) 32 (u .grants) (r .all-grants) (r .few-grants)
+    directory-replaced : (p : Path) → is-path p ≡ true → paste (directories-part l ++ Q) (directory-width * i) (directory-bytes p) directory-width ≡ directories-part (set l i p) ++ Q
+    unfolding directories-part
+    directory-replaced p e = value-replaced directory-width is-path directory-bytes length-directory l i p root Q h e (omega arith)
 
--- the widths of these parts, of a setup in range
-pub record Part-widths (u : Setup) : Type 0 where
-  pub slots : length (all-bytes slot-bytes (u .persons)) ≡ sessions-offset
-  pub pairs : length (table-bytes pair-width most-pairs pair-bytes (u .pairs)) ≡ pairs-width
-  pub grants : length (table-bytes grant-width most-grants grant-bytes (u .grants)) ≡ grants-width
+module _ (u : Setup) (r : Registry) (h : is-setup u ≡ true) (k : is-registry r ≡ true) where
+  -- the header takes its width
+  pub length-header : length (header-bytes u r) ≡ header-width
+  length-header =
+      let p = registry-parts r k in
+      let D = directories-part (r .directories) in
+      ap length (header-parts u r)
+      ∙ length-front u (r .sessions) h (p .sessions) (D ++ unused)
+      ∙ omega (arith, length-append D unused, length-directories (r .directories) (p .directories) (p .kept-paths), length-unused)
 
-pub part-widths : (u : Setup) → is-setup u ≡ true → Part-widths u
-unfolding slots-part pairs-part grants-part
-part-widths u h = record { slots = length-slots u h; pairs = length-pairs u h; grants = length-grants u h }
+  -- the setup is read back from the header
+  pub setup-of-header : (B : List ℕ) → setup-of (header-bytes u r ++ B) ≡ u
+  setup-of-header B = ap setup-of (before u r B) ∙ setup-of-front u (r .sessions) h (registry-parts r k .sessions) _
 
-persons-back : (u : Setup) (Q : List ℕ) → is-setup u ≡ true → all-from 3 slot-of accounts (slots-part u ++ Q) ≡ u .persons
-unfolding slots-part accounts
-persons-back u Q h =
-    let r = apart u h in
-    ap (λ k. all-from 3 slot-of k (slots-part u ++ Q)) (sym (r .count))
-    ∙ all-from-bytes 3 is-slot slot-bytes length-slot slot-of slot-back (u .persons) Q (r .slots)
+  -- so are the sessions
+  pub sessions-of-header : (B : List ℕ) → sessions-of (header-bytes u r ++ B) ≡ r .sessions
+  sessions-of-header B = ap sessions-of (before u r B) ∙ sessions-of-front u (r .sessions) h (registry-parts r k .sessions) _
 
-pairs-back : (u : Setup) (Q : List ℕ) → is-setup u ≡ true → table-from 2 pair-of (pairs-part u ++ Q) ≡ u .pairs
-unfolding pairs-part
-pairs-back u Q h = table-from-bytes 2 is-pair pair-bytes (λ p h. length-pair p) pair-of (λ p h. pair-back p) most-pairs (u .pairs) Q (apart u h .all-pairs)
+  -- and the working directories
+  pub directories-of-header : (B : List ℕ) → directories-of (header-bytes u r ++ B) ≡ r .directories
+  unfolding directories-of
+  directories-of-header B =
+      let p = registry-parts r k in
+      rw (before u r B, behind-front u (r .sessions) h (p .sessions) (directories-part (r .directories) ++ (unused ++ B)))
+      (directories-back (r .directories) (p .directories) (p .kept-paths) (unused ++ B))
 
-grants-back : (u : Setup) (Q : List ℕ) → is-setup u ≡ true → table-from 10 grant-of (grants-part u ++ Q) ≡ u .grants
-unfolding grants-part
-grants-back u Q h =
-    table-from-bytes 10 (is-grant u) grant-bytes (length-grant u) grant-of (grant-back u) most-grants (u .grants) Q (apart u h .all-grants)
+  pub registry-of-header : (B : List ℕ) → registry-of (header-bytes u r ++ B) ≡ r
+  unfolding registry-of
+  registry-of-header B = λ i. record { sessions = sessions-of-header B i; directories = directories-of-header B i }
 
--- the header takes its width
-pub length-header : (u : Setup) (z : Sessions) → is-setup u ≡ true → length z ≡ 16 → length (header-bytes u z) ≡ header-width
-length-header u z h e =
-    ap length (header-parts u z) ∙ length-five (slots-part u) (sessions-part z) (pairs-part u) (grants-part u) unused
-    ∙ omega (arith, length-slots u h, length-sessions z e, length-pairs u h, length-grants u h, length-unused)
+-- ---- what is kept for one account
 
--- the setup is read back from the header
-pub setup-of-header : (u : Setup) (z : Sessions) (B : List ℕ) → is-setup u ≡ true → length z ≡ 16 → setup-of (header-bytes u z ++ B) ≡ u
-unfolding setup-of
-setup-of-header u z B h e =
-    let S = slots-part u in
-    let Z = sessions-part z in
-    let P = pairs-part u in
-    let Q = unused ++ B in
-    let G = grants-part u ++ Q in
-    let s = length-slots u h in
-    let w = length-sessions z e in
-    rw (
-      before u z B,
-      past-two S Z (P ++ G) sessions-offset 16 pairs-offset s w refl,
-      past-three S Z P G sessions-offset 16 pairs-width grants-offset s w (length-pairs u h) refl,
-      persons-back u (Z ++ (P ++ G)) h,
-      pairs-back u G h,
-      grants-back u Q h,
-    )
-
--- the sessions are read back from the header
-pub sessions-of-header : (u : Setup) (z : Sessions) (B : List ℕ) → is-setup u ≡ true → length z ≡ 16 → sessions-of (header-bytes u z ++ B) ≡ z
-unfolding sessions-of sessions-part one-session accounts
-sessions-of-header u z B h e =
-    let Q = pairs-part u ++ (grants-part u ++ (unused ++ B)) in
-    rw (before u z B, drop-at (slots-part u) (sessions-part z ++ Q) sessions-offset (length-slots u h), ← e)
-    (all-from-bytes 1 any-session one-session length-session (λ s. session-of (getD s 0 0)) (λ a t. session-back a) z Q (every-session z))
-
--- ---- one session of a header
-
--- a byte stored behind the first part
-set-append-add : (S Q : List ℕ) (i v : ℕ) → set (S ++ Q) (length S + i) v ≡ S ++ set Q i v
-set-append-add [] Q i v = rw (zero-add i)
-set-append-add (s ∷ S) Q i v = rw (suc-add (length S) i) (ap (λ (l : List ℕ). s ∷ l) (set-append-add S Q i v))
-
--- the sessions' bytes one by one
-session-in-part : (z : Sessions) (i : ℕ) → getD (sessions-part z) i 0 ≡ session-byte (getD z i none)
-unfolding sessions-part one-session all-bytes session-byte
-session-in-part [] i = refl
-session-in-part (a ∷ z) zero = refl
-session-in-part (a ∷ z) (suc i) = session-in-part z i
-
-set-in-part : (z : Sessions) (i : ℕ) (o : Option Bounded-role) → set (sessions-part z) i (session-byte o) ≡ sessions-part (set z i o)
-unfolding sessions-part one-session all-bytes
-set-in-part [] i o = refl
-set-in-part (a ∷ z) zero o = refl
-set-in-part (a ∷ z) (suc i) o = ap (λ (l : List ℕ). session-byte a ∷ l) (set-in-part z i o)
-
-module _ (u : Setup) (z : Sessions) (h : is-setup u ≡ true) (e : length z ≡ 16) (i : ℕ) (l : i < 16) where
-  -- the byte of an account's session
-  pub session-in-header : getD (header-bytes u z) (sessions-offset + i) 0 ≡ session-byte (getD z i none)
+module _ (u : Setup) (r : Registry) (h : is-setup u ≡ true) (k : is-registry r ≡ true) (uid : Uid) (l : uid .0 < 16) where
+  -- the byte of its session
+  pub session-in-header : getD (header-bytes u r) (sessions-offset + uid .0) 0 ≡ session-byte (getD (r .sessions) (uid .0) none)
   session-in-header =
-      let S = slots-part u in
-      let Z = sessions-part z in
-      let R = pairs-part u ++ (grants-part u ++ unused) in
-      let k : sessions-offset + i ≡ length S + i = omega (arith, length-slots u h) in
-      rw (header-parts u z, k, getD-append-add S (Z ++ R) i 0, List·getD-append Z R 0 i (omega (arith, length-sessions z e))) (session-in-part z i)
+      ap (λ (b : List ℕ). getD b (sessions-offset + uid .0) 0) (header-parts u r)
+      ∙ session-in-front u (r .sessions) h (registry-parts r k .sessions) _ (uid .0) l
 
-  -- stored there, a session's byte makes the header of the sessions with it
-  pub header-with-session : (o : Option Bounded-role) → set (header-bytes u z) (sessions-offset + i) (session-byte o) ≡ header-bytes u (set z i o)
+  -- stored there, a session's byte makes the header of the registry with it
+  pub header-with-session : (o : Option Bounded-role) → set (header-bytes u r) (sessions-offset + uid .0) (session-byte o) ≡ header-bytes u (set-session uid o r)
+  unfolding set-session
   header-with-session o =
-      let S = slots-part u in
-      let Z = sessions-part z in
-      let R = pairs-part u ++ (grants-part u ++ unused) in
-      let k : sessions-offset + i ≡ length S + i = omega (arith, length-slots u h) in
-      rw (
-        header-parts u z,
-        k,
-        set-append-add S (Z ++ R) i (session-byte o),
-        set-append-left Z R i (session-byte o) (omega (arith, length-sessions z e)),
-        set-in-part z i o,
-        header-parts u (set z i o),
-      )
+      ap (λ (b : List ℕ). set b (sessions-offset + uid .0) (session-byte o)) (header-parts u r)
+      ∙ front-with-session u (r .sessions) h (registry-parts r k .sessions) _ (uid .0) l o
+      ∙ sym (header-parts u (set-session uid o r))
+
+  -- the bytes of its working directory
+  pub directory-in-header : take directory-width (drop (directory-start (uid .0)) (header-bytes u r)) ≡ directory-bytes (working-directory uid r)
+  unfolding working-directory
+  directory-in-header =
+      let p = registry-parts r k in
+      let D = directories-part (r .directories) in
+      let there : drop (directory-start (uid .0)) (header-bytes u r) ≡ drop (directory-width * uid .0) (D ++ unused) =
+      sym (drop-drop (directory-width * uid .0) directories-offset (header-bytes u r))
+      ∙ ap (λ (b : List ℕ). drop (directory-width * uid .0) (drop directories-offset b)) (header-parts u r)
+      ∙ ap (drop (directory-width * uid .0)) (behind-front u (r .sessions) h (p .sessions) (D ++ unused)) in
+      ap (take directory-width) there
+      ∙ directory-in-part (r .directories) (p .directories) (p .kept-paths) (uid .0) l unused
+
+  -- and its text
+  pub directory-text-in-header : text-at (directory-start (uid .0)) directory-width (header-bytes u r) ≡ path-text (working-directory uid r)
+  directory-text-in-header =
+      let b = header-bytes u r in
+      let o = directory-start (uid .0) in
+      let there : text-at 0 directory-width (take directory-width (drop o b)) ≡ text-at o directory-width b =
+      let q : o + 0 ≡ o = omega arith in
+      text-there b o directory-width 0 directory-width (omega arith) ∙ ap (λ (n : ℕ). text-at n directory-width b) q in
+      sym there ∙ ap (text-at 0 directory-width) directory-in-header ∙ directory-text (working-directory uid r) (working-directory-is-path r uid k)
+
+  -- written there, a path's bytes make the header of the registry with it
+  pub header-with-directory : (q : Path) → is-path q ≡ true → paste (header-bytes u r) (directory-start (uid .0)) (directory-bytes q) directory-width ≡ header-bytes u (set-directory uid q r)
+  unfolding set-directory
+  header-with-directory q e =
+      let p = registry-parts r k in
+      let D = directories-part (r .directories) in
+      let i = directory-width * uid .0 in
+      ap (λ (b : List ℕ). paste b (directories-offset + i) (directory-bytes q) directory-width) (header-parts u r)
+      ∙ paste-behind-front u (r .sessions) h (p .sessions) (D ++ unused) (directory-bytes q) i directory-width
+      ∙ ap (front-bytes u (r .sessions)) (directory-replaced (r .directories) (p .directories) (p .kept-paths) (uid .0) l unused q e)
+      ∙ sym (header-parts u (set-directory uid q r))

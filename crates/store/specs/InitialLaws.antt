@@ -1,13 +1,14 @@
--- The initial tree is well-formed, and so is it before each home is put in: its homes have names, each of its own.
+-- The initial tree is well-formed, and so is it before each home is put in: its homes have names, each of its own. So are the
+-- initial registry and the whole initial store.
 use mathlib.Core.Path.{_≡_, refl, sym, _∙_, ap}
-use mathlib.Core.List.{List}
+use mathlib.Core.List.{List, [], _∷_}
 use mathlib.Core.Option.{Option, none, some}
 use mathlib.Core.Bool.{Bool, true, false, _&&_, not}
 use Prim.Native.Nat.{ℕ, zero, suc, _+_, _-_, _≤_, _<_}
 use native.Mathlib.Omega.{arith}
-use native.Mathlib.Nat.{add-zero, add-suc}
+use native.Mathlib.Nat.{zero-add, suc-add, add-zero, add-suc}
 use lib.Dec.{ltb}
-use lib.ListN.{getD}
+use lib.ListN.{length, getD}
 use borrow.Author.Tests.{not-true, lt-ltb}
 use Rattle.buffers.specs.Cases.{and-both}
 use Rattle.buffers.specs.Text.{same-text, every}
@@ -15,8 +16,9 @@ use Rattle.accounts.specs.declared.Uid.{Uid}
 use Rattle.accounts.specs.declared.Gid.{Gid}
 use Rattle.syntax.specs.Pieces.{bytes}
 use Rattle.syntax.specs.Number.{octal, is-mode, digits-before, decimal-text}
-use Rattle.syntax.specs.Path.{Name, rep, name-byte, is-name}
+use Rattle.syntax.specs.Path.{Name, rep, root, _▹_, depth, name-byte, is-name, most-names, has-names, is-path}
 use Rattle.setup.specs.Setup.{Person, Setup, accounts, person, is-setup}
+use Rattle.setup.specs.SetupLaws.{apart}
 use Rattle.tree.specs.declared.Kind.the-variants.{Directory}
 use Rattle.tree.specs.Forest.{Forest, no-nodes, Place, get, insert, leaf, size}
 use Rattle.tree.specs.ForestLaws.{get-nil, get-insert-other, size-insert}
@@ -28,10 +30,11 @@ use Rattle.tree.specs.UpdateLaws.{leaf-height}
 use Rattle.tree.specs.NodeLaws.{plain-node}
 use Rattle.tree.specs.WellFormedLaws.{leaf-place, leaf-tree}
 use Rattle.tree.specs.ChangeLaws.{keep-insert}
-use Rattle.store.specs.State.{state-of, well-formed}
+use Rattle.store.specs.State.{state-of, working-directory, is-registry, well-formed}
+use Rattle.store.specs.RegistryLaws.{is-registered, root-is-path}
 use Rattle.store.specs.StateLaws.{formed}
 use Rattle.store.specs.PersonLaws.{person-in-range}
-use Rattle.store.specs.Initial.{directory-of, top-node, rep-node, home-node, home-name, with-home, homes, topped, initial-tree, no-sessions, initial-store}
+use Rattle.store.specs.Initial.{directory-of, top-node, rep-node, home-node, home-name, with-home, homes, topped, initial-tree, no-sessions, first-directory, first-directories, initial-registry, initial-store}
 use Rattle.store.specs.InitialRows.{Open}
 
 -- whether a name is neither `rep` nor the home of an account below k
@@ -193,7 +196,51 @@ pub initial-by-persons : (u v : Setup) → u .persons ≡ v .persons → initial
 unfolding initial-tree
 initial-by-persons u v e = ap topped (homes-by-persons u v e accounts)
 
+-- ---- the first working directories
+
+-- a home has a path's form
+home-is-path : (n : Name) → is-name n ≡ true → is-path (root ▹ n) ≡ true
+unfolding is-path has-names depth most-names
+home-is-path n h = rw h
+
+first-is-path : (k : ℕ) → k < 16 → (o : Option Person) → is-path (first-directory (record { 0 = k }) o) ≡ true
+unfolding first-directory
+first-is-path k l none = root-is-path
+first-is-path k l (some who) = home-is-path (home-name (record { 0 = k })) (home-named k (names-below (suc k) (omega arith)) .0)
+
+first-are-paths : (l : List (Option Person)) (k : ℕ) → k + length l ≤ 16 → every is-path (first-directories k l) ≡ true
+unfolding every first-directories
+first-are-paths [] k b = refl
+first-are-paths (o ∷ os) k b = rw (first-is-path k (omega arith) o) (first-are-paths os (suc k) (omega arith))
+
+-- there is one for each account
+pub length-first : (l : List (Option Person)) (k : ℕ) → length (first-directories k l) ≡ length l
+unfolding first-directories
+length-first [] k = refl
+length-first (o ∷ os) k = ap suc (length-first os (suc k))
+
+pub initial-registered : (u : Setup) → is-setup u ≡ true → is-registry (initial-registry u) ≡ true
+unfolding initial-registry no-sessions accounts
+initial-registered u g =
+    let n = apart u g .count in
+    is-registered (initial-registry u) (record {
+      sessions = refl;
+      directories = length-first (u .persons) 0 ∙ n;
+      kept-paths = first-are-paths (u .persons) 0 (omega arith);
+    })
+
+-- the account's own: its home, or `/` where it is no person's
+first-at : (l : List (Option Person)) (k i : ℕ) → getD (first-directories k l) i root ≡ first-directory (record { 0 = k + i }) (getD l i none)
+unfolding first-directories first-directory
+first-at [] k i = refl
+first-at (o ∷ os) k zero = ap (λ (n : ℕ). first-directory (record { 0 = n }) o) (sym (add-zero k))
+first-at (o ∷ os) k (suc i) = first-at os (suc k) i ∙ ap (λ (n : ℕ). first-directory (record { 0 = n }) (getD os i none)) (suc-add k i ∙ sym (add-suc k i))
+
+pub initial-directory : (u : Setup) (uid : Uid) → working-directory uid (initial-registry u) ≡ first-directory uid (person u uid)
+unfolding working-directory initial-registry person
+initial-directory u uid = first-at (u .persons) 0 (uid .0) ∙ ap (λ (n : ℕ). first-directory (record { 0 = n }) (getD (u .persons) (uid .0) none)) (zero-add (uid .0))
+
 -- the initial store is well-formed
 pub initial-well-formed : (u : Setup) → is-setup u ≡ true → well-formed (state-of u (initial-store u)) ≡ true
-unfolding initial-store no-sessions accounts
-initial-well-formed u g = formed u g (initial-store u) refl (initial-is-tree u g)
+unfolding initial-store
+initial-well-formed u g = formed u g (initial-store u) (initial-registered u g) (initial-is-tree u g)

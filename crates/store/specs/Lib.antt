@@ -2,6 +2,7 @@ pub mod HeaderLayout
 pub mod State
 pub mod Callers
 pub mod Logins
+pub mod RegistryLaws
 pub mod StateLaws
 pub mod PersonLaws
 pub mod Initial
@@ -10,6 +11,8 @@ pub mod InitialLaws
 pub mod InitialRowsLaws
 pub mod StoreBytes
 pub mod SetupHeader
+pub mod ValuesLaws
+pub mod FrontLaws
 pub mod HeaderLaws
 pub mod SetupHeaderLaws
 pub mod StoreBytesLaws
@@ -17,3 +20,4 @@ pub mod DecodeLaws
 pub mod SoundStore
 pub mod SoundStoreLaws
 pub mod Compute
+pub mod Cases

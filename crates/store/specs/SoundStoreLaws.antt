@@ -4,14 +4,12 @@ use mathlib.Core.List.{List}
 use mathlib.Core.Option.{none, some}
 use mathlib.Core.Bool.{true}
 use Prim.Native.Nat.{ℕ}
-use borrow.Author.Tests.{eq-eqb}
-use lib.ListN.{length}
 use Rattle.syntax.specs.FormLaws.{both}
-use Rattle.setup.specs.Setup.{accounts}
 use Rattle.setup.specs.SoundSetupLaws.{setup-is-sound, sound-is-setup}
 use Rattle.tree.specs.SoundTreeLaws.{tree-is-sound, sound-is-tree}
 use Rattle.tree.specs.UpdateLaws.{by-option}
 use Rattle.store.specs.State.{State, well-formed}
+use Rattle.store.specs.RegistryLaws.{is-registered}
 use Rattle.store.specs.StateLaws.{parts}
 use Rattle.store.specs.StoreBytes.{store-width, decode}
 use Rattle.store.specs.StoreBytesLaws.{decode-encode, encode-decode, decode-length}
@@ -19,11 +17,13 @@ use Rattle.store.specs.SoundStore.{Sound}
 
 -- sound bytes are read as their state
 sound-state : (b : List ℕ) (v : Sound b) → decode b ≡ some (v .state)
-unfolding well-formed accounts
+unfolding well-formed
 sound-state b v =
     let s = v .state in
     let h : well-formed s ≡ true = both (sound-is-setup (s .setup) (v .setup))
-    (both (eq-eqb (length (s .store .sessions)) 16 (v .sixteen-sessions)) (sound-is-tree (s .store .tree) (v .tree))) in
+    (both
+    (is-registered (s .store .registry) (record { sessions = v .sixteen-sessions; directories = v .sixteen-directories; kept-paths = v .kept-paths }))
+    (sound-is-tree (s .store .tree) (v .tree))) in
     rw (v .bytes) at (decode-encode s h)
 
 -- so sound bytes are read
@@ -43,6 +43,8 @@ decoded-is-sound b s e =
       tree = tree-is-sound (s .store .tree) (w .tree);
       setup = setup-is-sound (s .setup) (w .setup);
       sixteen-sessions = w .sessions;
+      sixteen-directories = w .directories;
+      kept-paths = w .kept-paths;
     }
 
 -- bytes that are not sound are not read

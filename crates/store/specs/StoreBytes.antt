@@ -17,7 +17,7 @@ use mathlib.Core.Bool.{Bool, _&&_, cond}
 use Prim.Native.Nat.{ℕ, zero, suc}
 use lib.Dec.{eqb}
 use lib.ListN.{getD, drop, replicate}
-use Rattle.buffers.specs.Text.{Text, same-text}
+use Rattle.buffers.specs.Text.{same-text}
 use Rattle.buffers.specs.Fields.{two-bytes, number-at, padded, text-at, all-bytes, all-from, table-bytes, table-from}
 use Rattle.accounts.specs.Dominance.{Bounded-role}
 use Rattle.accounts.specs.PairBytes.{pair-bytes, pair-of}

@@ -1,4 +1,4 @@
-// The store: setup, sessions and tree as bytes, and the initial tree.
+// The store: setup, registry and tree as bytes, and the initial tree.
 mod initial;
 mod layout;
 
