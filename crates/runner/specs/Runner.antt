@@ -23,7 +23,7 @@ use Rattle.stored_header.specs.Stored.{Stored, bytes-with}
 
 -- the session of a caller is that of a role
 abbrev pub Held-role : Caller → Role → List ℕ → Type 0
-Held-role c role b = (s : State) → Stored b s → As role ≡ session-held (getD (s .store .sessions) (c .account .uid .0) none)
+Held-role c role b = (s : State) → Stored b s → As role ≡ session-held (getD (s .store .registry .sessions) (c .account .uid .0) none)
 
 -- a caller's command that the parts of a line mean
 module _ (c : Caller) (line : Text) where

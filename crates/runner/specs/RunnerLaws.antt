@@ -53,8 +53,8 @@ module _ {b : List ℕ} {s : State} (h : Stored b s) where
   abbrev with-tree : List ℕ → List ℕ
   with-tree T = take header-width b ++ T
 
-  -- steps on the tree that leave the sessions
-  tree-carries : (steps : Result (Outcome Store)) → ((o : Outcome Store) → steps ≡ done o → o .state .sessions ≡ s .store .sessions)
+  -- steps on the tree that leave the registry
+  tree-carries : (steps : Result (Outcome Store)) → ((o : Outcome Store) → steps ≡ done o → o .state .registry ≡ s .store .registry)
       → (a a′ : List ℕ) (r : Answer) (T b′ : List ℕ) → Follows (on-tree-steps steps) (drop header-width b) a r T a′ → b′ ≡ take header-width b ++ T
       → Carries (bytes-with (s .setup)) steps b a r b′ a′
   unfolding reply answer-of written on-tree-steps bytes-after encode
@@ -73,7 +73,7 @@ module _ {b : List ℕ} {s : State} (h : Stored b s) where
 
 -- its outcome put into the store, read as the tree again
 put-and-read : (s : Store) (r : Result (Outcome (Place Node)))
-    → on-tree-steps (r >>= λ o. done (record { text = o .text; state = record { tree = o .state; sessions = s .sessions } })) ≡ r
+    → on-tree-steps (r >>= λ o. done (record { text = o .text; state = record { tree = o .state; registry = s .registry } })) ≡ r
 unfolding on-tree-steps
 put-and-read s (refused k) = rw (refused-bind, refused-bind)
 put-and-read s (done o) = rw (done-bind, done-bind)
@@ -84,17 +84,17 @@ module _ (u : Setup) (s : Store) (c : Caller) (k : Shell-command) where
   unfolding run
   shell-on-tree = put-and-read s (run-shell c 0 (s .tree) k)
 
-  -- it keeps the sessions
-  shell-keeps-sessions : (o : Outcome Store) → run store u s c (shell k) ≡ done o → o .state .sessions ≡ s .sessions
+  -- it keeps the registry
+  shell-keeps-registry : (o : Outcome Store) → run store u s c (shell k) ≡ done o → o .state .registry ≡ s .registry
   unfolding run
-  shell-keeps-sessions o e =
-      let i = bind-done (run-shell c 0 (s .tree) k) (λ p. done (record { text = p .text; state = record { tree = p .state; sessions = s .sessions } })) e in
-      let q : o ≡ record { text = i .0 .text; state = record { tree = i .0 .state; sessions = s .sessions } } = cc (i .2) in
-      ap (λ (x : Outcome Store). x .state .sessions) q
+  shell-keeps-registry o e =
+      let i = bind-done (run-shell c 0 (s .tree) k) (λ p. done (record { text = p .text; state = record { tree = p .state; registry = s .registry } })) e in
+      let q : o ≡ record { text = i .0 .text; state = record { tree = i .0 .state; registry = s .registry } } = cc (i .2) in
+      ap (λ (x : Outcome Store). x .state .registry) q
 
 module _ {b : List ℕ} {s : State} (h : Stored b s) where
   -- steps that follow on the tree as it is lent
-  pub lent-carries : (steps : Result (Outcome Store)) → ((o : Outcome Store) → steps ≡ done o → o .state .sessions ≡ s .store .sessions)
+  pub lent-carries : (steps : Result (Outcome Store)) → ((o : Outcome Store) → steps ≡ done o → o .state .registry ≡ s .store .registry)
       → (a a′ : List ℕ) (r : Answer) (T : List ℕ) → (Encodes (lent-tree b) (s .store .tree) → Follows (on-tree-steps steps) (lent-tree b) a r T a′)
       → Carries (bytes-with (s .setup)) steps b a r (tree-back b T) a′
   lent-carries steps keeps a a′ r T f =
@@ -106,5 +106,5 @@ module _ {b : List ℕ} {s : State} (h : Stored b s) where
       → (Encodes (lent-tree b) (s .store .tree) → Follows (run-shell c 0 (s .store .tree) k) (lent-tree b) a r T a′)
       → Carries (bytes-with (s .setup)) (run store (s .setup) (s .store) c (shell k)) b a r (tree-back b T) a′
   shell-carries c k a a′ r T f =
-      lent-carries (run store (s .setup) (s .store) c (shell k)) (shell-keeps-sessions (s .setup) (s .store) c k) a a′ r T
+      lent-carries (run store (s .setup) (s .store) c (shell k)) (shell-keeps-registry (s .setup) (s .store) c k) a a′ r T
       (λ e. rw (shell-on-tree (s .setup) (s .store) c k) (f e))

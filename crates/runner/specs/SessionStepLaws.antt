@@ -1,4 +1,4 @@
--- Commands in a session: without one they are refused, and with one they act for the service account of its role and keep the sessions.
+-- Commands in a session: without one they are refused, and with one they act for the service account of its role and keep the registry.
 use mathlib.Core.Path.{_≡_, refl}
 use mathlib.Core.List.{List}
 use mathlib.Core.Option.{Option, none, some}
@@ -26,8 +26,8 @@ use Rattle.machine.specs.StoreMachine.{store}
 use Rattle.shell.specs.CommandBytes.{Carries, Carries-silently, Follows}
 use Rattle.shell.specs.CommandBytesLaws.{refusal-follows}
 use Rattle.machine.specs.Acting.{Acting, on-tree-steps}
-use Rattle.machine.specs.ActingLaws.{add-keeps-sessions, commit-keeps-sessions, up-keeps-sessions, del-keeps-sessions}
-use Rattle.checkout.specs.CheckoutRunLaws.{co-keeps-sessions}
+use Rattle.machine.specs.ActingLaws.{add-keeps-registry, commit-keeps-registry, up-keeps-registry, del-keeps-registry}
+use Rattle.checkout.specs.CheckoutRunLaws.{co-keeps-registry}
 use Rattle.stored_header.specs.Stored.{Stored, bytes-with}
 use Rattle.runner.specs.RunnerLaws.{lent-tree, tree-back, lent-carries}
 
@@ -45,7 +45,7 @@ held-some r (some z) e = (z, refl, cc)
 module _ {b : List ℕ} {s : State} (h : Stored b s) (c : Caller) where
   -- the caller's session
   abbrev held : Option Bounded-role
-  held = getD (s .store .sessions) (c .account .uid .0) none
+  held = getD (s .store .registry .sessions) (c .account .uid .0) none
 
   no-session : held ≡ none → session store (s .setup) (s .store) c ≡ refused NoSession
   unfolding session
@@ -78,18 +78,18 @@ module _ {b : List ℕ} {s : State} (h : Stored b s) (c : Caller) where
     served = q;
   }
 
-  -- and keeps the sessions
-  command-keeps-sessions : (k : Entry-command) (o : Outcome Store) → run-entry store (s .setup) (s .store) c k ≡ done o
-      → o .state .sessions ≡ s .store .sessions
+  -- and keeps the registry
+  command-keeps-registry : (k : Entry-command) (o : Outcome Store) → run-entry store (s .setup) (s .store) c k ≡ done o
+      → o .state .registry ≡ s .store .registry
   unfolding run-entry
-  command-keeps-sessions (add w p z) o e = add-keeps-sessions (s .setup) (s .store) c w p z e
-  command-keeps-sessions (co p d) o e = co-keeps-sessions (s .setup) (s .store) c p d e
-  command-keeps-sessions (commit w) o e = commit-keeps-sessions (s .setup) (s .store) c w e
-  command-keeps-sessions (up w) o e = up-keeps-sessions (s .setup) (s .store) c w e
-  command-keeps-sessions (del p) o e = del-keeps-sessions (s .setup) (s .store) c p e
+  command-keeps-registry (add w p z) o e = add-keeps-registry (s .setup) (s .store) c w p z e
+  command-keeps-registry (co p d) o e = co-keeps-registry (s .setup) (s .store) c p d e
+  command-keeps-registry (commit w) o e = commit-keeps-registry (s .setup) (s .store) c w e
+  command-keeps-registry (up w) o e = up-keeps-registry (s .setup) (s .store) c w e
+  command-keeps-registry (del p) o e = del-keeps-registry (s .setup) (s .store) c p e
 
   -- so what follows its steps on the tree is carried out on the store
   pub role-carries : (k : Entry-command) (a a′ : List ℕ) (r : Answer) (T : List ℕ)
       → (Encodes (lent-tree b) (s .store .tree) → Follows (on-tree-steps (run-entry store (s .setup) (s .store) c k)) (lent-tree b) a r T a′)
       → Carries (bytes-with (s .setup)) (run-entry store (s .setup) (s .store) c k) b a r (tree-back b T) a′
-  role-carries k a a′ r T f = lent-carries h (run-entry store (s .setup) (s .store) c k) (command-keeps-sessions k) a a′ r T f
+  role-carries k a a′ r T f = lent-carries h (run-entry store (s .setup) (s .store) c k) (command-keeps-registry k) a a′ r T f

@@ -16,7 +16,7 @@ use Rattle.shell.specs.declared.Answer.{Answer}
 use Rattle.shell.specs.Replies.{reply, answer-of, written}
 use Rattle.shell.specs.CommandBytes.{bytes-after, Carries-silently}
 use Rattle.store.specs.HeaderLayout.{header-width}
-use Rattle.store.specs.State.{Sessions, State}
+use Rattle.store.specs.State.{Registry, State}
 use Rattle.store.specs.StateLaws.{parts}
 use Rattle.store.specs.StoreBytes.{store-width, header-bytes, encode, decode}
 use Rattle.store.specs.HeaderLaws.{length-header}
@@ -35,14 +35,14 @@ unfolding encode
 read-stored b s e =
     let i = encode-decode b s e in
     let p = parts s (i .1) in
-    let H = header-bytes (s .setup) (s .store .sessions) in
+    let H = header-bytes (s .setup) (s .store .registry) in
     let T = encode-tree (s .store .tree) in
-    let l = length-header (s .setup) (s .store .sessions) (p .setup) (p .sessions) in
+    let l = length-header (s .setup) (s .store .registry) (p .setup) (p .registry) in
     record {
       wide = decode-length b s e;
       header = record {
         in-range = p .setup;
-        sixteen = p .sessions;
+        registered = p .registry;
         bytes = ap (take header-width) (sym (i .0)) ∙ take-at H T header-width l;
       };
       tree = tree-read b s e;
@@ -58,14 +58,14 @@ module _ {b : List ℕ} (h : Some-store b) where
 
   -- what is lent is a header and a tree
   pub lent-headed : Headed (take header-width b)
-  lent-headed = (h .0 .setup, h .0 .store .sessions, h .1 .header)
+  lent-headed = (h .0 .setup, h .0 .store .registry, h .1 .header)
 
 -- ---- what follows for the store
 
 module _ {b : List ℕ} {s : State} (h : Stored b s) where
   -- steps on the header
-  header-carries : (steps : Result Sessions) (r : Answer) (H : List ℕ) → Header-follows (s .setup) steps (take header-width b) r H
-      → Carries-silently (bytes-with (s .setup)) (steps >>= λ z. done (record { text = none; state = record { tree = s .store .tree; sessions = z } })) b r
+  header-carries : (steps : Result Registry) (r : Answer) (H : List ℕ) → Header-follows (s .setup) steps (take header-width b) r H
+      → Carries-silently (bytes-with (s .setup)) (steps >>= λ z. done (record { text = none; state = record { tree = s .store .tree; registry = z } })) b r
       (H ++ drop header-width b)
   unfolding reply answer-of written bytes-after encode
   header-carries (refused k) r H f a = let g = rw refused-bind at (f a) in rw refused-bind (record {
@@ -81,15 +81,15 @@ module _ {b : List ℕ} {s : State} (h : Stored b s) where
 
   -- `login` and `logout`
   pub login-carries : (c : Caller) (z : Bounded-role) (password : Text) (r : Answer) (H : List ℕ)
-      → Header-follows (s .setup) (logged-in (s .setup) (s .store .sessions) (c .account .uid) z password) (take header-width b) r H
+      → Header-follows (s .setup) (logged-in (s .setup) (s .store .registry) (c .account .uid) z password) (take header-width b) r H
       → Carries-silently (bytes-with (s .setup)) (run-login store (s .setup) (s .store) c z password) b r (H ++ drop header-width b)
   login-carries c z password r H f a =
       rw (run-login-is store (s .setup) (s .store) c z password)
-      (header-carries (logged-in (s .setup) (s .store .sessions) (c .account .uid) z password) r H f a)
+      (header-carries (logged-in (s .setup) (s .store .registry) (c .account .uid) z password) r H f a)
 
   pub logout-carries : (c : Caller) (r : Answer) (H : List ℕ)
-      → Header-follows (s .setup) (logged-out (s .store .sessions) (c .account .uid)) (take header-width b) r H
+      → Header-follows (s .setup) (logged-out (s .store .registry) (c .account .uid)) (take header-width b) r H
       → Carries-silently (bytes-with (s .setup)) (run-logout store (s .setup) (s .store) c) b r (H ++ drop header-width b)
   logout-carries c r H f a =
       rw (run-logout-is store (s .setup) (s .store) c)
-      (header-carries (logged-out (s .store .sessions) (c .account .uid)) r H f a)
+      (header-carries (logged-out (s .store .registry) (c .account .uid)) r H f a)

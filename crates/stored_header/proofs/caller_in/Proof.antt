@@ -11,7 +11,7 @@ caller-of-requires : tie.Need-caller-of-requires
 caller-of-requires c κs = lent-headed (c .before .before .pre)
 
 returns : tie.Need-returns
-returns c s h = c .caller-of .ensures (s .setup) (s .store .sessions) (h .header)
+returns c s h = c .caller-of .ensures (s .setup) (s .store .registry) (h .header)
 
 pub caller-in-spec : {M : Type 1} → statement M
 caller-in-spec = tie.close (tie.spec slice-aggregate-caller-of caller-of-requires returns)

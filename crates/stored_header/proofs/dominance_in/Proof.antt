@@ -11,7 +11,7 @@ dominance-of-requires : tie.Need-dominance-of-requires
 dominance-of-requires c κs = lent-headed (c .before .before .pre)
 
 returns : tie.Need-returns
-returns c s h = c .dominance-of .ensures (s .setup) (s .store .sessions) (h .header)
+returns c s h = c .dominance-of .ensures (s .setup) (s .store .registry) (h .header)
 
 pub dominance-in-spec : {M : Type 1} → statement M
 dominance-in-spec =

@@ -31,7 +31,7 @@ returns c s z h e =
     let l = c .before .before .login in
     let H = take header-width (now (a .store)) in
     let logs = subst (λ (x : Text). Logs-in H (a .caller .account .uid) (a .role) x (l .result) (l .last .0)) (c .before .before .before .part .ensures) (l .ensures) in
-    login-carries h (a .caller) z _ (l .result) (l .last .0) (logs (s .setup) (s .store .sessions) (h .header) z e)
+    login-carries h (a .caller) z _ (l .result) (l .last .0) (logs (s .setup) (s .store .registry) (h .header) z e)
 
 pub log-in-spec : {M : Type 1} → statement M
 log-in-spec =

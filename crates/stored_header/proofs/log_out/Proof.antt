@@ -21,7 +21,7 @@ returns : tie.Need-returns
 returns c s h =
     let l = c .before .before .logout in
     let a = c .before .before .before .before .before .before .args in
-    logout-carries h (a .caller) (l .result) (l .last .0) (l .ensures (s .setup) (s .store .sessions) (h .header))
+    logout-carries h (a .caller) (l .result) (l .last .0) (l .ensures (s .setup) (s .store .registry) (h .header))
 
 pub log-out-spec : {M : Type 1} → statement M
 log-out-spec =

@@ -11,7 +11,7 @@ session-of-requires : tie.Need-session-of-requires
 session-of-requires c κs = (lent-headed (c .before .before .pre .0), c .before .before .pre .1)
 
 returns : tie.Need-returns
-returns c s h = c .session-of .ensures (s .setup) (s .store .sessions) (h .header)
+returns c s h = c .session-of .ensures (s .setup) (s .store .registry) (h .header)
 
 pub session-in-spec : {M : Type 1} → statement M
 session-in-spec =
