@@ -1,7 +1,7 @@
 -- The abstract machine as an instance of the text that it shares with the store.
 use Rattle.tree.specs.Forest.{insert, remove, at, update-forest, alter, leaf, size, rooted}
 use Rattle.machine.specs.Machine.{Machine}
-use Rattle.machine.specs.AbstractMachine.{Abstract, Filed, top, an-entry, by-dominance, filed-revision, filed-content, new-entry, next-entry, on-people, on-entries, with-sessions}
+use Rattle.machine.specs.AbstractMachine.{Abstract, Filed, top, an-entry, by-dominance, filed-revision, filed-content, new-entry, next-entry, on-people, on-entries, with-registry}
 
 abbrev pub abstract : Machine Abstract Filed
 abstract = record {
@@ -12,10 +12,10 @@ abstract = record {
   locate = λ p. p;
   revision = filed-revision;
   content = filed-content;
-  sessions = λ h. h .sessions;
+  registry = λ h. h .registry;
   file = λ e kind r content. on-entries (update-forest (e .folder) (insert (e .name) (leaf (new-entry kind r content))));
   revise = λ e content. on-entries (update-forest (e .folder) (at (e .name) (alter (next-entry content))));
   remove = λ e. on-entries (update-forest (e .folder) (remove (e .name)));
   on-workspace = on-people;
-  with-sessions = with-sessions;
+  with-registry = with-registry;
 }

@@ -1,4 +1,4 @@
--- The abstract machine (document 01's shelf machine), whole: the people's tree, sessions, and the entries apart, each with a role
+-- The abstract machine (document 01's shelf machine), whole: the people's tree, the registry, and the entries apart, each with a role
 -- and with no owner, group or mode; its commands, and its calls.
 --
 -- A person's part is done in the people's tree by the access test, the account's part among the entries by dominance. As in
@@ -9,7 +9,7 @@ use mathlib.Core.Option.{Option, none, some}
 use mathlib.Core.Bool.{Bool, true, not, _&&_}
 use Prim.Native.Nat.{ℕ, suc, _+_}
 use lib.Dec.{eqb, leb}
-use lib.ListN.{getD, set}
+use lib.ListN.{getD}
 use Rattle.buffers.specs.Text.{Text}
 use Rattle.accounts.specs.declared.Caller.{Caller}
 use Rattle.accounts.specs.declared.Right.{Right}
@@ -29,8 +29,8 @@ use Rattle.tree.specs.WellFormed.{most-nodes, last-revision, nodes}
 use Rattle.copying.specs.Copying.{Source, copy}
 use Rattle.shell.specs.Steps.{run-shell}
 use Rattle.shell.specs.Replies.{reply, after}
-use Rattle.store.specs.State.{Sessions}
-use Rattle.store.specs.Initial.{initial-tree, no-sessions}
+use Rattle.store.specs.State.{Registry, set-session}
+use Rattle.store.specs.Initial.{initial-tree, initial-registry}
 use Rattle.store.specs.Callers.{caller, granted}
 use Rattle.machine.specs.Working.{Working, tagged}
 use Rattle.machine.specs.Runs.{Call, least-room, Ran}
@@ -45,7 +45,7 @@ pub record Entry : Type 0 where
 pub record Abstract : Type 0 where
   pub workspace : Place Node
   pub entries : Forest Entry
-  pub sessions : Sessions
+  pub registry : Registry
 
 -- what a walk from `/rep` meets: `/rep` itself, which is of no role, or an entry
 pub data Filed : Type 0 where
@@ -100,13 +100,13 @@ unfoldable pub next-entry : Text → Entry → Entry
 next-entry content x = record { kind = x .kind; role = x .role; revision = suc (x .revision); content = content }
 
 abbrev pub on-people : (Place Node → Place Node) → Abstract → Abstract
-on-people f h = record { workspace = f (h .workspace); entries = h .entries; sessions = h .sessions }
+on-people f h = record { workspace = f (h .workspace); entries = h .entries; registry = h .registry }
 
 abbrev pub on-entries : (Forest Entry → Forest Entry) → Abstract → Abstract
-on-entries g h = record { workspace = h .workspace; entries = g (h .entries); sessions = h .sessions }
+on-entries g h = record { workspace = h .workspace; entries = g (h .entries); registry = h .registry }
 
-abbrev pub with-sessions : Sessions → Abstract → Abstract
-with-sessions sessions h = record { workspace = h .workspace; entries = h .entries; sessions = sessions }
+abbrev pub with-registry : Registry → Abstract → Abstract
+with-registry registry h = record { workspace = h .workspace; entries = h .entries; registry = registry }
 
 -- One command of the caller c on the state h.
 module _ (setup : Setup) (h : Abstract) (c : Caller) where
@@ -128,7 +128,7 @@ module _ (setup : Setup) (h : Abstract) (c : Caller) where
   ok t = done (record { text = none; state = t })
 
   abbrev session-becomes : Option Bounded-role → Abstract
-  session-becomes z = with-sessions (set (h .sessions) (c .account .uid .0) z) h
+  session-becomes z = with-registry (set-session (c .account .uid) z (h .registry)) h
 
   unfoldable pub abstract-login : Bounded-role → Text → Result (Outcome Abstract)
   abstract-login z password = do
@@ -140,7 +140,7 @@ module _ (setup : Setup) (h : Abstract) (c : Caller) where
 
   -- the others first need a session
   unfoldable pub abstract-session : Result Bounded-role
-  abstract-session = present (getD (h .sessions) (c .account .uid .0) none) NoSession
+  abstract-session = present (getD (h .registry .sessions) (c .account .uid .0) none) NoSession
 
   unfoldable pub abstract-add : Path → Entry-path → Bounded-role → Result (Outcome Abstract)
   abstract-add w e r = do
@@ -255,4 +255,4 @@ abstract-runs setup h (call ∷ calls) =
 
 -- it starts as the fresh store with an empty map
 unfoldable pub initial-abstract : Setup → Abstract
-initial-abstract setup = record { workspace = initial-tree setup; entries = no-nodes; sessions = no-sessions }
+initial-abstract setup = record { workspace = initial-tree setup; entries = no-nodes; registry = initial-registry setup }

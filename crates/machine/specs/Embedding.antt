@@ -22,4 +22,4 @@ met top = rep-node
 met (an-entry x) = in-store x
 
 unfoldable pub embed : Abstract → Store
-embed h = record { tree = graft (stored (h .entries)) (h .workspace); sessions = h .sessions }
+embed h = record { tree = graft (stored (h .entries)) (h .workspace); registry = h .registry }

@@ -1,4 +1,4 @@
--- Document 01's commands over any machine that holds a workspace, sessions and a repository.
+-- Document 01's commands over any machine that holds a workspace, a registry and a repository.
 --
 -- A person's part is done in the workspace by the access test; the account's part in the repository, by the machine's own
 -- judge. The store is an instance of this text. The abstract machine stands apart (`AbstractMachine`), and is the text at another
@@ -8,7 +8,7 @@ use mathlib.Core.Option.{Option, none, some}
 use mathlib.Core.Bool.{Bool, not}
 use Prim.Native.Nat.{ℕ, suc, _+_}
 use lib.Dec.{eqb, leb}
-use lib.ListN.{getD, set}
+use lib.ListN.{getD}
 use Rattle.buffers.specs.Text.{Text}
 use Rattle.accounts.specs.declared.Caller.{Caller}
 use Rattle.accounts.specs.declared.Right.{Right}
@@ -26,7 +26,7 @@ use Rattle.tree.specs.Walk.{Judge, by-modes, unused, walk, parent-walk, room}
 use Rattle.tree.specs.WellFormed.{last-revision}
 use Rattle.copying.specs.Copying.{Source, copy}
 use Rattle.shell.specs.Steps.{fit, run-shell}
-use Rattle.store.specs.State.{Sessions}
+use Rattle.store.specs.State.{Registry, set-session}
 use Rattle.store.specs.Callers.{granted}
 use Rattle.machine.specs.Working.{Working, tagged}
 
@@ -42,14 +42,14 @@ pub record Machine (S A : Type 0) : Type 0 where
   -- revision and content of what the account meets
   pub revision : A → ℕ
   pub content : A → Text
-  -- one role or none for each account
-  pub sessions : S → Sessions
+  -- what is kept for each account
+  pub registry : S → Registry
   -- changes: a new entry of revision 1; an entry with new content and the next revision; an entry taken out
   pub file : Entry-path → Kind → Bounded-role → Text → S → S
   pub revise : Entry-path → Text → S → S
   pub remove : Entry-path → S → S
   pub on-workspace : (Place Node → Place Node) → S → S
-  pub with-sessions : Sessions → S → S
+  pub with-registry : Registry → S → S
 
 -- what copies are made of, as a judge sees it
 abbrev pub source : {S A : Type 0} → Machine S A → Judge A → Source A
@@ -72,9 +72,9 @@ module _ {S A : Type 0} (M : Machine S A) (setup : Setup) (s : S) (c : Caller) w
   abbrev ok : S → Result (Outcome S)
   ok t = done (record { text = none; state = t })
 
-  -- sessions with the caller's replaced
+  -- the caller's session replaced
   abbrev session-becomes : Option Bounded-role → S
-  session-becomes z = M .with-sessions (set (M .sessions s) (c .account .uid .0) z) s
+  session-becomes z = M .with-registry (set-session (c .account .uid) z (M .registry s)) s
 
   unfoldable pub run-login : Bounded-role → Text → Result (Outcome S)
   run-login z password = do
@@ -86,7 +86,7 @@ module _ {S A : Type 0} (M : Machine S A) (setup : Setup) (s : S) (c : Caller) w
 
   -- the session's role
   unfoldable pub session : Result Bounded-role
-  session = present (getD (M .sessions s) (c .account .uid .0) none) NoSession
+  session = present (getD (M .registry s .sessions) (c .account .uid .0) none) NoSession
 
   unfoldable pub run-add : Path → Entry-path → Bounded-role → Result (Outcome S)
   run-add w e r = do

@@ -23,12 +23,13 @@ workspace-of s = update (root ▹ rep) (λ d. leaf (d .here)) (s .tree)
 unfoldable pub filed-in : Store → Option (Place Node)
 filed-in s = get rep (s .tree .below)
 
--- Each call's reply with its text and, after the list, the people's tree, the sessions and the entries: below `/rep` stand
+-- Each call's reply with its text and, after the list, the people's tree, the sessions, the working directories and the entries: below `/rep` stand
 -- the nodes of the entries, and no other.
 pub record Compared (a : Ran Store) (b : Ran Abstract) : Type 0 where
   pub replies : a .replies ≡ b .replies
   pub workspace : workspace-of (a .state) ≡ b .state .workspace
-  pub sessions : a .state .sessions ≡ b .state .sessions
+  pub sessions : a .state .registry .sessions ≡ b .state .registry .sessions
+  pub directories : a .state .registry .directories ≡ b .state .registry .directories
   pub entries : filed-in (a .state) ≡ some (stored (b .state .entries))
 
 -- none of the lines is root's

@@ -36,7 +36,7 @@ unfoldable pub next-node : Text → Node → Node
 next-node content n = set-revision (suc (n .revision)) (set-content content n)
 
 abbrev pub on-tree : (Place Node → Place Node) → Store → Store
-on-tree f s = record { tree = f (s .tree); sessions = s .sessions }
+on-tree f s = record { tree = f (s .tree); registry = s .registry }
 
 abbrev pub store : Machine Store Node
 store = record {
@@ -47,10 +47,10 @@ store = record {
   locate = in-rep;
   revision = λ n. n .revision;
   content = λ n. n .content;
-  sessions = λ s. s .sessions;
+  registry = λ s. s .registry;
   file = λ e kind r content. on-tree (update (in-rep (e .folder)) (put (e .name) (leaf (entry-node kind r 1 content))));
   revise = λ e content. on-tree (update (entry-location e) (alter (next-node content)));
   remove = λ e. on-tree (update (in-rep (e .folder)) (drop (e .name)));
   on-workspace = on-tree;
-  with-sessions = λ sessions s. record { tree = s .tree; sessions = sessions };
+  with-registry = λ registry s. record { tree = s .tree; registry = registry };
 }

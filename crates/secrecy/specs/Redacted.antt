@@ -2,7 +2,7 @@
 -- without a session of a role that dominates r.
 --
 -- Two stores differ only there if they are one store once these are redacted: `redacted r s ≡ redacted r s′`. Everything else is then
--- equal, which entries there are with their kinds and roles, the workspace with its tags, and the sessions.
+-- equal, which entries there are with their kinds and roles, the workspace with its tags, the sessions and the working directories.
 use mathlib.Core.Path.{_≡_}
 use mathlib.Core.List.{List, []}
 use mathlib.Core.Option.{Option, none, some}
@@ -42,7 +42,7 @@ redacted-node r n = record {
 
 -- a store in which the files of role r below `/rep` are redacted
 unfoldable pub redacted : Bounded-role → Store → Store
-redacted r s = record { tree = update (root ▹ rep) (map-place (redacted-node r)) (s .tree); sessions = s .sessions }
+redacted r s = record { tree = update (root ▹ rep) (map-place (redacted-node r)) (s .tree); registry = s .registry }
 
 -- bytes that are read as two stores of the setup that differ only in contents and revisions of role r's file entries
 pub record Differ-only-in (u : Setup) (r : Bounded-role) (b b′ : List ℕ) : Type 0 where
