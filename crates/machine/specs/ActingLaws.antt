@@ -1,4 +1,4 @@
--- The commands on entries leave the sessions of the store as they were.
+-- The commands on entries leave the registry of the store as they were.
 use mathlib.Core.Path.{_≡_, refl}
 use Rattle.accounts.specs.declared.Caller.{Caller}
 use Rattle.accounts.specs.Dominance.{Bounded-role}
@@ -13,12 +13,12 @@ use Rattle.machine.specs.Machine.{run-add, run-commit, run-up, run-del}
 use Rattle.machine.specs.StoreMachine.{store}
 
 module _ (u : Setup) (s : Store) (c : Caller) where
-  abbrev Keeps-sessions : Result (Outcome Store) → Type 0
-  Keeps-sessions r = Ensures (λ o. o .state .sessions ≡ s .sessions) r
+  abbrev Keeps-registry : Result (Outcome Store) → Type 0
+  Keeps-registry r = Ensures (λ o. o .state .registry ≡ s .registry) r
 
-  add-sessions : (w : Path) (e : Entry-path) (r : Bounded-role) → Keeps-sessions (run-add store u s c w e r)
+  add-registry : (w : Path) (e : Entry-path) (r : Bounded-role) → Keeps-registry (run-add store u s c w e r)
   unfolding run-add
-  add-sessions w e r =
+  add-registry w e r =
       then-do _ λ z _.
       then-do _ λ d _.
       then-check Reserved tt _ λ _.
@@ -30,9 +30,9 @@ module _ (u : Setup) (s : Store) (c : Caller) where
       then-check Full tt _ λ _.
       gives refl
 
-  commit-sessions : (w : Path) → Keeps-sessions (run-commit store u s c w)
+  commit-registry : (w : Path) → Keeps-registry (run-commit store u s c w)
   unfolding run-commit
-  commit-sessions w =
+  commit-registry w =
       then-do _ λ z _.
       then-do _ λ k _.
       then-do _ λ a _.
@@ -42,17 +42,17 @@ module _ (u : Setup) (s : Store) (c : Caller) where
       then-check RevisionsSpent tt _ λ _.
       gives refl
 
-  up-sessions : (w : Path) → Keeps-sessions (run-up store u s c w)
+  up-registry : (w : Path) → Keeps-registry (run-up store u s c w)
   unfolding run-up
-  up-sessions w =
+  up-registry w =
       then-do _ λ z _.
       then-do _ λ k _.
       then-do _ λ a _.
       gives refl
 
-  del-sessions : (e : Entry-path) → Keeps-sessions (run-del store u s c e)
+  del-registry : (e : Entry-path) → Keeps-registry (run-del store u s c e)
   unfolding run-del
-  del-sessions e =
+  del-registry e =
       then-do _ λ z _.
       then-do _ λ d _.
       then-check Access tt _ λ _.
@@ -62,14 +62,14 @@ module _ (u : Setup) (s : Store) (c : Caller) where
       gives refl
 
   module _ {o : Outcome Store} where
-    pub add-keeps-sessions : (w : Path) (e : Entry-path) (r : Bounded-role) → run-add store u s c w e r ≡ done o → o .state .sessions ≡ s .sessions
-    add-keeps-sessions w e r q = done-with (add-sessions w e r) q
+    pub add-keeps-registry : (w : Path) (e : Entry-path) (r : Bounded-role) → run-add store u s c w e r ≡ done o → o .state .registry ≡ s .registry
+    add-keeps-registry w e r q = done-with (add-registry w e r) q
 
-    pub commit-keeps-sessions : (w : Path) → run-commit store u s c w ≡ done o → o .state .sessions ≡ s .sessions
-    commit-keeps-sessions w q = done-with (commit-sessions w) q
+    pub commit-keeps-registry : (w : Path) → run-commit store u s c w ≡ done o → o .state .registry ≡ s .registry
+    commit-keeps-registry w q = done-with (commit-registry w) q
 
-    pub up-keeps-sessions : (w : Path) → run-up store u s c w ≡ done o → o .state .sessions ≡ s .sessions
-    up-keeps-sessions w q = done-with (up-sessions w) q
+    pub up-keeps-registry : (w : Path) → run-up store u s c w ≡ done o → o .state .registry ≡ s .registry
+    up-keeps-registry w q = done-with (up-registry w) q
 
-    pub del-keeps-sessions : (e : Entry-path) → run-del store u s c e ≡ done o → o .state .sessions ≡ s .sessions
-    del-keeps-sessions e q = done-with (del-sessions e) q
+    pub del-keeps-registry : (e : Entry-path) → run-del store u s c e ≡ done o → o .state .registry ≡ s .registry
+    del-keeps-registry e q = done-with (del-registry e) q

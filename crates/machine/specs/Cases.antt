@@ -223,7 +223,7 @@ filed = all-done "1,login,0,oak\n1,create,/u1/a,0600\n1,add,/u1/a,/rep/a,0"
 store-with : ℕ → Setup → Store
 store-with v u =
     let s = runs store u (initial-store u) (calls 4096 filed) .state in
-    record { tree = update (root ▹ bytes "rep" ▹ bytes "a") (alter (set-revision v)) (s .tree); sessions = s .sessions }
+    record { tree = update (root ▹ bytes "rep" ▹ bytes "a") (alter (set-revision v)) (s .tree); registry = s .registry }
 
 with-revision : ℕ → Entry → Entry
 with-revision v x = record { kind = x .kind; role = x .role; revision = v; content = x .content }

@@ -137,7 +137,8 @@ unfolding embed
 tie-compared {b} r t = record {
   replies = r;
   workspace = ap workspace-of (t .same) ∙ workspace-back (b .state) (t .kept);
-  sessions = ap (λ s. s .sessions) (t .same);
+  sessions = ap (λ s. s .registry .sessions) (t .same);
+  directories = ap (λ s. s .registry .directories) (t .same);
   entries = ap filed-in (t .same) ∙ filed-back (b .state) (t .kept);
 }
 

@@ -40,7 +40,7 @@ pub data Writes-in (u : Setup) (z : Bounded-role) : Node → Type 0 where
 -- the caller's session has a role that dominates r and writes in the directory of the entry path e
 pub record Rightful (u : Setup) (s : Store) (c : Caller) (e : Entry-path) (r : Bounded-role) : Type 0 where
   pub role : Bounded-role
-  pub session : getD (s .sessions) (c .account .uid .0) none ≡ some role
+  pub session : getD (s .registry .sessions) (c .account .uid .0) none ≡ some role
   pub dominates : dominated u role r ≡ true
   pub folder : Place Node
   pub stands : place-at (s .tree) (in-rep (e .folder)) ≡ some folder

@@ -119,7 +119,7 @@ removed-after e h = sym (rooted-drop an-entry top (e .folder) (e .name) (h .entr
 -- the caller's session has a role that dominates r and writes in the directory of e, as the abstract machine judges it
 pub record Rightful-apart (u : Setup) (h : Abstract) (c : Caller) (e : Entry-path) (r : Bounded-role) : Type 0 where
   pub role : Bounded-role
-  pub session : getD (h .sessions) (c .account .uid .0) none ≡ some role
+  pub session : getD (h .registry .sessions) (c .account .uid .0) none ≡ some role
   pub dominates : dominated u role r ≡ true
   pub folder : Place Filed
   pub stands : place-at (abstract .entries h) (e .folder) ≡ some folder
@@ -131,7 +131,7 @@ pub by-session : (u : Setup) (h : Abstract) (c : Caller) (z : Bounded-role) → 
 unfolding session by-dominance
 by-session u h c z i e f there w r b = record {
   role = z;
-  session = present-some (getD (h .sessions) (c .account .uid .0) none) NoSession i;
+  session = present-some (getD (h .registry .sessions) (c .account .uid .0) none) NoSession i;
   dominates = b;
   folder = f;
   stands = there;
@@ -196,7 +196,7 @@ pub rightful-tied : (u : Setup) {s : Store} {h : Abstract} → Tie s h → (c : 
 unfolding embed dominated
 rightful-tied u t c e q r same k = record {
   role = k .role;
-  session = ap (λ s. getD (s .sessions) (c .account .uid .0) none) (t .same) ∙ k .session;
+  session = ap (λ s. getD (s .registry .sessions) (c .account .uid .0) none) (t .same) ∙ k .session;
   dominates = ap (dominates (u .pairs) (k .role .role)) (sym same) ∙ k .dominates;
   folder = map-place met (k .folder);
   stands = met-tied t (e .folder) ∙ ap (Option·map (map-place met)) (k .stands);

@@ -59,7 +59,7 @@ module _ {S A : Type 0} (M : Machine S A) (setup : Setup) (s : S) where
 
     session-refuses : Refuses Own (session M setup s c)
     unfolding session
-    session-refuses = present-refuses NoSession refl (getD (M .sessions s) (c .account .uid .0) none)
+    session-refuses = present-refuses NoSession refl (getD (M .registry s .sessions) (c .account .uid .0) none)
 
     working-refuses : (right : Right) (w : Path) → Refuses Own (working-file M setup s c right w)
     unfolding working-file

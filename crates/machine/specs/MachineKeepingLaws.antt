@@ -7,7 +7,6 @@ use mathlib.Core.Bool.{true, false}
 use Prim.Native.Nat.{ℕ, suc, _+_, _≤_}
 use native.Mathlib.Omega.{arith}
 use lib.Dec.{eqb, leb, ltb}
-use lib.ListN.{length, set, length-set}
 use borrow.Author.Tests.{not-true, eqb-false, leb-true, le-leb, ltb-true}
 use Rattle.buffers.specs.Cases.{and-both}
 use Rattle.buffers.specs.Text.{Text}
@@ -45,8 +44,9 @@ use Rattle.copying.specs.Copying.{copy}
 use Rattle.copying.specs.CopyLaws.{copy-is-place}
 use Rattle.shell.specs.ShellKeepingLaws.{fit-most, room-keeps, run-shell-keeps}
 use Rattle.shell.specs.Replies.{after}
-use Rattle.store.specs.State.{Store, state-of, well-formed}
+use Rattle.store.specs.State.{Registry, set-session, is-registry, Store, state-of, well-formed}
 use Rattle.store.specs.StateLaws.{parts, formed}
+use Rattle.store.specs.RegistryLaws.{set-session-keeps}
 use Rattle.store.specs.Initial.{initial-store}
 use Rattle.store.specs.InitialLaws.{initial-well-formed}
 use Rattle.store.specs.StoreBytes.{encode, decode}
@@ -69,26 +69,29 @@ module _ (u : Setup) (g : is-setup u ≡ true) (s : Store) (w : well-formed (sta
   tree : is-tree (s .tree) ≡ true
   tree = parts (state-of u s) w .tree
 
-  count : length (s .sessions) ≡ 16
-  count = parts (state-of u s) w .sessions
+  registered : is-registry (s .registry) ≡ true
+  registered = parts (state-of u s) w .registry
 
   -- done with another well-formed tree
   changed : (x : Option Text) (t : Place Node) → is-tree t ≡ true
-      → Keeps (done (record { text = x; state = record { tree = t; sessions = s .sessions } }))
-  changed x t h = gives (formed u g (record { tree = t; sessions = s .sessions }) count h)
+      → Keeps (done (record { text = x; state = record { tree = t; registry = s .registry } }))
+  changed x t h = gives (formed u g (record { tree = t; registry = s .registry }) registered h)
 
-  -- done with a session set
-  session-set : (k : ℕ) (z : Option Bounded-role)
-      → Keeps (done (record { text = none; state = record { tree = s .tree; sessions = set (s .sessions) k z } }))
-  session-set k z = gives (formed u g (record { tree = s .tree; sessions = set (s .sessions) k z }) (length-set (s .sessions) k z ∙ count) tree)
+  -- done with another well-formed registry
+  registry-set : (r : Registry) → is-registry r ≡ true → Keeps (done (record { text = none; state = record { tree = s .tree; registry = r } }))
+  registry-set r h = gives (formed u g (record { tree = s .tree; registry = r }) h tree)
+
+  session-set : (z : Option Bounded-role)
+      → Keeps (done (record { text = none; state = record { tree = s .tree; registry = set-session (c .account .uid) z (s .registry) } }))
+  session-set z = registry-set _ (set-session-keeps (s .registry) (c .account .uid) z registered)
 
   login-keeps : (z : Bounded-role) (password : Text) → Keeps (run-login store u s c z password)
   unfolding run-login
-  login-keeps z password = then-check NoGrant tt _ λ _. session-set (c .account .uid .0) (some z)
+  login-keeps z password = then-check NoGrant tt _ λ _. session-set (some z)
 
   logout-keeps : Keeps (run-logout store u s c)
   unfolding run-logout
-  logout-keeps = session-set (c .account .uid .0) none
+  logout-keeps = session-set none
 
   -- the node where a walk leads is in range
   node-at : (j : Judge Node) (p : Path) (d : Place Node) → walk j (s .tree) p ≡ done d → is-node (d .here) ≡ true

@@ -23,8 +23,8 @@ workspace-of s = update (root ▹ rep) (λ d. leaf (d .here)) (s .tree)
 unfoldable pub filed-in : Store → Option (Place Node)
 filed-in s = get rep (s .tree .below)
 
--- Each call's reply with its text and, after the list, the people's tree, the sessions, the working directories and the entries: below `/rep` stand
--- the nodes of the entries, and no other.
+-- Each call's reply with its text and, after the list, the people's tree, the sessions, the working directories and the entries:
+-- below `/rep` stand the nodes of the entries, and no other.
 pub record Compared (a : Ran Store) (b : Ran Abstract) : Type 0 where
   pub replies : a .replies ≡ b .replies
   pub workspace : workspace-of (a .state) ≡ b .state .workspace

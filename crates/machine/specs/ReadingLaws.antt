@@ -188,7 +188,7 @@ module _ (u : Setup) (b : Bounded-role) where
       let d = leaf rep-node in
       let e : v .0 ≡ d = v .2 ∙ sym (stored-is-met no-nodes) ∙ stored-none in
       let to : walk (store .judge u b) (initial-store u .tree) (root ▹ rep) ≡ done d = ap (λ t. walk (store .judge u b) (t .tree) (root ▹ rep)) (t .same) ∙ v .1 ∙ ap done e in
-      rw (← witness-tie .same) (formed u s _ (i .sessions)
+      rw (← witness-tie .same) (formed u s _ (i .registry)
       (keep-put (store .judge u b) (initial-store u .tree) (root ▹ rep) d (bytes "x") (leaf filed-node) (i .tree) to
       (rw (leaf-here rep-node) directory-is-one) (rw (leaf-below rep-node) (get-nil (bytes "x"))) refl
       (leaf-place filed-node (entry-fits File b [] refl λ _. refl)) (omega (arith, leaf-height filed-node)) (omega (arith, initial-few u s, leaf-size filed-node))))

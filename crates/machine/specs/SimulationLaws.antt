@@ -37,7 +37,7 @@ use Rattle.copying.specs.Copying.{Source, copy}
 use Rattle.copying.specs.CopyLaws.{copy-map}
 use Rattle.shell.specs.Steps.{fit, run-shell}
 use Rattle.shell.specs.HidingLaws.{Kept-out, Beside, Alike, update-beside, walk-alike, owned-outside, file-outside, room-alike, fit-alike, run-shell-alike}
-use Rattle.store.specs.State.{Sessions, Store}
+use Rattle.store.specs.State.{Registry, Store}
 use Rattle.store.specs.Initial.{directory-of, top-node, rep-node}
 use Rattle.store.specs.Callers.{caller}
 use Rattle.machine.specs.Machine.{source, run-login, run-logout, session, run-add, run-co, working-file, original, run-commit, run-up, run-del, run-account, run-entry, run}
@@ -61,7 +61,7 @@ workspace-tie : {s : Store} {h : Abstract} → Tie s h → {a b : Place Node} �
     → Tie (store .on-workspace (λ t. a) s) (abstract .on-workspace (λ t. b) h)
 unfolding embed
 workspace-tie t w = record {
-  same = λ i. record { tree = w .same i; sessions = t .same i .sessions };
+  same = λ i. record { tree = w .same i; registry = t .same i .registry };
   kept = record { top = w .here; there = w .there };
 }
 
@@ -100,10 +100,10 @@ pub remove-tie : {s : Store} {h : Abstract} → Tie s h → (e : Entry-path) →
 unfolding stored
 remove-tie {h} t e = entries-tie t (e .folder) (drop (e .name)) (update-forest (e .folder) (remove (e .name))) (rooted-drop in-store rep-node (e .folder) (e .name) (h .entries))
 
--- changes of the sessions in both
-sessions-tie : {s : Store} {h : Abstract} → Tie s h → (z : Sessions) → Tie (store .with-sessions z s) (abstract .with-sessions z h)
+-- another registry in both
+registry-tie : {s : Store} {h : Abstract} → Tie s h → (r : Registry) → Tie (store .with-registry r s) (abstract .with-registry r h)
 unfolding embed
-sessions-tie t z = record {
+registry-tie t r = record {
   same = rw (t .same);
   kept = record { top = t .kept .top; there = t .kept .there };
 }
@@ -255,11 +255,11 @@ module _ (u : Setup) (c : Caller) (out : Kept-out c top-node (leaf rep-node .her
   -- command by command, line by line
   login-agrees : (z : Bounded-role) (password : Text) → Agree Tied (run-login store u (embed h) c z password) (run-login abstract u h c z password)
   unfolding run-login embed
-  login-agrees z password = check NoGrant refl λ _. both (changed (sessions-tie (start h k) _))
+  login-agrees z password = check NoGrant refl λ _. both (changed (registry-tie (start h k) _))
 
   logout-agrees : Agree Tied (run-logout store u (embed h) c) (run-logout abstract u h c)
   unfolding run-logout embed
-  logout-agrees = both (changed (sessions-tie (start h k) _))
+  logout-agrees = both (changed (registry-tie (start h k) _))
 
   add-agrees : (w : Path) (e : Entry-path) (role : Bounded-role) → Agree Tied (run-add store u (embed h) c w e role) (run-add abstract u h c w e role)
   unfolding run-add session embed

@@ -58,7 +58,7 @@ use Rattle.machine.specs.ReadingLaws
 use Rattle.machine.specs.MachinePrivacyLaws
 
 -- Demand 3. For every setup text that is taken and every list of calls, of any bytes and with any answer buffers, none of them
--- root's, the store and the abstract machine give the same replies, and afterwards hold the same people's tree, sessions and entries.
+-- root's, the store and the abstract machine give the same replies, and afterwards hold the same people's tree, sessions, working directories and entries.
 pub demand-3 : (text : Text) (u : Setup) → setup text ≡ accepted u → (calls : List Call) → without-root calls ≡ true →
     Compared (runs store u (initial-store u) calls) (abstract-runs u (initial-abstract u) calls)
 demand-3 = ComparedLaws.compared-lists
