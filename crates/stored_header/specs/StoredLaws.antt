@@ -1,4 +1,5 @@
--- The parts of a store that was read, and what follows for the store where `login` or `logout` follows its steps on the header.
+-- The parts of a store that was read, and what follows for the store where `login` or `logout` follows its steps on the header, and
+-- where `cd` was decided on the tree.
 use mathlib.Core.Path.{_≡_, sym, _∙_, ap, ap₂}
 use mathlib.Core.List.{List, _++_}
 use mathlib.Core.Option.{none, some}
@@ -9,25 +10,40 @@ use lib.Seq.{take-at, length-take-le}
 use Rattle.buffers.specs.Text.{Text}
 use Rattle.accounts.specs.declared.Caller.{Caller}
 use Rattle.accounts.specs.Dominance.{Bounded-role}
-use Rattle.tree.specs.Result.{Result, refused, done, _>>=_}
+use Rattle.accounts.specs.declared.Uid.{Uid}
+use Rattle.syntax.specs.Path.{Path, path, path-text}
+use Rattle.syntax.specs.PathLaws.{path-is-path}
+use Rattle.syntax.specs.ParentLaws.{text-of-path}
+use Rattle.setup.specs.Setup.{Setup}
+use Rattle.tree.specs.declared.Cause.{Cause}
+use Rattle.tree.specs.Result.{Result, refused, done, _>>=_, Outcome}
 use Rattle.tree.specs.Encoding.{encode-tree}
 use Rattle.tree.specs.ResultLaws.{refused-bind, done-bind}
+use Rattle.tree.specs.TreeBytes.{Whole, Path-text}
+use Rattle.walks.specs.declared.Walked.{Walked}
+use Rattle.walks.specs.declared.Walked.the-variants.{To, Refused}
+use Rattle.walks.specs.RowWalk.{outcome}
+use Rattle.attributes.specs.declared.Deed.the-variants.{Enter}
+use Rattle.attributes.specs.Checks.{may-do, may-do-at}
+use Rattle.attributes.specs.ChecksLaws.{enter-checked, decided-refused, decided-there}
 use Rattle.shell.specs.declared.Answer.{Answer}
+use Rattle.shell.specs.declared.Answer.the-variants
+use Rattle.shell.specs.CommandBytesLaws.{refusal-follows, silence-follows}
 use Rattle.shell.specs.Replies.{reply, answer-of, written}
 use Rattle.shell.specs.CommandBytes.{bytes-after, Carries-silently}
 use Rattle.store.specs.HeaderLayout.{header-width}
-use Rattle.store.specs.State.{Registry, State}
+use Rattle.store.specs.State.{Registry, set-directory, Store, State}
 use Rattle.store.specs.StateLaws.{parts}
 use Rattle.store.specs.StoreBytes.{store-width, header-bytes, encode, decode}
 use Rattle.store.specs.HeaderLaws.{length-header}
 use Rattle.store.specs.StoreBytesLaws.{encode-decode, decode-length}
 use Rattle.store.specs.DecodeLaws.{tree-read}
 use Rattle.store.specs.Logins.{logged-in, logged-out}
-use Rattle.header.specs.HeaderBytes.{Headed, Header-follows}
-use Rattle.machine.specs.Machine.{run-login, run-logout}
+use Rattle.header.specs.HeaderBytes.{Headed, Tells-path, Header-follows}
+use Rattle.machine.specs.Machine.{run-login, run-logout, run-cd}
 use Rattle.machine.specs.StoreMachine.{store}
 use Rattle.machine.specs.LoginLaws.{run-login-is, run-logout-is}
-use Rattle.stored_header.specs.Stored.{Stored, Some-store, bytes-with}
+use Rattle.stored_header.specs.Stored.{Stored, Some-store, bytes-with, moved-to}
 
 -- bytes that are read as a state are that store's
 pub read-stored : (b : List ℕ) (s : State) → decode b ≡ some s → Stored b s
@@ -59,6 +75,13 @@ module _ {b : List ℕ} (h : Some-store b) where
   -- what is lent is a header and a tree
   pub lent-headed : Headed (take header-width b)
   lent-headed = (h .0 .setup, h .0 .store .registry, h .1 .header)
+
+  pub lent-whole : Whole (drop header-width b)
+  lent-whole = (h .0 .store .tree, h .1 .tree)
+
+-- a text that reads as a path tells one
+pub path-told : {t : Text} → Path-text t → Tells-path t
+path-told {t} h = (h .0, (path-is-path t (h .0) (h .1), sym (text-of-path t (h .0) (h .1))))
 
 -- ---- what follows for the store
 
@@ -93,3 +116,30 @@ module _ {b : List ℕ} {s : State} (h : Stored b s) where
   logout-carries c r H f a =
       rw (run-logout-is store (s .setup) (s .store) c)
       (header-carries (logged-out (s .store .registry) (c .account .uid)) r H f a)
+
+-- ---- `cd`
+
+-- it is the decision on the tree, then the working directory
+cd-checked : (u : Setup) (s : Store) (c : Caller) (p : Path)
+    → run-cd store u s c p ≡ (may-do (c .account) Enter (s .tree) p >>= λ d. done (record { text = none; state = moved-to (c .account .uid) p s }))
+unfolding run-cd
+cd-checked u s c p = enter-checked (c .account) (s .tree) p (λ d. done (record { text = none; state = moved-to (c .account .uid) p s }))
+
+module _ {b : List ℕ} {s : State} (h : Stored b s) where
+  -- the header of another working directory, before the tree
+  pub directory-bytes : (uid : Uid) (p : Path) (H : List ℕ) → H ≡ header-bytes (s .setup) (set-directory uid p (s .store .registry))
+      → H ++ drop header-width b ≡ bytes-with (s .setup) (moved-to uid p (s .store))
+  unfolding encode
+  directory-bytes uid p H e = ap₂ _++_ e (h .tree .bytes)
+
+  module _ (c : Caller) (p : Path) {r : Walked} (same : outcome r ≡ may-do-at (c .account) Enter (s .store .tree) p) where
+    abbrev goes-on : Result (Outcome Store)
+    goes-on = done (record { text = none; state = moved-to (c .account .uid) p (s .store) })
+
+    pub cd-refused : {cause : Cause} → r ≡ Refused cause
+        → Carries-silently (bytes-with (s .setup)) (run-cd store (s .setup) (s .store) c p) b (the-variants.Refused cause) b
+    cd-refused e = refusal-follows b (cd-checked (s .setup) (s .store) c p ∙ decided-refused (h .tree) (c .account) Enter p same (λ d. goes-on) e)
+
+    pub cd-carries : {row above : ℕ} → r ≡ To row above → (b′ : List ℕ) → b′ ≡ bytes-with (s .setup) (moved-to (c .account .uid) p (s .store))
+        → Carries-silently (bytes-with (s .setup)) (run-cd store (s .setup) (s .store) c p) b the-variants.Done b′
+    cd-carries e b′ q = silence-follows b b′ (cd-checked (s .setup) (s .store) c p ∙ decided-there (h .tree) (c .account) Enter p same (λ d. goes-on) e) q
