@@ -16,7 +16,7 @@ use Rattle.accounts.specs.Dominance.{Bounded-role, same-role-number}
 use Rattle.setup.specs.Setup.{Grant, Setup}
 use Rattle.setup.specs.SetupLaws.{apart}
 use Rattle.store.specs.HeaderLayout.{grants-offset}
-use Rattle.store.specs.State.{Sessions}
+use Rattle.store.specs.State.{Registry}
 use Rattle.store.specs.Callers.{granted}
 use Rattle.header.specs.HeaderBytes.{Heads, Headed, grant-in, grant-has}
 use Rattle.header.specs.HeaderBytesLaws.{grants-counted, grant-stands}
@@ -43,7 +43,7 @@ pub few-granted : {b : List ℕ} → Headed b → getD b grants-offset 0 ≤ 32
 few-granted h = omega (arith, grants-counted (h .2), apart (h .0) (h .2 .in-range) .few-grants)
 
 -- s is the bounded role of the number that the code has
-module _ {b : List ℕ} {u : Setup} {z : Sessions} (h : Heads b u z)
+module _ {b : List ℕ} {u : Setup} {z : Registry} (h : Heads b u z)
     (uid : Uid) (role : Role) (password : Text) (s : Bounded-role) (e : s .role ≡ role) where
   -- whether one of the grants from an index on has just these three
   abbrev granted-from : ℕ → Bool

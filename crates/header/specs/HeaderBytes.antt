@@ -4,7 +4,7 @@ use mathlib.Core.List.{List}
 use mathlib.Core.Option.{Option, none, some}
 use mathlib.Core.Bool.{Bool, true, _&&_}
 use Prim.Native.Nat.{ℕ, _+_}
-use lib.ListN.{length, getD, set}
+use lib.ListN.{getD}
 use Rattle.buffers.specs.Text.{Text, same-text}
 use Rattle.buffers.specs.Fields.{text-at}
 use Rattle.accounts.specs.declared.Caller.{Caller}
@@ -14,32 +14,33 @@ use Rattle.accounts.specs.declared.Session.{Session}
 use Rattle.accounts.specs.declared.Session.the-variants.{Nobody as No-session, As as Session-as}
 use Rattle.accounts.specs.Access.{same-uid}
 use Rattle.accounts.specs.Dominance.{Bounded-role, same-role}
+use Rattle.syntax.specs.Path.{Path, is-path, path-text}
 use Rattle.setup.specs.Setup.{Grant, Setup, is-setup}
 use Rattle.tree.specs.declared.Cause.the-variants.{UnknownCaller}
 use Rattle.tree.specs.Result.{Result, refused, done, _>>=_, Outcome}
 use Rattle.shell.specs.declared.Answer.{Answer}
 use Rattle.shell.specs.CommandBytes.{Carries-silently}
 use Rattle.store.specs.HeaderLayout.{password-offset, password-width, grant-start}
-use Rattle.store.specs.State.{Sessions}
+use Rattle.store.specs.State.{Registry, set-session, set-directory, is-registry}
 use Rattle.store.specs.StoreBytes.{header-bytes}
 use Rattle.store.specs.Callers.{granted}
 use Rattle.store.specs.Logins.{logged-in, logged-out}
 use Rattle.header.specs.declared.Known.{Known}
 use Rattle.header.specs.declared.Known.the-variants.{As, Nobody}
 
--- the bytes of the header of a setup in range and sixteen sessions
-pub record Heads (b : List ℕ) (u : Setup) (z : Sessions) : Type 0 where
+-- the bytes of the header of a setup in range and a well-formed registry
+pub record Heads (b : List ℕ) (u : Setup) (z : Registry) : Type 0 where
   pub in-range : is-setup u ≡ true
-  pub sixteen : length z ≡ 16
+  pub registered : is-registry z ≡ true
   pub bytes : b ≡ header-bytes u z
 
 -- the bytes of some header
 abbrev pub Headed : List ℕ → Type 0
-Headed b = (u : Setup) × (z : Sessions) × Heads b u z
+Headed b = (u : Setup) × (z : Registry) × Heads b u z
 
--- for whatever setup and sessions the bytes are of
-abbrev pub Whose : List ℕ → (Setup → Sessions → Type 0) → Type 0
-Whose b P = (u : Setup) (z : Sessions) → Heads b u z → P u z
+-- for whatever setup and registry the bytes are of
+abbrev pub Whose : List ℕ → (Setup → Registry → Type 0) → Type 0
+Whose b P = (u : Setup) (z : Registry) → Heads b u z → P u z
 
 -- who an answer of the code says that calls
 unfoldable pub known : Known → Result Caller
@@ -57,7 +58,15 @@ Bounded-session s = (o : Option Bounded-role) × (s ≡ session-held o)
 
 -- the bytes before and after an account's session is replaced
 abbrev pub Session-put : List ℕ → Uid → Session → List ℕ → Type 0
-Session-put b uid session b′ = Whose b (λ u z. (o : Option Bounded-role) → session ≡ session-held o → b′ ≡ header-bytes u (set z (uid .0) o))
+Session-put b uid session b′ = Whose b (λ u z. (o : Option Bounded-role) → session ≡ session-held o → b′ ≡ header-bytes u (set-session uid o z))
+
+-- a text is that of a path in range
+abbrev pub Tells-path : Text → Type 0
+Tells-path t = (p : Path) × (is-path p ≡ true) × (path-text p ≡ t)
+
+-- the bytes before and after an account's working directory is replaced by the path of a text
+abbrev pub Directory-put : List ℕ → Uid → Text → List ℕ → Type 0
+Directory-put b uid t b′ = Whose b (λ u z. (p : Path) → path-text p ≡ t → b′ ≡ header-bytes u (set-directory uid p z))
 
 -- the grant of an index
 abbrev pub grant-in : List ℕ → ℕ → Grant
@@ -79,11 +88,11 @@ Grant-told b uid role password r = Whose b (λ u z. (s : Bounded-role) → s .ro
 abbrev pub silently : {S : Type 0} → Result S → Result (Outcome S)
 silently steps = steps >>= λ s. done (record { text = none; state = s })
 
--- the answer r and the bytes b′ of the sessions, with the setup's, are those of the steps, from b
-abbrev pub Header-follows : Setup → Result Sessions → List ℕ → Answer → List ℕ → Type 0
+-- the answer r and the bytes b′ of the registry, with the setup's, are those of the steps, from b
+abbrev pub Header-follows : Setup → Result Registry → List ℕ → Answer → List ℕ → Type 0
 Header-follows u steps b r b′ = Carries-silently (header-bytes u) (silently steps) b r b′
 
--- `login` and `logout`, for whatever setup and sessions the bytes are of: the answer and the bytes afterwards
+-- `login` and `logout`, for whatever setup and registry the bytes are of: the answer and the bytes afterwards
 abbrev pub Logs-in : List ℕ → Uid → Role → Text → Answer → List ℕ → Type 0
 Logs-in b uid role password r b′ = Whose b (λ u z. (s : Bounded-role) → s .role ≡ role → Header-follows u (logged-in u z uid s password) b r b′)
 

@@ -1,40 +1,43 @@
 -- What stands in a header's bytes, and where.
 --
--- In order: the header whole; an account's slot; an account's session; the role pairs; the grants.
+-- In order: the header whole; an account's slot, its session and its working directory; the role pairs; the grants.
 use mathlib.Core.Path.{_≡_, refl, sym, _∙_, ap, ap₂}
 use mathlib.Core.List.{List, [], append-nil}
 use mathlib.Core.Option.{Option, none, some}
 use Prim.Native.Nat.{ℕ, _+_, _*_, _≤_, _<_}
 use native.Mathlib.Omega.{arith}
 use lib.ListN.{length, getD, set, take, drop, List·getD-eq-default}
-use lib.Seq.{getD-drop, drop-drop}
+use lib.Seq.{paste, getD-drop, drop-drop}
 use borrow.Author.Tests.{eq-eqb, ne-eqb}
-use Rattle.buffers.specs.Fields.{number-at, table-from}
-use Rattle.buffers.specs.FieldsLaws.{byte-there, number-there, text-there}
+use Rattle.buffers.specs.Text.{Text}
+use Rattle.buffers.specs.Fields.{number-at, padded, text-at, table-from}
+use Rattle.buffers.specs.FieldsLaws.{length-padded, byte-there, number-there, text-there}
 use Rattle.buffers.specs.TableLaws.{all-from-at, table-count, table-value}
 use Rattle.accounts.specs.declared.Uid.{Uid}
 use Rattle.accounts.specs.Dominance.{Bounded-role}
 use Rattle.accounts.specs.PairBytes.{pair-of}
 use Rattle.dominance.specs.PairsIn.{pairs-in}
+use Rattle.syntax.specs.Path.{Path, path-text}
+use Rattle.syntax.specs.PathLaws.{path-text-fits}
 use Rattle.setup.specs.Setup.{Grant, Setup, accounts, person}
 use Rattle.setup.specs.SetupLaws.{apart}
-use Rattle.store.specs.HeaderLayout.{slot-width, sessions-offset, pairs-offset, pair-width, grants-offset, grant-width, grant-start, Wide-header}
-use Rattle.store.specs.State.{Sessions}
-use Rattle.store.specs.StoreBytes.{slot-of, session-byte, grant-of, header-bytes, setup-of}
-use Rattle.store.specs.HeaderLaws.{length-header, setup-of-header, session-in-header, header-with-session}
-use Rattle.header.specs.HeaderBytes.{Heads, Headed, grant-in}
+use Rattle.store.specs.HeaderLayout.{slot-width, sessions-offset, pairs-offset, pair-width, grants-offset, grant-width, grant-start, directory-width, directory-start, Wide-header}
+use Rattle.store.specs.State.{Registry, set-session, working-directory, set-directory}
+use Rattle.store.specs.StoreBytes.{slot-of, session-byte, grant-of, directory-bytes, header-bytes, setup-of}
+use Rattle.store.specs.HeaderLaws.{directory-bytes-are, length-header, setup-of-header, session-in-header, header-with-session, directory-text-in-header, header-with-directory}
+use Rattle.header.specs.HeaderBytes.{Heads, Headed, Tells-path, grant-in}
 
 -- ---- a header
 
-module _ {b : List ℕ} {u : Setup} {z : Sessions} (h : Heads b u z) where
+module _ {b : List ℕ} {u : Setup} {z : Registry} (h : Heads b u z) where
   -- it has its width
   heads-wide : Wide-header b
-  heads-wide = ap length (h .bytes) ∙ length-header u z (h .in-range) (h .sixteen)
+  heads-wide = ap length (h .bytes) ∙ length-header u z (h .in-range) (h .registered)
 
   -- its setup is read from it
   setup-read : u ≡ setup-of b
   setup-read =
-      sym (setup-of-header u z [] (h .in-range) (h .sixteen)) ∙ ap setup-of (append-nil (header-bytes u z) ∙ sym (h .bytes))
+      sym (setup-of-header u z (h .in-range) (h .registered) []) ∙ ap setup-of (append-nil (header-bytes u z) ∙ sym (h .bytes))
 
   -- ---- the slot of an account
 
@@ -68,12 +71,25 @@ module _ {b : List ℕ} {u : Setup} {z : Sessions} (h : Heads b u z) where
 
   -- ---- the session of an account
 
-  pub session-stands : (v : Uid) → v .0 < 16 → getD b (sessions-offset + v .0) 0 ≡ session-byte (getD z (v .0) none)
-  session-stands v l = rw (h .bytes) (session-in-header u z (h .in-range) (h .sixteen) (v .0) l)
+  pub session-stands : (v : Uid) → v .0 < 16 → getD b (sessions-offset + v .0) 0 ≡ session-byte (getD (z .sessions) (v .0) none)
+  session-stands v l = rw (h .bytes) (session-in-header u z (h .in-range) (h .registered) v l)
 
   pub session-stored : (v : Uid) → v .0 < 16 → (o : Option Bounded-role)
-      → set b (sessions-offset + v .0) (session-byte o) ≡ header-bytes u (set z (v .0) o)
-  session-stored v l o = rw (h .bytes) (header-with-session u z (h .in-range) (h .sixteen) (v .0) l o)
+      → set b (sessions-offset + v .0) (session-byte o) ≡ header-bytes u (set-session v o z)
+  session-stored v l o = rw (h .bytes) (header-with-session u z (h .in-range) (h .registered) v l o)
+
+  -- ---- the working directory of an account
+
+  pub directory-stands : (v : Uid) → v .0 < 16 → text-at (directory-start (v .0)) directory-width b ≡ path-text (working-directory v z)
+  directory-stands v l = rw (h .bytes) (directory-text-in-header u z (h .in-range) (h .registered) v l)
+
+  -- a path's text that fits, filled up with zeros
+  pub directory-stored : (v : Uid) → v .0 < 16 → (p : Path) (t : Text) → path-text p ≡ t → length t ≤ directory-width
+      → paste b (directory-start (v .0)) (padded directory-width t) directory-width ≡ header-bytes u (set-directory v p z)
+  directory-stored v l p t e k =
+      let q : padded directory-width t ≡ directory-bytes p = ap (padded directory-width) (sym e) ∙ sym (directory-bytes-are p) in
+      ap₂ (λ (x y : List ℕ). paste x (directory-start (v .0)) y directory-width) (h .bytes) q
+      ∙ header-with-directory u z (h .in-range) (h .registered) v l p (ap length (sym q) ∙ length-padded directory-width t k)
 
   -- ---- the role pairs
 
@@ -112,3 +128,7 @@ module _ {b : List ℕ} {u : Setup} {z : Sessions} (h : Heads b u z) where
 -- every header has its width
 pub headed-wide : {b : List ℕ} → Headed b → Wide-header b
 headed-wide h = heads-wide (h .2)
+
+-- the text of a path in range fits a working directory's field
+pub told-fits : {t : Text} → Tells-path t → length t ≤ directory-width
+told-fits (p, h, e) = omega (arith, ap length e, path-text-fits p h .0)

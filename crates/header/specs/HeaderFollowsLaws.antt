@@ -4,7 +4,6 @@ use mathlib.Core.List.{List}
 use mathlib.Core.Option.{none, some}
 use mathlib.Core.Bool.{true, false}
 use Prim.Native.Nat.{ℕ}
-use lib.ListN.{set}
 use Rattle.buffers.specs.Text.{Text}
 use Rattle.accounts.specs.declared.Uid.{Uid}
 use Rattle.accounts.specs.Dominance.{Bounded-role}
@@ -14,7 +13,7 @@ use Rattle.tree.specs.Result.{refused, done}
 use Rattle.tree.specs.ResultLaws.{refused-bind, done-bind, require-true, require-false, refused-then, done-then}
 use Rattle.shell.specs.declared.Answer.the-variants.{Done, Refused}
 use Rattle.shell.specs.CommandBytesLaws.{refusal-follows, silence-follows}
-use Rattle.store.specs.State.{Sessions}
+use Rattle.store.specs.State.{Registry, set-session}
 use Rattle.store.specs.StoreBytes.{header-bytes}
 use Rattle.store.specs.Callers.{granted}
 use Rattle.store.specs.Logins.{logged-in, logged-out}
@@ -22,18 +21,18 @@ use Rattle.header.specs.HeaderBytes.{silently, Header-follows}
 
 -- ---- what the steps come to
 
-module _ (u : Setup) (z : Sessions) (uid : Uid) (s : Bounded-role) (password : Text) where
+module _ (u : Setup) (z : Registry) (uid : Uid) (s : Bounded-role) (password : Text) where
   no-grant-refused : granted (u .grants) uid s password ≡ false → logged-in u z uid s password ≡ refused NoGrant
   unfolding logged-in
-  no-grant-refused g = rw (g, require-false NoGrant, refused-then NoGrant (done (set z (uid .0) (some s))))
+  no-grant-refused g = rw (g, require-false NoGrant, refused-then NoGrant (done (set-session uid (some s) z)))
 
-  grant-done : granted (u .grants) uid s password ≡ true → logged-in u z uid s password ≡ done (set z (uid .0) (some s))
+  grant-done : granted (u .grants) uid s password ≡ true → logged-in u z uid s password ≡ done (set-session uid (some s) z)
   unfolding logged-in
-  grant-done g = rw (g, require-true NoGrant, done-then (done (set z (uid .0) (some s))))
+  grant-done g = rw (g, require-true NoGrant, done-then (done (set-session uid (some s) z)))
 
 -- ---- what follows them
 
-module _ (u : Setup) (z : Sessions) (b : List ℕ) (uid : Uid) where
+module _ (u : Setup) (z : Registry) (b : List ℕ) (uid : Uid) where
   -- `login` without a grant
   pub login-refused : (s : Bounded-role) (password : Text) → granted (u .grants) uid s password ≡ false
       → Header-follows u (logged-in u z uid s password) b (Refused NoGrant) b
@@ -41,10 +40,10 @@ module _ (u : Setup) (z : Sessions) (b : List ℕ) (uid : Uid) where
 
   -- `login` with one
   pub login-done : (s : Bounded-role) (password : Text) (b′ : List ℕ) → granted (u .grants) uid s password ≡ true
-      → b′ ≡ header-bytes u (set z (uid .0) (some s)) → Header-follows u (logged-in u z uid s password) b Done b′
-  login-done s password b′ g e = silence-follows b b′ (ap silently (grant-done u z uid s password g) ∙ done-bind (set z (uid .0) (some s)) _) e
+      → b′ ≡ header-bytes u (set-session uid (some s) z) → Header-follows u (logged-in u z uid s password) b Done b′
+  login-done s password b′ g e = silence-follows b b′ (ap silently (grant-done u z uid s password g) ∙ done-bind (set-session uid (some s) z) _) e
 
   -- `logout`
-  pub logout-done : (b′ : List ℕ) → b′ ≡ header-bytes u (set z (uid .0) none) → Header-follows u (logged-out z uid) b Done b′
+  pub logout-done : (b′ : List ℕ) → b′ ≡ header-bytes u (set-session uid none z) → Header-follows u (logged-out z uid) b Done b′
   unfolding logged-out
-  logout-done b′ e = silence-follows b b′ (done-bind (set z (uid .0) none) _) e
+  logout-done b′ e = silence-follows b b′ (done-bind (set-session uid none z) _) e

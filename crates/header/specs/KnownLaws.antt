@@ -18,7 +18,7 @@ use Rattle.tree.specs.declared.Cause.the-variants.{UnknownCaller}
 use Rattle.tree.specs.Result.{done}
 use Rattle.tree.specs.ResultLaws.{present-of, present-none, done-bind, refused-bind}
 use Rattle.store.specs.HeaderLayout.{slot-width}
-use Rattle.store.specs.State.{Sessions}
+use Rattle.store.specs.State.{Registry}
 use Rattle.store.specs.PersonLaws.{person-in-range}
 use Rattle.store.specs.Callers.{person-caller, known-caller, caller}
 use Rattle.header.specs.declared.Known.the-variants.{As, Nobody}
@@ -49,6 +49,6 @@ module _ (u : Setup) (v : Uid) where
       (λ i. done (calls-as v (q i) (p .primary)))
 
 -- a primary group is one that a set of groups has room for
-pub primary-low : {b : List ℕ} {u : Setup} {z : Sessions} → Heads b u z → (v : Uid) → v .0 < 16 → (getD b (slot-width * v .0) 0 ≡ 0 → ⊥)
+pub primary-low : {b : List ℕ} {u : Setup} {z : Registry} → Heads b u z → (v : Uid) → v .0 < 16 → (getD b (slot-width * v .0) 0 ≡ 0 → ⊥)
     → getD b (slot-width * v .0) 0 < 32
 primary-low {u = u} h v l n = omega (arith, person-in-range u (h .in-range) v _ (filled-slot h v l n) .1)

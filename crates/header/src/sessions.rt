@@ -18,7 +18,7 @@ use tree::Cause;
 pub fn session_of(header: &[u8], uid: Uid) -> Session
     requires { ⌜ Headed (now header) ⌝ }
     requires { ⌜ uid .0 < 16 ⌝ }
-    ensures { λ r. ⌜ Whose (now (header .entry)) (λ u z. r ≡ session-held (getD z (uid .0) none)) ⌝ }
+    ensures { λ r. ⌜ Whose (now (header .entry)) (λ u z. r ≡ session-held (getD (z .sessions) (uid .0) none)) ⌝ }
 {
     let b = header[SESSIONS + uid.0 as usize];
     if b == 0 {

@@ -9,7 +9,7 @@ use native.Mathlib.Omega.{arith}
 use lib.ListN.{length, getD, set, take, drop, replicate, length-append, length-replicate}
 use lib.Seq.{paste, drop-drop}
 use Rattle.buffers.specs.Text.{every}
-use Rattle.buffers.specs.Fields.{text-at, all-bytes, all-from}
+use Rattle.buffers.specs.Fields.{padded, text-at, all-bytes, all-from}
 use Rattle.buffers.specs.FieldsLaws.{length-padded, text-at-padded, text-there}
 use Rattle.buffers.specs.TableLaws.{length-all-bytes, all-bytes-at, all-from-bytes}
 use Rattle.accounts.specs.declared.Uid.{Uid}
@@ -26,7 +26,12 @@ use Rattle.store.specs.FrontLaws.{front-before, length-front, behind-fro
 
 -- ---- one working directory
 
--- a path takes its width
+-- a path's text filled up with zeros
+pub directory-bytes-are : (p : Path) → directory-bytes p ≡ padded directory-width (path-text p)
+unfolding directory-bytes
+directory-bytes-are p = refl
+
+-- takes its width
 pub length-directory : (p : Path) → is-path p ≡ true → length (directory-bytes p) ≡ directory-width
 unfolding directory-bytes
 length-directory p h = length-padded directory-width (path-text p) (path-text-fits p h .0)
@@ -83,7 +88,7 @@ module _ (l : List Path) (n : length l ≡ 16) (h : every is-path l ≡ true) wh
     unfolding directories-part
     directory-in-part = all-bytes-at directory-width is-path directory-bytes length-directory l i Q root h (omega arith)
 
-    directory-replaced : (p : Path) → is-path p ≡ true → paste (directories-part l ++ Q) (directory-width * i) (directory-bytes p) directory-width ≡ directories-part (set l i p) ++ Q
+    directory-replaced : (p : Path) → length (directory-bytes p) ≡ directory-width → paste (directories-part l ++ Q) (directory-width * i) (directory-bytes p) directory-width ≡ directories-part (set l i p) ++ Q
     unfolding directories-part
     directory-replaced p e = value-replaced directory-width is-path directory-bytes length-directory l i p root Q h e (omega arith)
 
@@ -157,8 +162,8 @@ module _ (u : Setup) (r : Registry) (h : is-setup u ≡ true) (k : is-registry r
       text-there b o directory-width 0 directory-width (omega arith) ∙ ap (λ (n : ℕ). text-at n directory-width b) q in
       sym there ∙ ap (text-at 0 directory-width) directory-in-header ∙ directory-text (working-directory uid r) (working-directory-is-path r uid k)
 
-  -- written there, a path's bytes make the header of the registry with it
-  pub header-with-directory : (q : Path) → is-path q ≡ true → paste (header-bytes u r) (directory-start (uid .0)) (directory-bytes q) directory-width ≡ header-bytes u (set-directory uid q r)
+  -- written there, the bytes of a path that has the width make the header of the registry with it
+  pub header-with-directory : (q : Path) → length (directory-bytes q) ≡ directory-width → paste (header-bytes u r) (directory-start (uid .0)) (directory-bytes q) directory-width ≡ header-bytes u (set-directory uid q r)
   unfolding set-directory
   header-with-directory q e =
       let p = registry-parts r k in

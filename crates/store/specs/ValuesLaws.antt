@@ -54,10 +54,10 @@ around w test f long (a ∷ l) (suc i) d h k =
 
 -- one value written over another
 pub value-replaced : {A : Type 0} (w : ℕ) (test : A → Bool) (f : A → List ℕ) → ((a : A) → test a ≡ true → length (f a) ≡ w) →
-    (l : List A) (i : ℕ) (v d : A) (R : List ℕ) → every test l ≡ true → test v ≡ true → i < length l →
+    (l : List A) (i : ℕ) (v d : A) (R : List ℕ) → every test l ≡ true → length (f v) ≡ w → i < length l →
     paste (all-bytes f l ++ R) (w * i) (f v) w ≡ all-bytes f (set l i v) ++ R
 value-replaced w test f long l i v d R h e n =
     let r = around w test f long l i d h n in
     ap (λ (x : List ℕ). paste x (w * i) (f v) w) (r .there R)
-    ∙ paste-piece (r .before) (r .behind ++ R) (f (getD l i d)) (f v) (w * i) w (r .wide) (long (getD l i d) (every-there test l i d h n)) (long v e)
+    ∙ paste-piece (r .before) (r .behind ++ R) (f (getD l i d)) (f v) (w * i) w (r .wide) (long (getD l i d) (every-there test l i d h n)) e
     ∙ sym (r .instead v R)

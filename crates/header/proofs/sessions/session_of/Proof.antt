@@ -24,7 +24,7 @@ returns : tie.Need-returns
 returns c u z h =
     let s = c .before .before .before in
     let v = s .args .uid in
-    zero-holds (getD (now (s .args .header)) (sessions-offset + v .0) 0) (getD z (v .0) none) (session-stands h v (s .pre .1)) (c .if1 .taken)
+    zero-holds (getD (now (s .args .header)) (sessions-offset + v .0) 0) (getD (z .sessions) (v .0) none) (session-stands h v (s .pre .1)) (c .if1 .taken)
 
 sub-t7 : tie.Need-sub-t7
 sub-t7 c = search needs
@@ -33,7 +33,7 @@ returns-2 : tie.Need-returns-2
 returns-2 c u z h =
     let s = c .before .before .before in
     let v = s .args .uid in
-    role-holds (getD (now (s .args .header)) (sessions-offset + v .0) 0) (getD z (v .0) none) (session-stands h v (s .pre .1)) (c .if1 .left)
+    role-holds (getD (now (s .args .header)) (sessions-offset + v .0) 0) (getD (z .sessions) (v .0) none) (session-stands h v (s .pre .1)) (c .if1 .left)
 
 pub session-of-spec : {M : Type 1} → statement M
 session-of-spec = tie.close (tie.spec cast-b add-b shared-slice-read-b returns sub-t7 returns-2)
