@@ -11,8 +11,8 @@ use Rattle.setup.specs.Setup.{Setup-answer, accepted, wrong-line, setup, no-set
 use Rattle.tree.specs.Forest.{update, alter}
 use Rattle.tree.specs.Node.{set-revision, set-tag}
 use Rattle.store.specs.State.{Store}
-use Rattle.store.specs.Initial.{no-sessions, initial-store}
-use Rattle.store.specs.StoreBytes.{header-bytes}
+use Rattle.store.specs.Initial.{initial-store}
+use Rattle.store.specs.SetupHeader.{setup-header}
 use Rattle.machine.specs.StoreMachine.{store}
 use Rattle.machine.specs.Runs.{runs}
 use Rattle.listing.specs.Listing.{listing}
@@ -46,9 +46,9 @@ no-store-set-up = refl
 
 -- ---- bytes
 
--- without persons, pairs, grants and sessions the header is zero
-empty-header : header-bytes no-setup no-sessions ≡ replicate header-width 0
-unfolding compute compute-calls
+-- while nothing of a setup has been read the header is zero
+empty-header : setup-header no-setup ≡ replicate header-width 0
+unfolding compute compute-calls setup-header
 empty-header = refl
 
 -- ---- the last revision
@@ -63,7 +63,7 @@ at-revision v s =
     let e : Entry-path = record { folder = root; name = bytes "a" } in
     let entry = update (root ▹ rep ▹ bytes "a") (alter (set-revision v)) in
     let tag = update (root ▹ bytes "u1" ▹ bytes "a") (alter (set-tag (record { path = e; revision = v }))) in
-    record { tree = tag (entry (s .tree)); sessions = s .sessions }
+    record { tree = tag (entry (s .tree)); registry = s .registry }
 
 -- the answers to two commits from there, then the listing
 two-commits : ℕ → Setup-answer → List Text

@@ -57,12 +57,14 @@ responses-to [] rs = []
 responses-to (q ∷ qs) [] = []
 responses-to (q ∷ qs) (r ∷ rs) = response q r ∷ responses-to qs rs
 
--- bytes that stand for a state of the abstract machine: they are read as a store of the setup with its people's tree, sessions and entries
+-- bytes that stand for a state of the abstract machine: they are read as a store of the setup with its people's tree, sessions,
+-- working directories and entries
 pub record Stands-for (setup : Setup) (h : Abstract) (b : List ℕ) : Type 0 where
   pub store : Store
   pub read : decode b ≡ some (state-of setup store)
   pub workspace : workspace-of store ≡ h .workspace
-  pub sessions : store .sessions ≡ h .sessions
+  pub sessions : store .registry .sessions ≡ h .registry .sessions
+  pub directories : store .registry .directories ≡ h .registry .directories
   pub entries : filed-in store ≡ some (stored (h .entries))
 
 -- no call says 18

@@ -166,6 +166,7 @@ compared-calls b text e qs r =
         read = ap (λ d. decode (d .store)) ran ∙ decode-encode (state-of u s) (runs-keep u g (initial-store u) w calls);
         workspace = c .workspace;
         sessions = c .sessions;
+        directories = c .directories;
         entries = c .entries;
       };
       sound = ap (λ d. all-sound (d .responses)) ran ∙ runs-sound store u (initial-store u) qs;
