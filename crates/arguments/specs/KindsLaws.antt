@@ -4,7 +4,7 @@ use mathlib.Core.Path.{_≡_, refl, sym, ap, _∙_}
 use mathlib.Core.List.{List, [], _∷_}
 use mathlib.Core.Option.{Option, none, some}
 use mathlib.Core.Bool.{Bool, true, false, _&&_}
-use Prim.Native.Nat.{ℕ, zero, suc, _/_, _%_, _≤_, _<_}
+use Prim.Native.Nat.{ℕ, zero, suc, _%_, _≤_}
 use native.Mathlib.Omega.{arith}
 use borrow.Author.Tests.{lt-ltb, le-ltb, le-leb, leb-true, leb-false}
 use lib.Dec.{leb, ltb}
@@ -13,15 +13,15 @@ use Rattle.buffers.specs.Cases.{case, and-both}
 use Rattle.buffers.specs.Text.{Text}
 use Rattle.syntax.specs.Number.{decimal, between, mode, set-gid}
 use Rattle.syntax.specs.Form.{_>>=_, _>>_, check, is-some}
-use Rattle.syntax.specs.Path.{is-name, path, entry-path}
+use Rattle.syntax.specs.Path.{Typed-path, is-name, typed-path, entry-path}
 use Rattle.syntax.specs.Field.{uid, gid, bounded-by, bounded, role, plain-mode, password, is-content, content}
-use Rattle.syntax.specs.Parts.{span-text, Inside}
+use Rattle.syntax.specs.Parts.{span-text}
 use Rattle.syntax.specs.FormLaws.{no-answer, is-none, then-none, the-some}
 use Rattle.syntax.specs.FieldLaws.{between-gives, read-byte}
 use Rattle.syntax.specs.PartsLaws.{inside-text}
 use Rattle.arguments.specs.declared.ArgumentKind.{ArgumentKind}
 use Rattle.arguments.specs.declared.ArgumentKind.the-variants as a
-use Rattle.arguments.specs.Kinds.{reader, Makes, arguments-of, zero-if, number-in, path-in, entry-in, Argument, value, values-of}
+use Rattle.arguments.specs.Kinds.{reader, Makes, arguments-of, zero-if, number-in, read-in, Argument, Argument-read, value, values-of}
 
 bounded-some : (n : ℕ) → is-some (bounded n) ≡ ltb n 8
 unfolding bounded bounded-by is-some
@@ -74,12 +74,7 @@ unfolding zero-if check _>>_
 unformed true e = no-answer e
 unformed false e = refl
 
--- the code has read an argument of a kind
-pub record Argument-read (k : ArgumentKind) (t : Text) (v : Argument) : Type 0 where
-  pub inside : Inside (v .part) t
-  pub number : some (v .number) ≡ number-in k (span-text t (v .part))
-
--- and its value is what the reader makes of its text
+-- the value of an argument that was read is what the reader makes of its text
 pub record Reads {A : Type 0} (m n : Option A) : Type 0 where
   pub same : m ≡ n
   pub there : is-some n ≡ true
@@ -88,8 +83,8 @@ answers : {A : Type 0} {m n : Option A} {x : A} → m ≡ some x → n ≡ some 
 unfolding is-some
 answers e h = record { same = e ∙ sym h; there = ap is-some h }
 
-reads : (k : ArgumentKind) (t : Text) (v : Argument) → Argument-read k t v → Reads (value k t v) (reader k (span-text t (v .part)))
-unfolding value reader number-in path-in entry-in uid gid password content check _>>=_ _>>_
+reads : (k : ArgumentKind) (t : Text) (v : Argument) → Argument-read k t v → Reads (value typed-path k t v) (reader typed-path k (span-text t (v .part)))
+unfolding value reader number-in read-in uid gid password content check _>>=_ _>>_
 reads a.Path t v h = record { same = rw (inside-text (h .inside)); there = formed _ _ (h .number) }
 reads a.Entry t v h = record { same = rw (inside-text (h .inside)); there = formed _ _ (h .number) }
 reads a.Mode t v h = answers refl (sym (h .number))
@@ -102,9 +97,9 @@ reads a.Content t v h = answers (inside-text (h .inside)) (rw (formed (is-conten
 reads a.Absent t v h = answers refl refl
 
 -- a text of which the code reads nothing has no value
-reads-not : (k : ArgumentKind) (t : Text) → none ≡ number-in k t → reader k t ≡ none
+reads-not : (k : ArgumentKind) (t : Text) → none ≡ number-in k t → reader typed-path k t ≡ none
 unfolding reader number-in uid gid password content check _>>=_ _>>_
-reads-not a.Path t e = is-none (path t) (unformed _ e)
+reads-not a.Path t e = is-none (typed-path t) (unformed _ e)
 reads-not a.Entry t e = is-none (entry-path t) (unformed _ e)
 reads-not a.Mode t e = sym e
 reads-not a.Plain t e = sym e
@@ -116,21 +111,24 @@ reads-not a.Content t e = rw (unformed (is-content t) e)
 reads-not a.Absent t e = no-answer e
 
 -- another number of arguments than of kinds is refused
-pub count-refused : {X : Type 0} (ks : List ArgumentKind) (x : Makes ks X) (ts : List Text) → (length ts ≡ length ks → ⊥) → arguments-of ks x ts ≡ none
+pub count-refused : {P X : Type 0} (read-path : Text → Option P) (ks : List ArgumentKind) (x : Makes P ks X) (ts : List Text) → (length ts ≡ length ks → ⊥)
+    → arguments-of read-path ks x ts ≡ none
 unfolding arguments-of
-count-refused [] x [] h = absurd (h refl)
-count-refused [] x (s ∷ ts) h = refl
-count-refused (k ∷ ks) x [] h = refl
-count-refused (k ∷ ks) x (s ∷ ts) h = then-none (reader k s) (λ v. arguments-of ks (x v) ts) (λ v. count-refused ks (x v) ts (λ e. h (ap suc e)))
+count-refused read-path [] x [] h = absurd (h refl)
+count-refused read-path [] x (s ∷ ts) h = refl
+count-refused read-path (k ∷ ks) x [] h = refl
+count-refused read-path (k ∷ ks) x (s ∷ ts) h =
+    then-none (reader read-path k s) (λ v. arguments-of read-path ks (x v) ts) (λ v. count-refused read-path ks (x v) ts (λ e. h (ap suc e)))
 
--- and so are arguments of which the code reads one not
-pub one-refused : {X : Type 0} (ks : List ArgumentKind) (x : Makes ks X) (us : List Text) (i : ℕ) →
-    none ≡ number-in (getD ks i a.Absent) (getD us i []) → arguments-of ks x (take (length ks) us) ≡ none
+-- arguments of which the code reads one not are refused
+pub one-refused : {X : Type 0} (ks : List ArgumentKind) (x : Makes Typed-path ks X) (us : List Text) (i : ℕ) →
+    none ≡ number-in (getD ks i a.Absent) (getD us i []) → arguments-of typed-path ks x (take (length ks) us) ≡ none
 unfolding arguments-of number-in _>>=_
 one-refused [] x us i e = no-answer e
 one-refused (k ∷ ks) x [] i e = refl
 one-refused (k ∷ ks) x (u ∷ us) zero e = rw (reads-not k u e)
-one-refused (k ∷ ks) x (u ∷ us) (suc i) e = then-none (reader k u) (λ v. arguments-of ks (x v) (take (length ks) us)) (λ v. one-refused ks (x v) us i e)
+one-refused (k ∷ ks) x (u ∷ us) (suc i) e =
+    then-none (reader typed-path k u) (λ v. arguments-of typed-path ks (x v) (take (length ks) us)) (λ v. one-refused ks (x v) us i e)
 
 -- the texts of arguments
 texts-of : Text → List Argument → List Text
@@ -143,21 +141,21 @@ Each [] t vs = Unit
 Each (k ∷ ks) t [] = ⊥
 Each (k ∷ ks) t (v ∷ vs) = Argument-read k t v × Each ks t vs
 
-each-reads : {X : Type 0} (ks : List ArgumentKind) (x : Makes ks X) (t : Text) (vs : List Argument) → Each ks t vs →
-    Reads (values-of ks x t vs) (arguments-of ks x (take (length ks) (texts-of t vs)))
+each-reads : {X : Type 0} (ks : List ArgumentKind) (x : Makes Typed-path ks X) (t : Text) (vs : List Argument) → Each ks t vs →
+    Reads (values-of typed-path ks x t vs) (arguments-of typed-path ks x (take (length ks) (texts-of t vs)))
 unfolding values-of arguments-of texts-of Each _>>=_ is-some
 each-reads [] x t vs h = record { same = refl; there = refl }
 each-reads (k ∷ ks) x t [] h = absurd h
 each-reads (k ∷ ks) x t (v ∷ vs) h =
     let r = reads k t v (h .0) in
-    let s = the-some (reader k (span-text t (v .part))) (r .there) in
+    let s = the-some (reader typed-path k (span-text t (v .part))) (r .there) in
     let m = each-reads ks (x (s .0)) t vs (h .1) in
     record { same = rw (r .same, s .1) (m .same); there = rw (s .1) (m .there) }
 
 -- three arguments, of which those behind the kinds are absent
-pub three-read : {X : Type 0} (ks : List ArgumentKind) (x : Makes ks X) (t : Text) (v w z : Argument) → length ks ≤ 3 →
+pub three-read : {X : Type 0} (ks : List ArgumentKind) (x : Makes Typed-path ks X) (t : Text) (v w z : Argument) → length ks ≤ 3 →
     Argument-read (getD ks 0 a.Absent) t v → Argument-read (getD ks 1 a.Absent) t w → Argument-read (getD ks 2 a.Absent) t z →
-    Reads (values-of ks x t (v ∷ (w ∷ (z ∷ [])))) (arguments-of ks x (take (length ks) (span-text t (v .part) ∷ (span-text t (w .part) ∷ (span-text t (z .part) ∷ [])))))
+    Reads (values-of typed-path ks x t (v ∷ (w ∷ (z ∷ [])))) (arguments-of typed-path ks x (take (length ks) (span-text t (v .part) ∷ (span-text t (w .part) ∷ (span-text t (z .part) ∷ [])))))
 unfolding texts-of Each
 three-read ks x t v w z h p q r = each-reads ks x t (v ∷ (w ∷ (z ∷ []))) (each ks h p q r)
   where

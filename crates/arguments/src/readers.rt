@@ -1,7 +1,7 @@
 // One argument read by its kind.
 ghost use mathlib.Core.Path.{_≡_};
 ghost use Rattle.syntax.specs.Number.{mode as mode-of};
-ghost use Rattle.syntax.specs.Path.{path as path-of, entry-path as entry-path-of};
+ghost use Rattle.syntax.specs.Path.{typed-path as typed-path-of, entry-path as entry-path-of};
 ghost use Rattle.syntax.specs.Form.{is-some};
 ghost use Rattle.syntax.specs.Field.{plain-mode, is-content};
 ghost use Rattle.syntax.specs.Parts.{Inside, span-text, number-of};
@@ -12,19 +12,19 @@ use syntax::Span;
 use syntax::has_set_gid;
 use syntax::is_content;
 use syntax::is_entry_path;
-use syntax::is_path;
+use syntax::is_typed_path;
 use syntax::mode;
 use syntax::name_at;
 use syntax::number_at;
 
-// Whether a part of the line is a path.
+// Whether a part of the line is a path as it is typed.
 fn path_at(line: &[u8], s: Span) -> bool
     requires { ⌜ Inside s (now line) ⌝ }
-    ensures { λ r. ⌜ r ≡ is-some (path-of (span-text (now (line .entry)) s)) ⌝ }
+    ensures { λ r. ⌜ r ≡ is-some (typed-path-of (span-text (now (line .entry)) s)) ⌝ }
 {
     let start = s.start;
     let end = s.end;
-    is_path(&line[start..end])
+    is_typed_path(&line[start..end])
 }
 
 // Whether a part of the line is an entry path.

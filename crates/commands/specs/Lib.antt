@@ -1,8 +1,8 @@
 pub mod Command
 pub mod CommandLaws
 pub mod Words
-pub mod WordsLaws
 pub mod Parsed
+pub mod WordsLaws
 pub mod ParsedLaws
 pub mod Meaning
 pub mod MeaningLaws

@@ -1,4 +1,4 @@
--- What a caller of `parse` goes by: which command the parts of a line are of, kind by kind.
+-- What callers go by: which typed command a parsed line is of, and which command its parts are of once its paths are whole, kind by kind.
 use mathlib.Core.Path.{_≡_}
 use mathlib.Core.Option.{Option, some}
 use mathlib.Core.Bool.{true}
@@ -12,11 +12,18 @@ use Rattle.commands.specs.declared.Command.the-variants.{Shell, Account,
 use Rattle.commands.specs.declared.ShellCommand.{ShellCommand as Shell-parts}
 use Rattle.commands.specs.declared.ShellCommand.the-variants.{Create, Mkdir, Read, Write, Rm, Rmdir, Mv, Chmod, Chgrp, Chown}
 use Rattle.commands.specs.declared.AccountCommand.{AccountCommand as Account-parts}
-use Rattle.commands.specs.declared.AccountCommand.the-variants.{Login, Logout}
+use Rattle.commands.specs.declared.AccountCommand.the-variants.{Login, Logout, Cd}
 use Rattle.commands.specs.declared.EntryCommand.{EntryCommand as Entry-parts}
 use Rattle.commands.specs.declared.EntryCommand.the-variants.{Add, Co, Commit, Up, Del}
-use Rattle.commands.specs.Command.{Shell-command, create, mkdir, read, write, rm, rmdir, mv, chmod, chgrp, chown, Account-command, login, logout}
-use Rattle.commands.specs.Command.{Entry-command, add, co, commit, up, del, Command, shell, account, entry, is-shell-command, is-command}
+use Rattle.commands.specs.declared.Typed.{Typed}
+use Rattle.commands.specs.Command.{Shell-command, create, mkdir, read, write, rm, rmdir, mv, chmod, chgrp, chown, Account-command, login, logout, cd}
+use Rattle.commands.specs.Command.{Entry-command, add, co, commit, up, del, Command, Typed-command, shell, account, entry, is-shell-command, is-command, is-typed-command}
+use Rattle.commands.specs.Parsed.{typed-meaning}
+
+-- the typed command k is what a line's arguments make, and it is in range
+pub record Typed-meant (t : Text) (c : Typed) (k : Typed-command) : Type 0 where
+  pub means : typed-meaning t c ≡ some k
+  pub in-range : is-typed-command k ≡ true
 
 -- a part of a line lies inside it and reads as something
 pub record Part-reads {A : Type 0} (read : Text → Option A) (t : Text) (s : Span) (x : A) : Type 0 where
@@ -39,6 +46,7 @@ Shell-means t (Chown p u) k = (q : Path) × Part-reads path t p q × (k ≡ chow
 unfoldable pub Account-means : Text → Account-parts → Account-command → Type 0
 Account-means t (Login r w) k = (z : Bounded-role) × (z .role ≡ r) × Inside w t × (k ≡ login z (span-text t w))
 Account-means t Logout k = k ≡ logout
+Account-means t (Cd p) k = (q : Path) × Part-reads path t p q × (k ≡ cd q)
 
 unfoldable pub Entry-means : Text → Entry-parts → Entry-command → Type 0
 Entry-means t (Add w e r) k = (p : Path) × (q : Entry-path) × (z : Bounded-role) × Part-reads path t w p × Part-reads entry-path t e q × (z .role ≡ r) × (k ≡ add p q z)

@@ -15,11 +15,12 @@ use Rattle.accounts.specs.declared.Uid.{Uid}
 use Rattle.line_fields.specs.declared.Fields.{Fields}
 use Rattle.line_fields.specs.FieldsRead.{argument-texts, Fields-inside}
 use Rattle.syntax.specs.Pieces.{comma, pieces}
-use Rattle.arguments.specs.Kinds.{arguments-of, number-in, Argument}
+use Rattle.arguments.specs.Kinds.{number-in, values-of}
 use Rattle.arguments.specs.KindsLaws.{count-refused, one-refused, three-read}
 use Rattle.commands.specs.declared.Word.{Word}
 use Rattle.arguments.specs.declared.ArgumentKind.the-variants as a
 use Rattle.commands.specs.declared.Shape.{Shape}
+use Rattle.commands.specs.declared.Typed.{Typed}
 use Rattle.commands.specs.declared.Numbers.the-variants.{Read as Numbers-read, Wrong}
 use Rattle.commands.specs.declared.Command.{Command as Parts}
 use Rattle.commands.specs.declared.Parsed.{Parsed}
@@ -27,27 +28,29 @@ use Rattle.commands.specs.declared.Parsed.the-variants.{Line as Is-line,
 use Rattle.syntax.specs.Number.{between}
 use Rattle.syntax.specs.Form.{_>>=_, is-some, by-form}
 use Rattle.syntax.specs.FormLaws.{is-none, then-none, the-some}
+use Rattle.syntax.specs.Path.{Path, Typed-path, path, typed-path}
 use Rattle.syntax.specs.Field.{uid}
 use Rattle.syntax.specs.FieldLaws.{read-byte}
-use Rattle.commands.specs.Command.{Command, listed, forms, line-of, line}
+use Rattle.commands.specs.Command.{Typed-command, listed, forms, line-of, line}
 use Rattle.syntax.specs.Parts.{span-text}
 use Rattle.commands.specs.Words.{shape-of}
 use Rattle.commands.specs.WordsLaws.{many-refused}
-use Rattle.commands.specs.Parsed.{meaning, arguments, Makes-of, line-with, parsed, command-of, numbers-of, numbers-in}
+use Rattle.commands.specs.Parsed.{meaning, first-of, second-of, third-of, arguments, typed-meaning, whole-meaning, Makes-of, line-with, parsed, Typed-read, command-from, command-of, numbers-of, numbers-in}
 
 -- a line has no form where its command has none
-pub finds-none : (t : Text) (u : Uid) (m : Option Command) → m ≡ none → parsed t NoForm ≡ Option·map some (line-with u m)
+pub finds-none : (t : Text) (u : Uid) (m : Option Typed-command) → m ≡ none → parsed t NoForm ≡ Option·map some (line-with u m)
 unfolding parsed line-with _>>=_
 finds-none t u m e = rw e
 
 -- and it is its caller and its command where this means what the form answers
-finds : (t : Text) (u : Uid) (c : Parts) (m : Option Command) → meaning t c ≡ m → is-some m ≡ true → parsed t (Is-line u c) ≡ Option·map some (line-with u m)
+finds : (t : Text) (u : Uid) (c : Typed) (m : Option Typed-command) → typed-meaning t c ≡ m → is-some m ≡ true → parsed t (Is-line u c) ≡ Option·map some (line-with u m)
 unfolding parsed line-with _>>=_
 finds t u c m h e = let i : _ = the-some m e in rw (h, i .1)
 
--- what is made of a word is made of one that is the same
-pub as-word : {w v : Word} {vs : List Argument} {c : Parts} → w ≡ v → Makes-of v vs c → Makes-of w vs c
-as-word e h = rw e h
+-- parts that are made for a word are made for one that is the same
+pub for-word : {c : Typed} {w : Word} {d : Parts} → c .word ≡ w → ((t : Text) → meaning t d ≡ values-of path (listed w .kinds) (listed w .makes Path) t (arguments c)) → Makes-of c d
+unfolding whole-meaning
+for-word e h = record { means = λ t. rw e (h t) }
 
 -- numbers that were read are not wrong
 differ : {n m l : ℕ} → Numbers-read n m l ≡ Wrong → _≡_ {A = ℕ} 0 1
@@ -75,38 +78,49 @@ module _ (t : Text) (u : Uid) (f : Fields) (w : Word) {s : Shape} (few : f .coun
   counted e = eqb-true (f .count) (s .count) e ∙ ap (λ (z : Shape). z .count) shaped
 
   -- they are not of those kinds
-  pub wrong-arguments : Wrong ≡ numbers-in t f s → arguments-of (listed w .kinds) (listed w .makes) (take (f .count) (argument-texts t f)) ≡ none
+  pub wrong-arguments : Wrong ≡ numbers-in t f s → command-from w (take (f .count) (argument-texts t f)) ≡ none
   unfolding numbers-in argument-texts
   wrong-arguments h = case (eqb (f .count) (s .count))
       (λ e. wrong-three (number-in (s .first) (span-text t (f .first))) (number-in (s .second) (span-text t (f .second))) (number-in (s .third) (span-text t (f .third))) (rw e at h)
       (λ i. refused e 0 (i ∙ ap (λ (z : Shape). number-in (z .first) (span-text t (f .first))) shaped))
       (λ i. refused e 1 (i ∙ ap (λ (z : Shape). number-in (z .second) (span-text t (f .second))) shaped))
       (λ i. refused e 2 (i ∙ ap (λ (z : Shape). number-in (z .third) (span-text t (f .third))) shaped)))
-      (λ e. count-refused (listed w .kinds) (listed w .makes) (take (f .count) (argument-texts t f))
+      (λ e. count-refused typed-path (listed w .kinds) (listed w .makes Typed-path) (take (f .count) (argument-texts t f))
       (λ l. eqb-false (f .count) (s .count) e (omega (arith, length-take (f .count) (argument-texts t f), ap (λ (z : Shape). z .count) shaped))))
     where
       refused : eqb (f .count) (s .count) ≡ true → (i : ℕ) → none ≡ number-in (getD (listed w .kinds) i a.Absent) (getD (argument-texts t f) i []) →
-          arguments-of (listed w .kinds) (listed w .makes) (take (f .count) (argument-texts t f)) ≡ none
-      refused e i h = rw (counted e) (one-refused (listed w .kinds) (listed w .makes) (argument-texts t f) i h)
+          command-from w (take (f .count) (argument-texts t f)) ≡ none
+      refused e i h = rw (counted e) (one-refused (listed w .kinds) (listed w .makes Typed-path) (argument-texts t f) i h)
 
-  -- they are, and make the command
-  pub right-arguments : (n m l : ℕ) (c : Parts) → Fields-inside f t → Numbers-read n m l ≡ numbers-in t f s → Makes-of w (arguments f n m l) c →
-      parsed t (Is-line u c) ≡ Option·map some (line-with u (arguments-of (listed w .kinds) (listed w .makes) (take (f .count) (argument-texts t f))))
-  unfolding numbers-in argument-texts
-  right-arguments n m l c i h k = case (eqb (f .count) (s .count))
-      (λ e. rw (counted e) (by (rw e at h) (omega (arith, counted e))))
-      (λ e. absurd (omega (arith, differ (rw e at h))))
-    where
-      by : Numbers-read n m l ≡ numbers-of (number-in (s .first) (span-text t (f .first))) (number-in (s .second) (span-text t (f .second))) (number-in (s .third) (span-text t (f .third))) →
-          length (listed w .kinds) ≤ 3 →
-          parsed t (Is-line u c) ≡ Option·map some (line-with u (arguments-of (listed w .kinds) (listed w .makes) (take (length (listed w .kinds)) (argument-texts t f))))
-      by e few =
-          let p = read-three (number-in (s .first) (span-text t (f .first))) (number-in (s .second) (span-text t (f .second))) (number-in (s .third) (span-text t (f .third))) e in
-          let d = three-read (listed w .kinds) (listed w .makes) t (record { part = f .first; number = n }) (record { part = f .second; number = m }) (record { part = f .third; number = l }) few
-          (record { inside = i .first; number = p .0 ∙ ap (λ (z : Shape). number-in (z .first) (span-text t (f .first))) shaped })
-          (record { inside = i .second; number = p .1 ∙ ap (λ (z : Shape). number-in (z .second) (span-text t (f .second))) shaped })
-          (record { inside = i .third; number = p .2 ∙ ap (λ (z : Shape). number-in (z .third) (span-text t (f .third))) shaped }) in
-          finds t u c (arguments-of (listed w .kinds) (listed w .makes) (take (length (listed w .kinds)) (argument-texts t f))) (k .means t ∙ d .same) (d .there)
+  -- they are, and the command was read in the line
+  module _ (n m l : ℕ) (i : Fields-inside f t) (h : Numbers-read n m l ≡ numbers-in t f s) where
+    abbrev made : Typed
+    made = record { word = w; shape = s; fields = f; first = n; second = m; third = l }
+
+    as-many : eqb (f .count) (s .count) ≡ true
+    unfolding numbers-in
+    as-many = case (eqb (f .count) (s .count)) (λ e. e) (λ e. absurd (omega (arith, differ (rw e at h))))
+
+    pub typed-read : Typed-read t made
+    unfolding numbers-in
+    typed-read =
+        let p = read-three (number-in (s .first) (span-text t (f .first))) (number-in (s .second) (span-text t (f .second))) (number-in (s .third) (span-text t (f .third))) (rw as-many at h) in
+        record {
+          shaped = shaped;
+          first = record { inside = i .first; number = p .0 };
+          second = record { inside = i .second; number = p .1 };
+          third = record { inside = i .third; number = p .2 };
+        }
+
+    -- and means what they make
+    pub right-arguments : parsed t (Is-line u made) ≡ Option·map some (line-with u (command-from w (take (f .count) (argument-texts t f))))
+    unfolding argument-texts typed-meaning
+    right-arguments =
+        let r = typed-read in
+        let d = three-read (listed w .kinds) (listed w .makes Typed-path) t (first-of made) (second-of made) (third-of made) (omega (arith, counted as-many))
+        (rw shaped at (r .first)) (rw shaped at (r .second)) (rw shaped at (r .third)) in
+        finds t u made (command-from w (take (length (listed w .kinds)) (argument-texts t f))) (d .same) (d .there)
+        ∙ ap (λ (k : ℕ). Option·map some (line-with u (command-from w (take k (argument-texts t f))))) (sym (counted as-many))
 
 -- more than three arguments have no form
 pub too-many : (ps : List Text) → 4 < length ps → command-of ps ≡ none

@@ -11,14 +11,15 @@ use lib.ListN.{length}
 use Rattle.buffers.specs.Cases.{case, and-both}
 use Rattle.buffers.specs.Text.{Text, same-text, every}
 use Rattle.syntax.specs.Form.{by-form}
-use Rattle.arguments.specs.Kinds.{arguments-of}
+use Rattle.syntax.specs.Path.{Typed-path, typed-path}
 use Rattle.arguments.specs.KindsLaws.{count-refused}
 use Rattle.commands.specs.declared.Word.{Word}
 use Rattle.commands.specs.declared.Shape.{Shape}
 use Rattle.commands.specs.declared.Form.{Form}
 use Rattle.commands.specs.declared.Form.the-variants.{Listed, Unlisted}
-use Rattle.commands.specs.Command.{Command, takes, listed, shell-words, other-words, words, form, forms}
+use Rattle.commands.specs.Command.{Typed-command, takes, listed, shell-words, other-words, words, form, forms}
 use Rattle.commands.specs.Words.{shape-of, or-listed, form-among, form-of}
+use Rattle.commands.specs.Parsed.{command-from}
 
 -- what was found before stays
 stays : (ws : List Word) (w : Word) (s : Shape) (t : Text) → form-among ws (Listed w s) t ≡ Listed w s
@@ -27,24 +28,24 @@ stays [] w s t = refl
 stays (v ∷ ws) w s t = stays ws w s t
 
 -- what a form that the code found makes of arguments
-pub record Finds (f : Form) (r : List Text → Option Command) : Type 0 where
+pub record Finds (f : Form) (r : List Text → Option Typed-command) : Type 0 where
   pub unlisted : f ≡ Unlisted → (ts : List Text) → r ts ≡ none
   pub listed-as : (w : Word) (s : Shape) → f ≡ Listed w s →
-      (s ≡ shape-of (listed w .kinds)) × ((ts : List Text) → r ts ≡ arguments-of (listed w .kinds) (listed w .makes) ts)
+      (s ≡ shape-of (listed w .kinds)) × ((ts : List Text) → r ts ≡ command-from w ts)
 
-found-here : (w : Word) (r : List Text → Option Command) → ((ts : List Text) → r ts ≡ arguments-of (listed w .kinds) (listed w .makes) ts) →
+found-here : (w : Word) (r : List Text → Option Typed-command) → ((ts : List Text) → r ts ≡ command-from w ts) →
     Finds (Listed w (shape-of (listed w .kinds))) r
 found-here w r h = record { unlisted = λ e ts. absurd (differ e); listed-as = λ v s e. same v s e }
   where
     same : (v : Word) (s : Shape) → Listed w (shape-of (listed w .kinds)) ≡ Listed v s →
-        (s ≡ shape-of (listed v .kinds)) × ((ts : List Text) → r ts ≡ arguments-of (listed v .kinds) (listed v .makes) ts)
+        (s ≡ shape-of (listed v .kinds)) × ((ts : List Text) → r ts ≡ command-from v ts)
     same v s e = let i : w ≡ v = cc in let j : shape-of (listed w .kinds) ≡ s = cc in (rw (← i) (sym j), λ ts. rw (← i) (h ts))
 
     differ : Listed w (shape-of (listed w .kinds)) ≡ Unlisted → ⊥
     differ e = let z : _≡_ {A = ℕ} 0 1 = cc in omega arith
 
 -- the same is found for what answers the same
-finds-same : {f : Form} {r q : List Text → Option Command} → ((ts : List Text) → q ts ≡ r ts) → Finds f r → Finds f q
+finds-same : {f : Form} {r q : List Text → Option Typed-command} → ((ts : List Text) → q ts ≡ r ts) → Finds f r → Finds f q
 finds-same e h = record { unlisted = λ i ts. e ts ∙ h .unlisted i ts; listed-as = λ w s i. (h .listed-as w s i .0, λ ts. e ts ∙ h .listed-as w s i .1 ts) }
 
 finds-among : (ws : List Word) (t : Text) → Finds (form-among ws Unlisted t) (by-form (map form ws) t)
@@ -94,7 +95,7 @@ many-among [] e t ts h = refl
 many-among (w ∷ ws) e t ts h =
     let i : _ = and-both (short w) (every short ws) e in
     case (same-text t (listed w .spelling))
-    (λ s. rw s (count-refused (listed w .kinds) (listed w .makes) ts (λ l. omega (arith, leb-true (length (listed w .kinds)) 3 (i .0)))))
+    (λ s. rw s (count-refused typed-path (listed w .kinds) (listed w .makes Typed-path) ts (λ l. omega (arith, leb-true (length (listed w .kinds)) 3 (i .0)))))
     (λ s. rw s (many-among ws (i .1) t ts h))
 
 pub many-refused : (t : Text) (ts : List Text) → 4 ≤ length ts → by-form forms t ts ≡ none

@@ -1,4 +1,5 @@
-// Command lines: what they are, and their parser.
+// Command lines: what they are, their parser, and the commands made of them.
+mod making;
 mod parser;
 mod parts;
 mod shapes;
@@ -8,11 +9,13 @@ use accounts::Gid;
 use accounts::Role;
 use accounts::Uid;
 use arguments::ArgumentKind;
+use line_fields::Fields;
+pub use making::command_of;
 pub use parser::parse;
 pub use parts::part;
 use syntax::Span;
 
-// A command of the shell, whose paths and contents are parts of its line.
+// A command of the shell, whose paths and contents are parts of a text.
 pub enum ShellCommand {
     Create { path: Span, mode: u16 },
     Mkdir { path: Span, mode: u16 },
@@ -26,10 +29,11 @@ pub enum ShellCommand {
     Chown { path: Span, owner: Uid },
 }
 
-// A command about the caller's session.
+// A command about the caller's session and working directory.
 pub enum AccountCommand {
     Login { role: Role, password: Span },
     Logout,
+    Cd { path: Span },
 }
 
 // A command on entries, which acts in the caller's session.
@@ -75,6 +79,7 @@ pub enum Word {
     Chown,
     Login,
     Logout,
+    Cd,
     Add,
     Co,
     Commit,
@@ -102,8 +107,18 @@ pub enum Numbers {
     Wrong,
 }
 
+// A command as it is typed: its word, the kinds and places of its arguments, and their numbers.
+pub struct Typed {
+    pub word: Word,
+    pub shape: Shape,
+    pub fields: Fields,
+    pub first: u16,
+    pub second: u16,
+    pub third: u16,
+}
+
 // A command line: its caller and command, or no listed form.
 pub enum Parsed {
-    Line { caller: Uid, command: Command },
+    Line { caller: Uid, typed: Typed },
     NoForm,
 }

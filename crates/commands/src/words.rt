@@ -171,6 +171,7 @@ fn form_of(t: &[u8]) -> Form
         ArgumentKind::Password,
     );
     f = f.no(t, b"logout", Word::Logout);
+    f = f.one(t, b"cd", Word::Cd, ArgumentKind::Path);
     f = f.three(
         t,
         b"add",

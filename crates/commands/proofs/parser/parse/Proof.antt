@@ -35,7 +35,7 @@ returns : tie.Need-returns
 returns c =
     let u = c .before .first-field in
     let t = now (c .before .before .before .args .line) in
-    one-field-line t (part t 0 (u .result .end)) (last-piece (field-is t 0 (u .result) (omega arith) (u .ensures)) (c .if1 .taken))
+    (one-field-line t (part t 0 (u .result .end)) (last-piece (field-is t 0 (u .result) (omega arith) (u .ensures)) (c .if1 .taken)), tt)
 
 span-requires : tie.Need-span-requires
 span-requires c κs = search needs
@@ -50,7 +50,7 @@ returns-2 c =
     let t = line1 x in
     let s = span-text t (x .span .result) in
     let e = ap number-of (sym (c .enum-told .given .1)) ∙ c .before .before .number-at .ensures in
-    line-no-caller t s _ (cut1 x) (uid-not-read s e)
+    (line-no-caller t s _ (cut1 x) (uid-not-read s e), tt)
 
 add-command-at : tie.Need-add-command-at
 add-command-at c = omega (arith, behind1 (c .before .before .before .before .before))
@@ -65,7 +65,7 @@ returns-3 c =
     let x = k .before .before .before in
     let t = line1 x in
     let e = ap number-of (sym (k .n .given .1)) ∙ k .before .before .number-at .ensures in
-    line-found t (span-text t (x .span .result)) _ (k .n .given .0 .0) (c .command-at .result) (cut1 x) e (c .command-at .ensures)
+    (line-found t (span-text t (x .span .result)) _ (k .n .given .0 .0) (c .command-at .result) (cut1 x) e (c .command-at .ensures .0), c .command-at .ensures .1)
 
 pub parse-spec : {M : Type 1} → statement M
 parse-spec =

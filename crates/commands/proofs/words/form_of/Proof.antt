@@ -11,7 +11,8 @@ use Rattle.commands.proofs.words.form_of.Tie as tie
 returns : tie.Need-returns
 unfolding words listed takes bytes other-words form-of
 returns c =
-    let c6 = c .before .before in
+    let c7 = c .before .before in
+    let c6 = c7 .before .before in
     let c5 = c6 .before .before in
     let c4 = c5 .before .before in
     let c3 = c4 .before .before in
@@ -22,17 +23,19 @@ returns c =
     (shell-words-gone (now (c0 .before .before .args .t)) (c0 .shell-form .result) (c0 .shell-form .ensures)
     and c1 .two .ensures
     and c2 .no .ensures
-    and c3 .three .ensures
-    and c4 .two2 .ensures
-    and c5 .one .ensures
+    and c3 .one .ensures
+    and c4 .three .ensures
+    and c5 .two2 .ensures
     and c6 .one2 .ensures
-    and c .one3 .ensures)
+    and c7 .one3 .ensures
+    and c .one4 .ensures)
 
 pub form-of-spec : {M : Type 1} → statement M
 form-of-spec =
     tie.close
     (tie.spec
     (λ c κs. search needs)
+    (λ c. search needs) (λ c κs. search needs)
     (λ c. search needs) (λ c κs. search needs)
     (λ c. search needs) (λ c κs. search needs)
     (λ c. search needs) (λ c κs. search needs)
