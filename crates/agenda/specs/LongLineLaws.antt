@@ -19,7 +19,8 @@ use Rattle.syntax.specs.Form.{_>>=_, _>>_, check, by-form}
 use Rattle.syntax.specs.FormLaws.{no-answer, both-read, checked, answered, both}
 use Rattle.syntax.specs.Number.{decimal, between, mode, set-gid}
 use Rattle.syntax.specs.NumberLaws.{decimal-only, decimal-length, mode-only, mode-length}
-use Rattle.syntax.specs.Path.{Path, root, is-name, most-names, extended, names-from-top, path, entry-path, entry-at}
+use Rattle.syntax.specs.Path.{Path, root, is-name, most-names, extended, names-from-top, path, Typed-path, whole, short, typed-path, entry-path, entry-at}
+use Rattle.syntax.specs.FollowsLaws.{whole-reads, short-reads}
 use Rattle.syntax.specs.PathLaws.{name-length}
 use Rattle.syntax.specs.Field.{uid, gid, bounded-by, bounded, role, plain-mode, password, is-content, content}
 use Rattle.syntax.specs.FieldLaws.{between-gives, content-length}
@@ -28,7 +29,7 @@ use Rattle.arguments.specs.declared.ArgumentKind.{ArgumentKind}
 use Rattle.arguments.specs.declared.ArgumentKind.the-variants as a
 use Rattle.arguments.specs.Kinds.{Value, Makes, reader, arguments-of}
 use Rattle.commands.specs.declared.Word.{Word}
-use Rattle.commands.specs.Command.{Command, Line, takes, listed, words, form, forms, line-of, line}
+use Rattle.commands.specs.Command.{Typed-command, Line, takes, listed, words, form, forms, line-of, line}
 use Rattle.tree.specs.declared.Cause.the-variants.{NoForm}
 use Rattle.tree.specs.Result.{Result, refused, Outcome}
 use Rattle.tree.specs.ResultLaws.{present-none, refused-bind}
@@ -37,8 +38,8 @@ use Rattle.machine.specs.Runs.{perform}
 use Rattle.calls.specs.Calls.{called, on-state, line-on, run-result, run-call}
 
 -- at most 64 bytes
-abbrev short : Text → Bool
-short t = leb (length t) 64
+abbrev few : Text → Bool
+few t = leb (length t) 64
 
 -- ---- the arguments
 
@@ -58,6 +59,10 @@ unfolding path bytes
 path-short t p e = case (same-text t (bytes "/"))
     (λ s. omega (arith, ap length (same-text-sound t (bytes "/") s)))
     (λ s. omega (arith, ap length (joined-pieces 47 t), top-short (pieces 47 t) p (rw s at e)))
+
+typed-short : (t : Text) (p : Typed-path) → typed-path t ≡ some p → length t ≤ 64
+typed-short t (whole p) e = path-short t p (whole-reads t p e .1)
+typed-short t (short p) e = omega (arith, path-short (47 ∷ t) p (short-reads t p e .1))
 
 number-short : (low high : ℕ) (t : Text) (n : ℕ) → high < 100 → between low high t ≡ some n → length t ≤ 64
 unfolding between
@@ -88,9 +93,9 @@ present a.Password = true
 present a.Content = true
 present a.Absent = false
 
-reader-short : (k : ArgumentKind) (t : Text) (v : Value k) → present k ≡ true → reader k t ≡ some v → length t ≤ 64
+reader-short : (k : ArgumentKind) (t : Text) (v : Value Typed-path k) → present k ≡ true → reader typed-path k t ≡ some v → length t ≤ 64
 unfolding reader present entry-path plain-mode uid gid role password content bounded
-reader-short a.Path t v h e = path-short t v e
+reader-short a.Path t v h e = typed-short t v e
 reader-short a.Entry t v h e = let i = both-read (path t) entry-at v e in path-short t (i .0) (i .1)
 reader-short a.Mode t v h e = mode-short t v e
 reader-short a.Plain t v h e = let i = both-read (mode t) (λ m. check (not (set-gid m)) >> some m) v e in mode-short t (i .0) (i .1)
@@ -104,15 +109,15 @@ reader-short a.Password t v h e = omega (arith, name-length t (checked (is-name 
 reader-short a.Content t v h e = content-length t (checked (is-content t) (some t) v e .0)
 reader-short a.Absent t v h e = contra h refl
 
-arguments-short : {X : Type 0} (ks : List ArgumentKind) (x : Makes ks X) (ss : List Text) (c : X) → every present ks ≡ true →
-    arguments-of ks x ss ≡ some c → (every short ss ≡ true) × (length ss ≡ length ks)
+arguments-short : {X : Type 0} (ks : List ArgumentKind) (x : Makes Typed-path ks X) (ss : List Text) (c : X) → every present ks ≡ true →
+    arguments-of typed-path ks x ss ≡ some c → (every few ss ≡ true) × (length ss ≡ length ks)
 unfolding every arguments-of
 arguments-short [] x [] c h e = (refl, refl)
 arguments-short [] x (s ∷ more) c h e = no-answer e
 arguments-short (k ∷ ks) x [] c h e = no-answer e
 arguments-short (k ∷ ks) x (s ∷ more) c h e =
     let p = and-both (present k) (every present ks) h in
-    let i = both-read (reader k s) (λ v. arguments-of ks (x v) more) c e in
+    let i = both-read (reader typed-path k s) (λ v. arguments-of typed-path ks (x v) more) c e in
     let r = arguments-short ks (x (i .0)) more c (p .1) (i .2) in
     (both (le-leb (length s) 64 (reader-short k s (i .0) (p .0) (i .1))) (r .0), omega (arith, r .1))
 
@@ -120,24 +125,24 @@ arguments-short (k ∷ ks) x (s ∷ more) c h e =
 
 -- a word is short, and its arguments are read from at most three texts
 listed-short : Word → Bool
-listed-short w = (short (listed w .spelling) && leb (length (listed w .kinds)) 3) && every present (listed w .kinds)
+listed-short w = (few (listed w .spelling) && leb (length (listed w .kinds)) 3) && every present (listed w .kinds)
 
 words-short : every listed-short words ≡ true
 unfolding every listed-short words listed takes present bytes
 words-short = refl
 
-form-short : (ws : List Word) → every listed-short ws ≡ true → (w : Text) (ss : List Text) (c : Command) → by-form (map form ws) w ss ≡ some c →
-    (every short (w ∷ ss) ≡ true) × (length ss ≤ 3)
+form-short : (ws : List Word) → every listed-short ws ≡ true → (w : Text) (ss : List Text) (c : Typed-command) → by-form (map form ws) w ss ≡ some c →
+    (every few (w ∷ ss) ≡ true) × (length ss ≤ 3)
 unfolding every listed-short by-form form
 form-short [] h w ss c e = no-answer e
 form-short (v ∷ ws) h w ss c e =
     let p = and-both (listed-short v) (every listed-short ws) h in
-    let q = and-both (short (listed v .spelling) && leb (length (listed v .kinds)) 3) (every present (listed v .kinds)) (p .0) in
-    let n = and-both (short (listed v .spelling)) (leb (length (listed v .kinds)) 3) (q .0) in
+    let q = and-both (few (listed v .spelling) && leb (length (listed v .kinds)) 3) (every present (listed v .kinds)) (p .0) in
+    let n = and-both (few (listed v .spelling)) (leb (length (listed v .kinds)) 3) (q .0) in
     case (same-text w (listed v .spelling))
     (λ s.
-    let r = arguments-short (listed v .kinds) (listed v .makes) ss c (q .1) (rw s at e) in (
-      both (ap short (same-text-sound w (listed v .spelling) s) ∙ n .0) (r .0),
+    let r = arguments-short (listed v .kinds) (listed v .makes Typed-path) ss c (q .1) (rw s at e) in (
+      both (ap few (same-text-sound w (listed v .spelling) s) ∙ n .0) (r .0),
       omega (arith, r .1, leb-true (length (listed v .kinds)) 3 (n .1)),
     ))
     (λ s. form-short ws (p .1) w ss c (rw s at e))
