@@ -22,7 +22,7 @@ use Rattle.tree.specs.Forest.{Forest, nil, node, place-at}
 use Rattle.tree.specs.Node.{is-directory, Tag, Node}
 use Rattle.shell.specs.Cases.{Case, _gives_, _shows_, all-done}
 use Rattle.store.specs.State.{Store, state-of}
-use Rattle.store.specs.Initial.{top-node, rep-node, no-sessions, initial-store}
+use Rattle.store.specs.Initial.{top-node, rep-node, initial-registry, initial-store}
 use Rattle.store.specs.StoreBytes.{encode}
 use Rattle.machine.specs.StoreMachine.{entry-node, store}
 use Rattle.machine.specs.Runs.{Call, runs, of-root, root's}
@@ -126,7 +126,7 @@ both = record {
     here = top-node;
     below = node rep rep-node (node (bytes "d") (entry-node Directory r₁ 1 []) entries nil) (node (bytes "u1") (home 1) files (node (bytes "u2") (home 2) nil nil));
   };
-  sessions = no-sessions;
+  registry = initial-registry u;
 }
 
 -- and nothing else
@@ -141,7 +141,7 @@ second-redacted = refl
 same : redacted r s ≡ redacted r s′
 same = first-redacted ∙ sym second-redacted
 
-no-senior : without-seniors u r (s .sessions) ≡ true
+no-senior : without-seniors u r (s .registry .sessions) ≡ true
 unfolding secrets
 no-senior = refl
 

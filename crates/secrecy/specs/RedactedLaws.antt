@@ -54,7 +54,7 @@ module _ (r : Bounded-role) where
   hidden = map-forest redacted-entry
 
   unfoldable pub redacted-abstract : Abstract → Abstract
-  redacted-abstract h = record { workspace = h .workspace; entries = hidden (h .entries); sessions = h .sessions }
+  redacted-abstract h = record { workspace = h .workspace; entries = hidden (h .entries); registry = h .registry }
 
   -- ---- redacted twice is redacted once
 
@@ -67,7 +67,7 @@ module _ (r : Bounded-role) where
 
   pub redacted-twice : (h : Abstract) → redacted-abstract (redacted-abstract h) ≡ redacted-abstract h
   unfolding redacted-abstract
-  redacted-twice h = λ i. record { workspace = h .workspace; entries = hidden-twice (h .entries) i; sessions = h .sessions }
+  redacted-twice h = λ i. record { workspace = h .workspace; entries = hidden-twice (h .entries) i; registry = h .registry }
 
   -- ---- changes of redacted entries
 

@@ -31,9 +31,10 @@ use Rattle.tree.specs.Walk.{by-modes, walk, room}
 use Rattle.tree.specs.WellFormed.{most-nodes, nodes}
 use Rattle.shell.specs.Steps.{run-shell}
 use Rattle.shell.specs.Replies.{reply, after}
-use Rattle.store.specs.State.{Sessions}
+use Rattle.store.specs.State.{Sessions, Registry, set-session}
+use Rattle.store.specs.RegistryLaws.{session-is-set}
 use Rattle.store.specs.Callers.{caller}
-use Rattle.machine.specs.AbstractMachine.{Abstract, Filed, new-entry, dominated, filed-readable, abstract-login, abstract-logout, abstract-session, abstract-add, abstract-co, abstract-working, abstract-original, abstract-commit, abstract-up, abstract-del, abstract-account, abstract-entry, abstract-run, abstract-step, abstract-runs}
+use Rattle.machine.specs.AbstractMachine.{Abstract, Filed, new-entry, with-registry, dominated, filed-readable, abstract-login, abstract-logout, abstract-session, abstract-add, abstract-co, abstract-working, abstract-original, abstract-commit, abstract-up, abstract-del, abstract-account, abstract-entry, abstract-run, abstract-step, abstract-runs}
 use Rattle.machine.specs.Runs.{Call}
 use Rattle.secrecy.specs.Redacted.{is-senior, without-seniors, admits-senior, is-junior's, by-junior, by-juniors}
 use Rattle.secrecy.specs.RedactedLaws.{redacted-entry, redacted-filed, hidden, redacted-abstract, hidden-twice, redacted-twice, insert-alike, remove-alike, revise-alike, kind-kept, readable-kept, writable-kept, walk-kept, parent-walk-kept, open-filed, copy-kept}
@@ -42,7 +43,7 @@ module _ (u : Setup) (r : Bounded-role) where
   -- states that are one once redacted, the second without a session that dominates r
   record Alike (a b : Abstract) : Type 0 where
     same : redacted-abstract r a ≡ redacted-abstract r b
-    junior : without-seniors u r (b .sessions) ≡ true
+    junior : without-seniors u r (b .registry .sessions) ≡ true
 
   -- outcomes with one text and such states
   record Alike-outcomes (a b : Outcome Abstract) : Type 0 where
@@ -56,7 +57,7 @@ module _ (u : Setup) (r : Bounded-role) where
   session-junior sessions i z w e =
       not-true (dominated u z r) (ap (λ o. not (is-senior u r o)) (sym e) ∙ every-getD (λ o. not (is-senior u r o)) sessions i none w refl)
 
-  module _ (c : Caller) (h : Abstract) (w : without-seniors u r (h .sessions) ≡ true) where
+  module _ (c : Caller) (h : Abstract) (w : without-seniors u r (h .registry .sessions) ≡ true) where
     abbrev h′ : Abstract
     h′ = redacted-abstract r h
 
@@ -64,14 +65,14 @@ module _ (u : Setup) (r : Bounded-role) where
     junior-of : (z : Bounded-role) → abstract-session u h c ≡ done z → dominated u z r ≡ false
     unfolding abstract-session
     junior-of z i =
-        let mine = getD (h .sessions) (c .account .uid .0) none in
-        session-junior (h .sessions) (c .account .uid .0) z w (present-some mine NoSession i)
+        let mine = getD (h .registry .sessions) (c .account .uid .0) none in
+        session-junior (h .registry .sessions) (c .account .uid .0) z w (present-some mine NoSession i)
 
     -- done without a text
-    changed : (a b : Abstract) → a .workspace ≡ b .workspace → hidden r (a .entries) ≡ hidden r (b .entries) → a .sessions ≡ b .sessions
-        → without-seniors u r (b .sessions) ≡ true → Alike-outcomes (record { text = none; state = a }) (record { text = none; state = b })
+    changed : (a b : Abstract) → a .workspace ≡ b .workspace → hidden r (a .entries) ≡ hidden r (b .entries) → a .registry ≡ b .registry
+        → without-seniors u r (b .registry .sessions) ≡ true → Alike-outcomes (record { text = none; state = a }) (record { text = none; state = b })
     unfolding redacted-abstract
-    changed a b p q s j = record { text = refl; state = record { same = λ i. record { workspace = p i; entries = q i; sessions = s i }; junior = j } }
+    changed a b p q s j = record { text = refl; state = record { same = λ i. record { workspace = p i; entries = q i; registry = s i }; junior = j } }
 
     -- as many more nodes fit
     fits-kept : (n : ℕ) → leb (nodes (h .workspace) + size (hidden r (h .entries)) + n) most-nodes ≡ leb (nodes (h .workspace) + size (h .entries) + n) most-nodes
@@ -94,18 +95,25 @@ module _ (u : Setup) (r : Bounded-role) where
 
     -- ---- the commands, line by line
 
+    -- another registry without a senior's session
+    registry-kept : (z : Registry) → without-seniors u r (z .sessions) ≡ true
+        → Alike-outcomes (record { text = none; state = with-registry z h′ }) (record { text = none; state = with-registry z h })
+    unfolding redacted-abstract
+    registry-kept z j = changed (with-registry z h′) (with-registry z h) refl (hidden-twice r (h .entries)) refl j
+
+    session-kept : (o : Option Bounded-role) → is-senior u r o ≡ false → without-seniors u r (set-session (c .account .uid) o (h .registry) .sessions) ≡ true
+    unfolding without-seniors
+    session-kept o j =
+        rw (session-is-set (h .registry) (c .account .uid) o)
+        (every-set (λ o. not (is-senior u r o)) (h .registry .sessions) (c .account .uid .0) o w (rw j))
+
     login-kept : (z : Bounded-role) (password : Text) → dominated u z r ≡ false → Agree Alike-outcomes (abstract-login u h′ c z password) (abstract-login u h c z password)
-    unfolding abstract-login redacted-abstract without-seniors is-senior
-    login-kept z password j =
-        let still = every-set (λ o. not (is-senior u r o)) (h .sessions) (c .account .uid .0) (some z) w (rw j) in
-        check NoGrant refl λ _.
-        both (changed _ _ refl (hidden-twice r (h .entries)) refl still)
+    unfolding abstract-login redacted-abstract is-senior
+    login-kept z password j = check NoGrant refl λ _. both (registry-kept _ (session-kept (some z) j))
 
     logout-kept : Agree Alike-outcomes (abstract-logout u h′ c) (abstract-logout u h c)
-    unfolding abstract-logout redacted-abstract without-seniors is-senior
-    logout-kept =
-        let still = every-set (λ o. not (is-senior u r o)) (h .sessions) (c .account .uid .0) none w refl in
-        both (changed _ _ refl (hidden-twice r (h .entries)) refl still)
+    unfolding abstract-logout redacted-abstract is-senior
+    logout-kept = both (registry-kept _ (session-kept none refl))
 
     add-kept : (p : Path) (e : Entry-path) (q : Bounded-role) → Agree Alike-outcomes (abstract-add u h′ c p e q) (abstract-add u h c p e q)
     unfolding abstract-add abstract-session redacted-abstract
@@ -189,7 +197,7 @@ module _ (u : Setup) (r : Bounded-role) where
     unfolding abstract-run is-junior's redacted-abstract
     run-kept (shell command) j = rw (size-map (redacted-entry r) (h .entries)) (
         each (run-shell c (size (h .entries)) (h .workspace) command) λ o _.
-        both (record { text = refl; state = record { same = λ i. record { workspace = o .state; entries = hidden-twice r (h .entries) i; sessions = h .sessions }; junior = w } }))
+        both (record { text = refl; state = record { same = λ i. record { workspace = o .state; entries = hidden-twice r (h .entries) i; registry = h .registry }; junior = w } }))
     run-kept (account command) j = account-kept command (not-true (admits-senior u r command) j)
     run-kept (entry command) j = entry-kept command
 
@@ -200,7 +208,7 @@ module _ (u : Setup) (r : Bounded-role) where
   unfolding by-junior
   line-junior o l e j = and-both (not (is-root (l .caller))) (is-junior's u r (l .command)) (rw e at j) .1
 
-  step-kept : (call : Call) → by-junior u r (line (call .line)) ≡ true → (h : Abstract) → without-seniors u r (h .sessions) ≡ true
+  step-kept : (call : Call) → by-junior u r (line (call .line)) ≡ true → (h : Abstract) → without-seniors u r (h .registry .sessions) ≡ true
       → Agree Alike-outcomes (abstract-step u (redacted-abstract r h) call) (abstract-step u h call)
   unfolding abstract-step
   step-kept call j h w =
@@ -222,7 +230,7 @@ module _ (u : Setup) (r : Bounded-role) where
   -- ---- lists of calls
 
   -- one call on a state and on its redacted self
-  module _ (call : Call) (j : by-junior u r (line (call .line)) ≡ true) (h : Abstract) (w : without-seniors u r (h .sessions) ≡ true) where
+  module _ (call : Call) (j : by-junior u r (line (call .line)) ≡ true) (h : Abstract) (w : without-seniors u r (h .registry .sessions) ≡ true) where
     abbrev outcome : Abstract → Result (Outcome Abstract)
     outcome s = abstract-step u s call
 
@@ -234,7 +242,7 @@ module _ (u : Setup) (r : Bounded-role) where
 
   -- on states that are one once redacted
   module _ (call : Call) (j : by-junior u r (line (call .line)) ≡ true) (g h : Abstract) (same : redacted-abstract r g ≡ redacted-abstract r h)
-      (v : without-seniors u r (g .sessions) ≡ true) (w : without-seniors u r (h .sessions) ≡ true) where
+      (v : without-seniors u r (g .registry .sessions) ≡ true) (w : without-seniors u r (h .registry .sessions) ≡ true) where
     reply-same : reply (abstract-step u g call) ≡ reply (abstract-step u h call)
     reply-same = sym (reply-kept call j g v) ∙ ap (λ s. reply (abstract-step u s call)) same ∙ reply-kept call j h w
 
@@ -243,7 +251,7 @@ module _ (u : Setup) (r : Bounded-role) where
 
   -- a list of calls is answered alike on states that are one once redacted, and leaves such states
   pub runs-alike : (calls : List Call) → by-juniors u r calls ≡ true → (g h : Abstract) → redacted-abstract r g ≡ redacted-abstract r h
-      → without-seniors u r (g .sessions) ≡ true → without-seniors u r (h .sessions) ≡ true
+      → without-seniors u r (g .registry .sessions) ≡ true → without-seniors u r (h .registry .sessions) ≡ true
       → (abstract-runs u g calls .replies ≡ abstract-runs u h calls .replies)
       × (redacted-abstract r (abstract-runs u g calls .state) ≡ redacted-abstract r (abstract-runs u h calls .state))
   unfolding abstract-runs by-juniors every

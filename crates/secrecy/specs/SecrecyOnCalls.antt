@@ -33,7 +33,7 @@ on-bytes u g b s e qs =
 -- Bytes that are read as two such stores get the same responses to every such list of calls, in numbers, values and answer bytes; and
 -- the bytes that it leaves are read as two stores that still differ only there.
 pub junior-learns-nothing-on-calls : (u : Setup) (r : Bounded-role) (b b′ : List ℕ) (d : Differ-only-in u r b b′)
-    → Reached-without-root u (d .first) → Reached-without-root u (d .second) → without-seniors u r (d .first .sessions) ≡ true
+    → Reached-without-root u (d .first) → Reached-without-root u (d .second) → without-seniors u r (d .first .registry .sessions) ≡ true
     → (requests : List Request) → by-juniors u r (map call-for requests) ≡ true
     → (run-calls b requests .responses ≡ run-calls b′ requests .responses) × Differ-only-in u r (run-calls b requests .store) (run-calls b′ requests .store)
 junior-learns-nothing-on-calls u r b b′ d a a′ w qs j =

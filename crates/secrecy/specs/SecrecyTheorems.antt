@@ -37,11 +37,11 @@ module _ (u : Setup) (r : Bounded-role) where
       rw (line-rootless (line (call .line)) (k .0), rootless calls (k .1))
 
   -- a store and its redacted self answer alike, and come to states that are one once redacted
-  module _ (g : is-setup u ≡ true) {s : Store} {h : Abstract} (t : Tie s h) (w : without-seniors u r (s .sessions) ≡ true) where
+  module _ (g : is-setup u ≡ true) {s : Store} {h : Abstract} (t : Tie s h) (w : without-seniors u r (s .registry .sessions) ≡ true) where
     -- no session of the abstract machine dominates r either
-    junior : without-seniors u r (h .sessions) ≡ true
+    junior : without-seniors u r (h .registry .sessions) ≡ true
     unfolding embed
-    junior = ap (λ a. without-seniors u r (a .sessions)) (sym (t .same)) ∙ w
+    junior = ap (λ a. without-seniors u r (a .registry .sessions)) (sym (t .same)) ∙ w
 
     redacted-alike : (calls : List Call) → by-juniors u r calls ≡ true
         → (runs store u s calls .replies ≡ runs store u (redacted r s) calls .replies)
@@ -60,13 +60,13 @@ module _ (u : Setup) (r : Bounded-role) where
 -- dominates r, give the same replies to every list of calls, none of them root's or a login to a role that dominates r; and
 -- afterwards they still differ only there.
 pub junior-learns-nothing : (u : Setup) (r : Bounded-role) (s s′ : Store) → Reached-without-root u s → Reached-without-root u s′
-    → redacted r s ≡ redacted r s′ → without-seniors u r (s .sessions) ≡ true → (calls : List Call) → by-juniors u r calls ≡ true
+    → redacted r s ≡ redacted r s′ → without-seniors u r (s .registry .sessions) ≡ true → (calls : List Call) → by-juniors u r calls ≡ true
     → (runs store u s calls .replies ≡ runs store u s′ calls .replies)
     × (redacted r (runs store u s calls .state) ≡ redacted r (runs store u s′ calls .state))
 unfolding redacted
 junior-learns-nothing u r s s′ a b e w calls j =
     let g = accepted-is-setup (a .reached .text) u (a .reached .taken) in
-    let w′ : without-seniors u r (s′ .sessions) ≡ true = ap (λ x. without-seniors u r (x .sessions)) (sym e) ∙ w in
+    let w′ : without-seniors u r (s′ .registry .sessions) ≡ true = ap (λ x. without-seniors u r (x .registry .sessions)) (sym e) ∙ w in
     let first = redacted-alike u r g (reached-tie u s a .1) w calls j in
     let second = redacted-alike u r g (reached-tie u s′ b .1) w′ calls j in (
       first .0 ∙ ap (λ x. runs store u x calls .replies) e ∙ sym (second .0),
