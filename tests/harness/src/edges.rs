@@ -262,11 +262,10 @@ fn chains(trial: &mut Trial) {
 fn forms(trial: &mut Trial) {
     for line in [
         "1,logout,", "1,read,/,", "1,write,/u1/a", "01,read,/", "24,read,/", "1,create,/u1/a,2600", "1,read,/u1/", "1,read,//u1",
-        "1,read,u1", "1,read,", "1,read,/A", "1,chmod,/,1755", "1,chmod,/,755", "1,chmod,/,0758", "1,chgrp,/,25", "1,chgrp,/,00",
-        "1,chown,/,24", "1,login,8,oak", "1,login,0,", "1,login,0,Oak", "1,add,/u1,/rep,0", "1,add,/u1,/u1/a,0",
+        "1,read,u1/", "1,read,", "1,read,/A", "1,chmod,/,1755", "1,chmod,/,755", "1,chmod,/,0758", "1,chgrp,/,25",
+        "1,chgrp,/,00", "1,chown,/,24", "1,login,8,oak", "1,login,0,", "1,login,0,Oak", "1,add,/u1,/rep,0", "1,add,/u1,/u1/a,0",
         "1,add,/u1,/rep/a,8", "1,co,/rep,/u1/a", "1,co,/repo/a,/u1/a", "1,del,/rep", "1,del,/", "1,Read,/", "1,read ,/",
-        " 1,read,/", "1,read,/\n", "1,read,/\r", "", ",", "1", "1,", "1,cd,/", "1,log", "1,merge,/u1/a", "16,del,/rep",
-        "22,read",
+        " 1,read,/", "1,read,/\n", "1,read,/\r", "", ",", "1", "1,", "1,cd", "1,log", "1,merge,/u1/a", "16,del,/rep", "22,read",
     ] {
         trial.say(line, "no,1");
     }

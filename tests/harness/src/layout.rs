@@ -13,7 +13,9 @@ pub const SESSIONS: usize = 48;
 pub const PAIRS: usize = 64;
 pub const GRANTS: usize = 121;
 pub const GRANT: usize = 10;
-pub const SPARE: usize = 442;
+pub const DIRECTORIES: usize = 442;
+pub const DIRECTORY: usize = 54;
+pub const SPARE: usize = 1_306;
 pub const ROWS: usize = 7_422;
 pub const TABLE: usize = 7_424;
 pub const ROW: usize = 227;
@@ -40,9 +42,10 @@ pub fn decode(store: &[u8]) -> Result<State, &'static str> {
     let people = decode_people(&store[ACCOUNTS..SESSIONS])?;
     let sessions = decode_sessions(&store[SESSIONS..PAIRS])?;
     let pairs = decode_pairs(&store[PAIRS..GRANTS])?;
-    let grants = decode_grants(&store[GRANTS..SPARE], &people)?;
+    let grants = decode_grants(&store[GRANTS..DIRECTORIES], &people)?;
+    let working_directories = decode_directories(&store[DIRECTORIES..SPARE])?;
     let nodes = decode_rows(&store[TABLE..TABLE + count * ROW])?;
-    Ok(State { people, pairs, grants, sessions, nodes })
+    Ok(State { people, pairs, grants, sessions, working_directories, nodes })
 }
 
 fn need(good: bool, what: &'static str) -> Result<(), &'static str> {
@@ -119,6 +122,15 @@ fn decode_grants(bytes: &[u8], people: &BTreeMap<u8, Person>) -> Result<Vec<Gran
         grants.push(Grant { uid, role, password: password.to_vec() });
     }
     Ok(grants)
+}
+
+/// A path's form is all that is asked of a working directory, whoever has it.
+fn decode_directories(bytes: &[u8]) -> Result<[Path; 16], &'static str> {
+    let mut directories: [Path; 16] = Default::default();
+    for (directory, field) in directories.iter_mut().zip(bytes.chunks(DIRECTORY)) {
+        *directory = path(filled(field)?).ok_or("working directory")?;
+    }
+    Ok(directories)
 }
 
 /// Rows in preorder, siblings in byte order, which also makes siblings differ.
@@ -203,6 +215,9 @@ pub fn encode(state: &State) -> Vec<u8> {
     for (at, grant) in state.grants.iter().enumerate() {
         put(&mut store, GRANTS + 1 + GRANT * at, &[grant.uid, grant.role]);
         put(&mut store, GRANTS + 3 + GRANT * at, &grant.password);
+    }
+    for (at, directory) in state.working_directories.iter().enumerate() {
+        put(&mut store, DIRECTORIES + DIRECTORY * at, &text(directory));
     }
     put_two(&mut store, ROWS, state.nodes.len() as u16);
     for (at, (path, node)) in state.nodes.iter().enumerate() {

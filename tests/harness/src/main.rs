@@ -1,4 +1,4 @@
-//! Compares the library with a model written from document 01 alone.
+//! Compares the library with a model written from documents 01 and 02 alone.
 
 mod damage;
 mod edges;

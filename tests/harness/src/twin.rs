@@ -4,7 +4,7 @@ use crate::layout::{decode, encode, STORE};
 use crate::library::{self, Answer, NO_VALUE};
 use crate::model::run::LEAST_ANSWER;
 use crate::model::setup::read_setup;
-use crate::model::state::State;
+use crate::model::state::{text, State};
 use crate::rng::Rng;
 use crate::table::Table;
 use crate::tally::{show, Tally};
@@ -181,6 +181,10 @@ pub fn unlike(bytes: &[u8], wanted: &[u8], what: &str) -> Option<String> {
 fn state_difference(store: &State, model: &State) -> String {
     if store.sessions != model.sessions {
         return format!("sessions {:?} and not {:?}", store.sessions, model.sessions);
+    }
+    if store.working_directories != model.working_directories {
+        let texts = |state: &State| state.working_directories.each_ref().map(|path| show(&text(path))).join(" ");
+        return format!("working directories {} and not {}", texts(store), texts(model));
     }
     if (&store.people, &store.pairs, &store.grants) != (&model.people, &model.pairs, &model.grants) {
         return format!("people {:?} and not {:?}, or pairs or grants", store.people, model.people);

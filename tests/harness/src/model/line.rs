@@ -2,30 +2,40 @@
 
 use super::state::{Path, MOST_CONTENT, MOST_NAMES};
 
-/// The words of the commands, in the order of document 01.
-pub const WORDS: [&str; 17] = [
-    "create", "mkdir", "read", "write", "rm", "rmdir", "mv", "chmod", "chgrp", "chown", "login", "logout", "add", "co", "commit",
-    "up", "del",
+/// The words of the commands: the shell's, then the repository's.
+pub const WORDS: [&str; 18] = [
+    "create", "mkdir", "read", "write", "rm", "rmdir", "mv", "chmod", "chgrp", "chown", "cd", "login", "logout", "add", "co",
+    "commit", "up", "del",
 ];
+
+/// A path as a line gives it: whole, or short and then meant from the caller's working directory.
+#[derive(Clone, PartialEq, Eq, Debug)]
+pub enum Given {
+    Whole(Path),
+    Short(Path),
+}
+
+/// A command with its arguments; an entry path is never short.
 
 #[derive(Clone, PartialEq, Eq, Debug)]
 pub enum Command {
-    Create(Path, u16),
-    Mkdir(Path, u16),
-    Read(Path),
-    Write(Path, Vec<u8>),
-    Rm(Path),
-    Rmdir(Path),
-    Mv(Path, Path),
-    Chmod(Path, u16),
-    Chgrp(Path, u8),
-    Chown(Path, u8),
+    Create(Given, u16),
+    Mkdir(Given, u16),
+    Read(Given),
+    Write(Given, Vec<u8>),
+    Rm(Given),
+    Rmdir(Given),
+    Mv(Given, Given),
+    Chmod(Given, u16),
+    Chgrp(Given, u8),
+    Chown(Given, u8),
+    Cd(Given),
     Login(u8, Vec<u8>),
     Logout,
-    Add(Path, Path, u8),
-    Co(Path, Path),
-    Commit(Path),
-    Up(Path),
+    Add(Given, Path, u8),
+    Co(Path, Given),
+    Commit(Given),
+    Up(Given),
     Del(Path),
 }
 
@@ -50,15 +60,28 @@ pub fn is_content(field: &[u8]) -> bool {
     field.len() <= MOST_CONTENT && field.iter().all(|byte| (32..=126).contains(byte) && *byte != b',')
 }
 
+/// 1 to 6 names parted by `/`.
+fn names(field: &[u8]) -> Option<Path> {
+    let names: Path = field.split(|byte| *byte == b'/').map(<[u8]>::to_vec).collect();
+    let good = names.len() <= MOST_NAMES && names.iter().all(|name| is_name(name));
+    good.then_some(names)
+}
+
 /// A path: `/`, or 1 to 6 names each after a `/`.
 pub fn path(field: &[u8]) -> Option<Path> {
     if field == b"/" {
         return Some(Vec::new());
     }
-    let (first, names) = field.split_first()?;
-    let names: Path = names.split(|byte| *byte == b'/').map(<[u8]>::to_vec).collect();
-    let good = *first == b'/' && names.len() <= MOST_NAMES && names.iter().all(|name| is_name(name));
-    good.then_some(names)
+    names(field.strip_prefix(b"/")?)
+}
+
+/// A path, or a short one: 1 to 6 names that begin without `/`.
+fn given(field: &[u8]) -> Option<Given> {
+    if field.starts_with(b"/") {
+        path(field).map(Given::Whole)
+    } else {
+        names(field).map(Given::Short)
+    }
 }
 
 /// An entry path: at least two names, the first `rep`.
@@ -88,22 +111,23 @@ pub fn read_line(line: &[u8]) -> Option<(u8, Command)> {
 /// The command that a word and its arguments say.
 fn command(word: &[u8], arguments: &[&[u8]]) -> Option<Command> {
     let command = match (word, arguments) {
-        (b"create", [a, m]) => Command::Create(path(a)?, mode(m).filter(|_| m[0] == b'0')?),
-        (b"mkdir", [a, m]) => Command::Mkdir(path(a)?, mode(m)?),
-        (b"read", [a]) => Command::Read(path(a)?),
-        (b"write", [a, content]) => Command::Write(path(a)?, is_content(content).then(|| content.to_vec())?),
-        (b"rm", [a]) => Command::Rm(path(a)?),
-        (b"rmdir", [a]) => Command::Rmdir(path(a)?),
-        (b"mv", [a, b]) => Command::Mv(path(a)?, path(b)?),
-        (b"chmod", [a, m]) => Command::Chmod(path(a)?, mode(m)?),
-        (b"chgrp", [a, gid]) => Command::Chgrp(path(a)?, number(gid, 24)?),
-        (b"chown", [a, uid]) => Command::Chown(path(a)?, number(uid, 23)?),
+        (b"create", [a, m]) => Command::Create(given(a)?, mode(m).filter(|_| m[0] == b'0')?),
+        (b"mkdir", [a, m]) => Command::Mkdir(given(a)?, mode(m)?),
+        (b"read", [a]) => Command::Read(given(a)?),
+        (b"write", [a, content]) => Command::Write(given(a)?, is_content(content).then(|| content.to_vec())?),
+        (b"rm", [a]) => Command::Rm(given(a)?),
+        (b"rmdir", [a]) => Command::Rmdir(given(a)?),
+        (b"mv", [a, b]) => Command::Mv(given(a)?, given(b)?),
+        (b"chmod", [a, m]) => Command::Chmod(given(a)?, mode(m)?),
+        (b"chgrp", [a, gid]) => Command::Chgrp(given(a)?, number(gid, 24)?),
+        (b"chown", [a, uid]) => Command::Chown(given(a)?, number(uid, 23)?),
+        (b"cd", [a]) => Command::Cd(given(a)?),
         (b"login", [role, password]) => Command::Login(number(role, 7)?, is_name(password).then(|| password.to_vec())?),
         (b"logout", []) => Command::Logout,
-        (b"add", [w, e, role]) => Command::Add(path(w)?, entry_path(e)?, number(role, 7)?),
-        (b"co", [e, d]) => Command::Co(entry_path(e)?, path(d)?),
-        (b"commit", [w]) => Command::Commit(path(w)?),
-        (b"up", [w]) => Command::Up(path(w)?),
+        (b"add", [w, e, role]) => Command::Add(given(w)?, entry_path(e)?, number(role, 7)?),
+        (b"co", [e, d]) => Command::Co(entry_path(e)?, given(d)?),
+        (b"commit", [w]) => Command::Commit(given(w)?),
+        (b"up", [w]) => Command::Up(given(w)?),
         (b"del", [e]) => Command::Del(entry_path(e)?),
         _ => return None,
     };

@@ -1,4 +1,4 @@
-//! A model of document 01, written from its words alone: plain and literal, not fast.
+//! A model of documents 01 and 02, written from their words alone: plain and literal, not fast.
 
 pub mod access;
 pub mod line;
@@ -9,3 +9,4 @@ pub mod run;
 pub mod setup;
 pub mod shell;
 pub mod state;
+pub mod working;

@@ -1,4 +1,4 @@
-//! What a store holds: people, pairs, grants, sessions, and the nodes by path.
+//! What a store holds: people, pairs, grants, sessions, working directories, and the nodes by path.
 
 use std::collections::{BTreeMap, BTreeSet};
 
@@ -74,20 +74,25 @@ pub struct State {
     /// Login grants as their lines stood.
     pub grants: Vec<Grant>,
     pub sessions: [Option<u8>; 16],
+    /// Where each account stands; the path is kept by its names, whatever becomes of the directory.
+    pub working_directories: [Path; 16],
     pub nodes: BTreeMap<Path, Node>,
 }
 
 impl State {
-    /// The fresh store of a setup: `/`, `/rep`, and `/u` with the uid for each person.
+    /// The fresh store of a setup: `/`, `/rep`, and `/u` with the uid for each person, who stands there; the other accounts
+    /// stand at `/`.
     pub fn fresh(people: BTreeMap<u8, Person>, pairs: Vec<(u8, u8)>, grants: Vec<Grant>) -> State {
         let mut nodes = BTreeMap::new();
         nodes.insert(Vec::new(), Node::new(Kind::Directory, 0, 0, 0o755));
         nodes.insert(vec![b"rep".to_vec()], Node::new(Kind::Directory, 16, ALL_SERVICE, 0o750));
+        let mut working_directories: [Path; 16] = Default::default();
         for (uid, person) in &people {
-            let home = format!("u{uid}").into_bytes();
-            nodes.insert(vec![home], Node::new(Kind::Directory, *uid, person.primary, 0o755));
+            let home = vec![format!("u{uid}").into_bytes()];
+            nodes.insert(home.clone(), Node::new(Kind::Directory, *uid, person.primary, 0o755));
+            working_directories[usize::from(*uid)] = home;
         }
-        State { people, pairs, grants, sessions: [None; 16], nodes }
+        State { people, pairs, grants, sessions: [None; 16], working_directories, nodes }
     }
 
     /// The node of a path that is known to be there.
