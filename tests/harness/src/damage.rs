@@ -1,5 +1,6 @@
 //! Damaged stores: the library answers 18 exactly where the layout says unsound, and else as the model does.
 
+use crate::damage_cd;
 use crate::generate::{Lines, Theme};
 use crate::layout::*;
 use crate::library::{self, Answer, NO_VALUE};
@@ -38,6 +39,7 @@ pub fn damage(seed: u64) -> Tally {
     }
     lengths(&mut bench, &stores);
     odd_states(&mut bench);
+    damage_cd::directories(&mut bench, &stores);
     bench.tally
 }
 
@@ -58,7 +60,7 @@ fn sound_stores(bench: &mut Bench) -> Vec<Vec<u8>> {
     states.iter().map(encode).collect()
 }
 
-fn fresh(text: &[u8]) -> State {
+pub fn fresh(text: &[u8]) -> State {
     read_setup(text).expect("a good setup")
 }
 
@@ -73,7 +75,7 @@ fn every_byte(bench: &mut Bench, stores: &[Vec<u8>]) {
 }
 
 /// Another value for a byte.
-fn other_byte(rng: &mut Rng, byte: u8) -> u8 {
+pub fn other_byte(rng: &mut Rng, byte: u8) -> u8 {
     let new = match rng.below(6) {
         0 => byte.wrapping_add(1),
         1 => byte.wrapping_sub(1),
@@ -93,7 +95,7 @@ fn other_byte(rng: &mut Rng, byte: u8) -> u8 {
 fn damage_shape(rng: &mut Rng, store: &mut [u8]) {
     let rows = two(store, ROWS);
     let (a, b) = (rng.below(rows), rng.below(rows));
-    match rng.below(13) {
+    match rng.below(14) {
         0 => swap(store, row(a), row(b), ROW),
         1 => copy(store, row(a), row(b), ROW),
         2 => swap(store, row(a) + NAME, row(b) + NAME, 8),
@@ -112,6 +114,7 @@ fn damage_shape(rng: &mut Rng, store: &mut [u8]) {
             let past = GRANTS + 1 + GRANT * rng.below(32);
             store[past..past + 3].copy_from_slice(&[0, 0, b'a']);
         }
+        12 => copy(store, damage_cd::field(rng.below(16)), damage_cd::field(rng.below(16)), DIRECTORY),
         _ => swap(store, row(a) + KIND, row(b) + KIND, 1),
     }
 }
@@ -185,7 +188,7 @@ fn damage_header(rng: &mut Rng, store: &mut [u8]) -> &'static str {
     let uid = rng.below(16);
     let pair = PAIRS + 1 + 2 * rng.below(store[PAIRS].max(1).into());
     let grant = GRANTS + 1 + GRANT * rng.below(store[GRANTS].max(1).into());
-    match rng.below(11) {
+    match rng.below(12) {
         0 => set(store, ACCOUNTS + 3 * uid, *rng.pick(&[0, 1, 15, 16, 255]), "primary group"),
         1 => set_two(store, ACCOUNTS + 3 * uid + 1, *rng.pick(&[0, 1, 2, 3, 0x8000, 0xFFFE, 0xFFFF]), "further groups"),
         2 => set(store, SESSIONS + uid, *rng.pick(&[0, 1, 8, 9, 255]), "session"),
@@ -196,6 +199,7 @@ fn damage_header(rng: &mut Rng, store: &mut [u8]) -> &'static str {
         7 => set_text(store, grant + 2, 8, rng.pick::<&str>(&["", "a", "abcdefgh", "A", "a,b", "a\0b"]), "password"),
         8 => set(store, PAIRS, *rng.pick(&[0, 28, 29, 255]), "number of pairs"),
         9 => set(store, GRANTS, *rng.pick(&[0, 32, 33, 255]), "number of grants"),
+        10 => damage_cd::damage_field(rng, store, uid),
         _ => set(store, SPARE + rng.below(ROWS - SPARE), 1, "kept bytes of the header"),
     }
 }
@@ -278,7 +282,7 @@ fn lengths(bench: &mut Bench, stores: &[Vec<u8>]) {
 }
 
 /// Runs a line and asks for a line of the listing; the layout says what must come.
-fn judge(bench: &mut Bench, store: Vec<u8>, what: &str) {
+pub fn judge(bench: &mut Bench, store: Vec<u8>, what: &str) {
     match decode(&store) {
         Ok(model) => judge_sound(bench, Twin { store, model }, what),
         Err(why) => judge_unsound(bench, store, &format!("{what}, unsound by its {why}")),

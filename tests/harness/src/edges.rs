@@ -1,6 +1,7 @@
-//! The cases that document 01 names, both sides of each edge. What is expected is written by hand, and the model and the
-//! library are each held against it.
+//! The cases that documents 01 and 02 name, both sides of each edge. What is expected is written by hand, and the model and
+//! the library are each held against it. Those of working directories stand in `edges_cd`.
 
+use crate::edges_cd;
 use crate::layout::STORE;
 use crate::model::setup::read_setup;
 use crate::model::state::State;
@@ -49,7 +50,7 @@ pub fn example_state() -> State {
 }
 
 /// A test and its name.
-type Test = (&'static str, fn(&mut Trial));
+pub type Test = (&'static str, fn(&mut Trial));
 
 pub fn edges(seed: u64) -> Tally {
     let mut bench = Bench::new(seed);
@@ -73,7 +74,7 @@ pub fn edges(seed: u64) -> Tally {
         ("setup r,0,7 / r,3,3", role_pairs),
         ("setup lines", setup_lines),
     ];
-    for (name, test) in tests {
+    for (name, test) in tests.into_iter().chain(edges_cd::TESTS) {
         let mut trial = Trial::new(&mut bench, name, EXAMPLE_SETUP);
         test(&mut trial);
         println!("{name}: {}", if trial.failed() { "failed" } else { "passed" });

@@ -28,9 +28,11 @@ impl Theme {
         match self {
             Theme::Mixed => &WORDS,
             Theme::Filling => &["create", "mkdir", "mkdir", "co", "add"],
-            Theme::Deep => &["mkdir", "mkdir", "mv", "mv", "co", "create"],
-            Theme::Repository => &["add", "co", "commit", "commit", "up", "del", "write", "write", "login", "mkdir", "create"],
-            Theme::Root => &["mv", "mv", "chmod", "chmod", "chown", "chgrp", "add", "co", "commit", "up", "rm", "rmdir"],
+            Theme::Deep => &["mkdir", "mkdir", "mv", "mv", "co", "create", "cd"],
+            Theme::Repository => {
+                &["add", "co", "commit", "commit", "up", "del", "write", "write", "login", "mkdir", "create", "cd"]
+            }
+            Theme::Root => &["mv", "mv", "chmod", "chmod", "chown", "chgrp", "add", "co", "commit", "up", "rm", "rmdir", "cd"],
         }
     }
 }
@@ -101,6 +103,7 @@ impl<'a> Lines<'a> {
             }
             "chgrp" => vec![self.path(), self.number(25)],
             "chown" => vec![self.path(), self.number(24)],
+            "cd" => vec![self.directory()],
             "login" => self.grant(),
             "logout" => Vec::new(),
             "add" => vec![self.path(), self.new_entry(), self.number(8)],
@@ -111,13 +114,47 @@ impl<'a> Lines<'a> {
         }
     }
 
-    /// A path that is mostly there.
+    /// A path that is mostly there; at times one where somebody stands, so that working directories go.
     fn path(&mut self) -> Vec<u8> {
-        match self.rng.below(20) {
-            0 => self.new_path(),
-            1 => text(&self.random_path()),
-            _ => text(&self.present_path(|_| true)),
+        let path = match self.rng.below(20) {
+            0 => return self.new_path(),
+            1 => self.random_path(),
+            2 => self.rng.pick(&self.state.working_directories).clone(),
+            _ => self.present_path(|_| true),
+        };
+        self.given(path)
+    }
+
+    /// Mostly a directory.
+    fn directory(&mut self) -> Vec<u8> {
+        if self.rng.percent(15) {
+            return self.path();
         }
+        let state = self.state;
+        let path = self.present_path(|path| state.node(path).is_directory());
+        self.given(path)
+    }
+
+    /// A path as a line may give it: often short where it lies below the caller's working directory, seldom any short one.
+    fn given(&mut self, path: Path) -> Vec<u8> {
+        let below = self.standing().and_then(|directory| path.strip_prefix(directory.as_slice()));
+        match below {
+            Some(names) if !names.is_empty() && self.rng.percent(60) => names.join(&b'/'),
+            _ if self.rng.percent(4) => self.short_path(),
+            _ => text(&path),
+        }
+    }
+
+    /// Any short path, often one that is too deep when joined, at times one of seven names.
+    fn short_path(&mut self) -> Vec<u8> {
+        let length = if self.rng.percent(50) { self.rng.within(4, 7) } else { self.rng.within(1, 3) };
+        let names: Path = (0..length).map(|_| self.name()).collect();
+        names.join(&b'/')
+    }
+
+    /// The caller's working directory, where the caller is an account that has one.
+    fn standing(&self) -> Option<&'a Path> {
+        self.state.working_directories.get(usize::from(self.caller))
     }
 
     /// A path that mostly is not there but could be.
@@ -138,7 +175,7 @@ impl<'a> Lines<'a> {
                 path.push(self.name());
             }
         }
-        text(&path)
+        self.given(path)
     }
 
     /// A path below `/rep` that is mostly there.
@@ -147,7 +184,7 @@ impl<'a> Lines<'a> {
         if path.len() < 2 || self.rng.percent(8) {
             return self.new_entry();
         }
-        text(&path)
+        self.entry_text(&path)
     }
 
     /// A path below `/rep` that mostly is not there but could be.
@@ -158,7 +195,15 @@ impl<'a> Lines<'a> {
         if self.rng.percent(95) {
             path.push(self.name());
         }
-        text(&path)
+        self.entry_text(&path)
+    }
+
+    /// An entry path as text; seldom short, which no entry path may be.
+    fn entry_text(&mut self, path: &Path) -> Vec<u8> {
+        if self.rng.percent(1) {
+            return path.join(&b'/');
+        }
+        text(path)
     }
 
     /// Mostly a file.
@@ -167,7 +212,8 @@ impl<'a> Lines<'a> {
             return self.path();
         }
         let state = self.state;
-        text(&self.present_path(|path| !state.node(path).is_directory()))
+        let path = self.present_path(|path| !state.node(path).is_directory());
+        self.given(path)
     }
 
     /// A working file, mostly one with a tag.
@@ -177,15 +223,20 @@ impl<'a> Lines<'a> {
         }
         let state = self.state;
         let tagged_file = |path: &Path| state.node(path).tag.is_some() && !state.node(path).is_directory();
-        text(&self.present_path(tagged_file))
+        let path = self.present_path(tagged_file);
+        self.given(path)
     }
 
-    /// Any path of the tree for which something holds, often the caller's own; `/rep` where there is none.
+    /// Any path of the tree for which something holds, often the caller's own or one below the caller's working directory;
+    /// `/rep` where there is none.
     fn present_path(&mut self, holds: impl Fn(&Path) -> bool) -> Path {
         let mut nodes: Vec<(&Path, &Node)> = self.state.nodes.iter().filter(|(path, _)| holds(path)).collect();
-        let own: Vec<(&Path, &Node)> = nodes.iter().filter(|(_, node)| node.owner == self.caller).copied().collect();
-        if !own.is_empty() && self.rng.percent(60) {
-            nodes = own;
+        if self.rng.percent(60) {
+            let caller = self.caller;
+            keep_some(&mut nodes, |_, node| node.owner == caller);
+        }
+        if let Some(directory) = self.standing().filter(|_| self.rng.percent(30)) {
+            keep_some(&mut nodes, |path, _| path.starts_with(directory));
         }
         if nodes.is_empty() {
             return vec![b"rep".to_vec()];
@@ -251,5 +302,12 @@ impl<'a> Lines<'a> {
         }
         let grant = *self.rng.pick(&own);
         vec![grant.role.to_string().into_bytes(), grant.password.clone()]
+    }
+}
+
+/// Keeps the nodes for which something holds, if there are any.
+fn keep_some(nodes: &mut Vec<(&Path, &Node)>, holds: impl Fn(&Path, &Node) -> bool) {
+    if nodes.iter().any(|(path, node)| holds(path, node)) {
+        nodes.retain(|(path, node)| holds(path, node));
     }
 }

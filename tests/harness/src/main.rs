@@ -1,7 +1,9 @@
 //! Compares the library with a model written from documents 01 and 02 alone.
 
 mod damage;
+mod damage_cd;
 mod edges;
+mod edges_cd;
 mod generate;
 mod layout;
 #[path = "../../library.rs"]

@@ -39,7 +39,7 @@ fn mutate_field(rng: &mut Rng, line: &[u8]) -> Vec<u8> {
     let mut fields: Vec<Vec<u8>> = line.split(|byte| *byte == b',').map(<[u8]>::to_vec).collect();
     let at = rng.below(fields.len());
     let field = &mut fields[at];
-    match rng.below(12) {
+    match rng.below(13) {
         0 => field.clear(),
         1 => field.insert(0, b'0'),
         2 => field.insert(0, b'/'),
@@ -53,6 +53,12 @@ fn mutate_field(rng: &mut Rng, line: &[u8]) -> Vec<u8> {
         10 => {
             *field = rng
                 .pick(&["1777", "4755", "00755", "755", "0788", "24", "25", "256", "-1", "/rep", "/rep/", "//"])
+                .as_bytes()
+                .to_vec()
+        }
+        11 => {
+            *field = rng
+                .pick(&["a", "rep", "a/", "a//b", "./a", "..", "abcdefghi", "a/b/c/d/e/f", "a/b/c/d/e/f/g"])
                 .as_bytes()
                 .to_vec()
         }

@@ -4,7 +4,7 @@ use crate::generate::NAMES;
 use crate::model::state::{Kind, Node, Path, State, Tag, LAST_REVISION, MOST_NAMES, MOST_NODES, SET_GID};
 use crate::rng::Rng;
 
-/// Changes a fresh state's tree, sessions and attributes at random; the result is sound.
+/// Changes a fresh state's tree, sessions, attributes and working directories at random; the result is sound.
 pub fn scramble(rng: &mut Rng, state: &mut State) {
     let uids: Vec<u8> = state.people.keys().copied().chain([0]).collect();
     for uid in uids {
@@ -23,6 +23,23 @@ pub fn scramble(rng: &mut Rng, state: &mut State) {
         if rng.percent(if path.len() < 2 { 10 } else { 100 }) {
             attributes(rng, state, &path);
         }
+    }
+    for account in 0..state.working_directories.len() {
+        if rng.percent(60) {
+            state.working_directories[account] = any_directory(rng, state);
+        }
+    }
+}
+
+/// A working directory for any account: mostly a path that is there, a file too, at times one that is not.
+fn any_directory(rng: &mut Rng, state: &State) -> Path {
+    let paths: Vec<&Path> = state.nodes.keys().collect();
+    let directories: Vec<&Path> = paths.iter().copied().filter(|path| state.node(path).is_directory()).collect();
+    match rng.below(10) {
+        0 => vec![b"eightby8".to_vec(); rng.within(1, MOST_NAMES)],
+        1 => (0..rng.within(1, MOST_NAMES)).map(|_| rng.pick(&NAMES).as_bytes().to_vec()).collect(),
+        2 => (*rng.pick(&paths)).clone(),
+        _ => (*rng.pick(&directories)).clone(),
     }
 }
 

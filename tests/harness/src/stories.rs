@@ -45,9 +45,9 @@ impl Cast {
     }
 
     /// Puts the players into a template: `A` and `B` uids, `X` the stranger, `J` the role, `G` and `H` their groups,
-    /// `W` the password, `#0` to `#9` names.
+    /// `W` the password, `#0` to `#9` names, `D` a short path of six names, too deep for a person at home.
     fn line(&self, template: &str) -> Vec<u8> {
-        let mut line = template.to_string();
+        let mut line = template.replace('D', "#0/#1/#2/#3/#4/#5");
         for n in 0..10 {
             line = line.replace(&format!("#{n}"), &self.names[n]);
         }
@@ -67,7 +67,7 @@ fn random_name(rng: &mut Rng, n: usize) -> String {
 
 const FORMS: &[&str] = &[
     "create,/#0,0600", "mkdir,/#0,0700", "read,/", "write,/#0,#1", "rm,/#0", "rmdir,/#0", "mv,/#0,/#1", "chmod,/,0755",
-    "chgrp,/,0", "chown,/,0", "login,0,W", "logout", "add,/#0,/rep/#0,0", "co,/rep/#0,/#1", "commit,/#0", "up,/#0",
+    "chgrp,/,0", "chown,/,0", "cd,/", "login,0,W", "logout", "add,/#0,/rep/#0,0", "co,/rep/#0,/#1", "commit,/#0", "up,/#0",
     "del,/rep/#0",
 ];
 
@@ -118,9 +118,41 @@ const ROOT: &[&str] = &[
     "B,del,/rep/#8", "A,del,/rep/#8",
 ];
 
+/// `cd` itself, then each command with a joined path that is too deep, for `mv` at either place.
+const TOO_DEEP: &[&str] = &[
+    "A,mkdir,#0,0700", "A,create,#1,0600", "A,mkdir,#2,0600", "A,cd,#3", "A,cd,#1", "A,cd,#1/#3", "A,cd,#2", "A,cd,D",
+    "A,cd,D/#6", "B,cd,/uA/#0", "A,cd,/rep", "B,cd,/uA", "B,read,#1", "B,create,#3,0600", "B,cd,/", "A,create,D,0600",
+    "A,mkdir,D,0700", "A,read,D", "A,write,D,", "A,rm,D", "A,rmdir,D", "A,mv,D,#9", "A,mv,#1,D", "A,mv,D,D", "A,mv,/,D",
+    "A,mv,D,/rep", "A,chmod,D,0600", "A,chgrp,D,G", "A,chown,D,A", "A,add,D,/rep/#0,0", "A,co,/rep/#0,D", "A,commit,D", "A,up,D",
+    "X,read,D", "0,read,D", "0,commit,D", "A,add,#1,/rep/#1,0", "A,login,0,W", "A,commit,D", "A,co,/rep/#1,D",
+    "A,add,D,/rep/#1,J", "A,up,D", "A,add,#1,rep/#1,0", "A,co,rep/#1,#9", "A,del,rep/#1",
+];
+
+/// Work below the working directory.
+const BELOW: &[&str] = &[
+    "A,login,0,W", "A,mkdir,#0,0700", "A,create,#1,0600", "A,add,#1,/rep/#1,0", "A,cd,#0", "A,co,/rep/#1,#6", "A,write,#6,#7",
+    "A,commit,#6", "A,up,#6", "A,chmod,#6,0640", "A,chgrp,#6,G", "0,chown,uA/#0/#6,A", "A,mv,#6,#7", "A,mv,/uA/#1,#6",
+    "A,mv,#6,/uA/#1", "A,read,/uA/#0", "A,mkdir,#6,0700", "A,mv,#6,#6/#8", "A,mv,#6,#7", "A,rmdir,#6", "A,logout", "A,commit,#7",
+    "A,rm,#7",
+];
+
+/// The working directory goes, gives way to a file, comes back, is moved away, and lets nobody in.
+const GONE: &[&str] = &[
+    "A,mkdir,#0,0700", "A,cd,#0", "A,rmdir,/uA/#0", "A,create,#4,0600", "A,cd,#4", "A,create,/uA/#0,0600", "A,read,#4",
+    "A,cd,#4", "A,rm,/uA/#0", "A,mkdir,/uA/#0,0700", "A,create,#4,0600", "A,mv,/uA/#0,/uA/#8", "A,read,#4", "A,cd,/uA/#8",
+    "A,read,#4", "A,chmod,/uA/#8,0600", "A,read,#4", "0,cd,uA/#8", "0,read,#4",
+];
+
+/// Reserved names are those of the joined path.
+const RESERVED: &[&str] = &[
+    "A,cd,/", "A,rm,rep", "A,rmdir,rep", "A,mv,rep,#9", "A,mv,uA,rep", "A,cd,rep", "A,create,rep,0600", "0,mkdir,rep,0700",
+    "0,rmdir,rep", "A,cd,uA", "A,mkdir,rep,0700", "A,mv,rep,#9", "A,mv,#9,rep", "A,rmdir,rep", "0,cd,/rep", "0,create,#9,0444",
+    "0,cd,#9", "0,rm,#9", "0,rmdir,/rep",
+];
+
 /// Runs every story once.
 pub fn tell(bench: &mut Bench) {
-    for story in [SHELL, REPOSITORY, ROOT] {
+    for story in [SHELL, REPOSITORY, ROOT, TOO_DEEP, BELOW, GONE, RESERVED] {
         let cast = Cast::new(&mut bench.rng);
         play(bench, &cast, story);
     }

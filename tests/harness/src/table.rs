@@ -1,4 +1,5 @@
-//! The pairs of call and number that document 01 allows, written by hand from its words, with counts of what came up.
+//! The pairs of call and number that documents 01 and 02 allow, written by hand from their words, with counts of what came
+//! up.
 
 use crate::model::line::WORDS;
 use crate::tally::Tally;
@@ -6,23 +7,24 @@ use std::collections::BTreeMap;
 
 /// For each command 0 for done and the numbers it can be refused with; then the lines without a command's word, and
 /// the numbers that come before any command.
-const ALLOWED: [(&str, &[u32]); 21] = [
-    ("create", &[0, 1, 2, 3, 4, 5, 6, 10]),
-    ("mkdir", &[0, 1, 2, 3, 4, 5, 6, 10]),
-    ("read", &[0, 1, 2, 3, 4, 5]),
-    ("write", &[0, 1, 2, 3, 4, 5, 7]),
-    ("rm", &[0, 1, 2, 3, 4, 5, 7, 9]),
-    ("rmdir", &[0, 1, 2, 3, 4, 5, 7, 8, 9]),
+const ALLOWED: [(&str, &[u32]); 22] = [
+    ("create", &[0, 1, 2, 3, 4, 5, 6, 10, 19]),
+    ("mkdir", &[0, 1, 2, 3, 4, 5, 6, 10, 19]),
+    ("read", &[0, 1, 2, 3, 4, 5, 19]),
+    ("write", &[0, 1, 2, 3, 4, 5, 7, 19]),
+    ("rm", &[0, 1, 2, 3, 4, 5, 7, 9, 19]),
+    ("rmdir", &[0, 1, 2, 3, 4, 5, 7, 8, 9, 19]),
     ("mv", &[0, 1, 2, 3, 4, 5, 6, 9, 11, 19]),
-    ("chmod", &[0, 1, 2, 3, 4, 5, 7, 9]),
-    ("chgrp", &[0, 1, 2, 3, 4, 5, 9]),
-    ("chown", &[0, 1, 2, 3, 4, 5, 9]),
+    ("chmod", &[0, 1, 2, 3, 4, 5, 7, 9, 19]),
+    ("chgrp", &[0, 1, 2, 3, 4, 5, 9, 19]),
+    ("chown", &[0, 1, 2, 3, 4, 5, 9, 19]),
+    ("cd", &[0, 1, 2, 3, 4, 5, 7, 19]),
     ("login", &[0, 1, 2, 13]),
     ("logout", &[0, 1, 2]),
-    ("add", &[0, 1, 2, 3, 4, 5, 6, 9, 10, 12]),
+    ("add", &[0, 1, 2, 3, 4, 5, 6, 9, 10, 12, 19]),
     ("co", &[0, 1, 2, 3, 4, 5, 6, 10, 12, 19]),
-    ("commit", &[0, 1, 2, 3, 4, 5, 7, 12, 14, 15, 16]),
-    ("up", &[0, 1, 2, 3, 4, 5, 7, 12, 15]),
+    ("commit", &[0, 1, 2, 3, 4, 5, 7, 12, 14, 15, 16, 19]),
+    ("up", &[0, 1, 2, 3, 4, 5, 7, 12, 15, 19]),
     ("del", &[0, 1, 2, 3, 4, 5, 8, 12]),
     (NO_WORD, &[1]),
     ("run", &[18, 20]),

@@ -1,9 +1,11 @@
 //! One named test: lines and calls whose answers are written by hand, held against model and library each.
 
-use crate::layout::STORE;
+use crate::layout::{decode, STORE};
 use crate::library::{self, Answer, NO_VALUE};
+use crate::model::line::path;
 use crate::model::run::LEAST_ANSWER;
 use crate::model::setup::read_setup;
+use crate::model::state::{text, State};
 use crate::tally::show;
 use crate::twin::{unlike, Bench, Twin};
 
@@ -65,6 +67,22 @@ impl<'a> Trial<'a> {
         self.expect("the library", &what, printed(answer, &buffer), wanted);
         let problem = self.twin.state_problem();
         self.check(problem.map(|problem| format!("{what}: {problem}")));
+    }
+
+    /// Where an account stands, by the model and by the library's store.
+    pub fn stands(&mut self, account: usize, wanted: &str) {
+        let shown = |state: &State| text(&state.working_directories[account]).escape_ascii().to_string();
+        let given = shown(&self.twin.model);
+        let library_gives = decode(&self.twin.store).map_or("an unsound store".to_string(), |state| shown(&state));
+        let what = format!("working directory of {account}");
+        self.expect("the model", &what, given, wanted);
+        self.expect("the library", &what, library_gives, wanted);
+    }
+
+    /// Puts a working directory into both states, also one that no line leads to.
+    pub fn place(&mut self, account: usize, directory: &str) {
+        let directory = path(directory.as_bytes()).expect("a path");
+        self.twin.patch(self.bench, |state| state.working_directories[account] = directory);
     }
 
     /// The whole listing.
