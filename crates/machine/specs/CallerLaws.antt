@@ -42,7 +42,7 @@ module _ (u : Setup) (v : Uid) (c : Caller) (h : caller u v ≡ done c) where
       (b .0, present-some (person u v) UnknownCaller (b .1), cc)
 
   -- a caller has the number that calls
-  caller-uid : c .account .uid ≡ v
+  pub caller-uid : c .account .uid ≡ v
   unfolding person-caller
   caller-uid = case (is-root v)
       (λ r. rw (root-calls r, root-caller-is, root-is v r))

@@ -16,7 +16,6 @@ pub enum Given {
 }
 
 /// A command with its arguments; an entry path is never short.
-
 #[derive(Clone, PartialEq, Eq, Debug)]
 pub enum Command {
     Create(Given, u16),

@@ -15,9 +15,9 @@ enum-told c = c .match .keys1
 enum-known-caller : tie.Need-enum-known-caller
 enum-known-caller c = c .match .keys2
 
-run-command-requires : tie.Need-run-command-requires
+run-line-requires : tie.Need-run-line-requires
 unfolding known
-run-command-requires c κs =
+run-line-requires c κs =
     let s = c .before .before .before .before .before .before .before .before .before .before in
     let h = s .pre .0 in
     let e = ap known (sym (c .before .before .before .caller .given .1)) ∙ c .before .before .before .before .before .caller-in .ensures (h .0) (h .1) in
@@ -34,10 +34,10 @@ returns c s k h m =
     unknown-carries h (a .uid) k (now (a .answer)) e
 
 same-length-2 : tie.Need-same-length-2
-same-length-2 c = c .before .before .before .before .run-command .kept .0
+same-length-2 c = c .before .before .before .before .run-line .kept .0
 
 same-length-3 : tie.Need-same-length-3
-same-length-3 c = c .before .before .before .before .run-command .kept .1 .1 .1 .1 .0
+same-length-3 c = c .before .before .before .before .run-line .kept .1 .1 .1 .1 .0
 
 returns-2 : tie.Need-returns-2
 unfolding known
@@ -45,7 +45,7 @@ returns-2 c s k h m =
     let a = c .before .before .before .before .before .before .before .before .before .before .before .before .before .before .before .args in
     let there = c .before .before .before .before .before .before .before .before in
     let e = ap known (sym (there .caller .given .1)) ∙ there .before .before .caller-in .ensures s h in
-    known-carries h (a .uid) _ k e (c .before .before .before .before .run-command .ensures s k h m)
+    known-carries h (a .uid) _ k e (c .before .before .before .before .run-line .ensures s k h m)
 
 pub by-caller-spec : {M : Type 1} → statement M
 by-caller-spec =
@@ -54,7 +54,7 @@ by-caller-spec =
     caller-in-requires
     enum-told
     enum-known-caller
-    run-command-requires
+    run-line-requires
     same-length
     returns
     same-length-2

@@ -1,0 +1,2 @@
+pub mod LineDone
+pub mod LineDoneLaws
