@@ -14,7 +14,7 @@ use Rattle.accounts.specs.Access.{is-root}
 use Rattle.accounts.specs.Caller.{root-caller}
 use Rattle.accounts.specs.Compute.{compute as compute-accounts}
 use Rattle.syntax.specs.Pieces.{bytes, newline, pieces}
-use Rattle.syntax.specs.Path.{Path, path}
+use Rattle.syntax.specs.Path.{Path, root, path}
 use Rattle.syntax.specs.Compute.{compute as compute-syntax}
 use Rattle.commands.specs.Command.{Command, shell, account, entry, line}
 use Rattle.commands.specs.Compute.{compute as compute-commands}
@@ -26,6 +26,7 @@ use Rattle.tree.specs.Result.{Result, refused, _>>=_, present, Outcome}
 use Rattle.tree.specs.Forest.{nil, node, Place, place-at, leaf}
 use Rattle.tree.specs.Node.{Node}
 use Rattle.tree.specs.Compute.{compute as compute-tree}
+use Rattle.shell.specs.WholePaths.{whole-command}
 use Rattle.shell.specs.Steps.{run-shell}
 use Rattle.shell.specs.declared.Answer.the-variants.{Refused, WrongLine}
 use Rattle.shell.specs.Replies.{Reply, ok, refusal, reply, after, Told, told, answer-of}
@@ -100,7 +101,8 @@ command-run elsewhere t u (entry c) = refused NoForm
 line-run : ℕ → Place Node → Text → Result (Outcome (Place Node))
 line-run elsewhere t l = do
   x ← present (line l) NoForm
-  command-run elsewhere t (x .caller) (x .command)
+  k ← whole-command root (x .command)
+  command-run elsewhere t (x .caller) k
 
 -- the replies to the lines of cases, and the tree after them
 record Ran : Type 0 where

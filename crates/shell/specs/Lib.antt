@@ -1,3 +1,5 @@
+pub mod WholePaths
+pub mod WholePathsLaws
 pub mod Steps
 pub mod Replies
 pub mod ReplyLaws
@@ -12,4 +14,5 @@ pub mod ShutLaws
 pub mod Privacy
 pub mod ShellPrivacyLaws
 pub mod Compute
+pub mod WholePathsCases
 pub mod Cases
