@@ -7,15 +7,17 @@ use Rattle.accounts.specs.declared.Caller.{Caller}
 use Rattle.accounts.specs.declared.Right.{Right}
 use Rattle.accounts.specs.Dominance.{Bounded-role}
 use Rattle.syntax.specs.Path.{Path, Entry-path}
-use Rattle.commands.specs.Command.{Account-command, login, logout, Entry-command, add, co, commit, up, del, Command, shell, account, entry, line}
+use Rattle.commands.specs.Command.{Account-command, login, logout, cd, Entry-command, add, co, commit, up, del, Command, shell, account, entry, line}
 use Rattle.setup.specs.Setup.{Setup}
 use Rattle.tree.specs.declared.Cause.the-variants.{NoForm, ShortAnswer}
 use Rattle.tree.specs.Result.{_>>=_, _>>_, require, present}
 use Rattle.shell.specs.Steps.{fit}
 use Rattle.shell.specs.Replies.{after}
+use Rattle.shell.specs.WholePaths.{whole-command}
+use Rattle.store.specs.State.{working-directory}
 use Rattle.store.specs.Callers.{caller}
-use Rattle.machine.specs.Machine.{run-login, run-logout, session, run-add, run-co, working-file, original, run-commit, run-up, run-del, run-account, run-entry, run}
-use Rattle.machine.specs.AbstractMachine.{Abstract, dominated, by-dominance, abstract-login, abstract-logout, abstract-session, abstract-add, abstract-co, abstract-working, abstract-original, abstract-commit, abstract-up, abstract-del, abstract-account, abstract-entry, abstract-run, abstract-step, abstract-runs}
+use Rattle.machine.specs.Machine.{run-login, run-logout, run-cd, session, run-add, run-co, working-file, original, run-commit, run-up, run-del, run-account, run-entry, run}
+use Rattle.machine.specs.AbstractMachine.{Abstract, dominated, by-dominance, abstract-login, abstract-logout, abstract-cd, abstract-session, abstract-add, abstract-co, abstract-working, abstract-original, abstract-commit, abstract-up, abstract-del, abstract-account, abstract-entry, abstract-run, abstract-step, abstract-runs}
 use Rattle.machine.specs.AbstractInstance.{abstract}
 use Rattle.machine.specs.Runs.{Call, least-room, perform, step, runs}
 
@@ -27,6 +29,10 @@ module _ (u : Setup) (h : Abstract) (c : Caller) where
   logout-is : run-logout abstract u h c ≡ abstract-logout u h c
   unfolding run-logout abstract-logout
   logout-is = refl
+
+  cd-is : (p : Path) → run-cd abstract u h c p ≡ abstract-cd u h c p
+  unfolding run-cd abstract-cd
+  cd-is p = refl
 
   session-is : session abstract u h c ≡ abstract-session u h c
   unfolding session abstract-session
@@ -64,6 +70,7 @@ module _ (u : Setup) (h : Abstract) (c : Caller) where
   unfolding run-account abstract-account
   account-is (login z password) = login-is z password
   account-is logout = logout-is
+  account-is (cd p) = cd-is p
 
   entry-is : (command : Entry-command) → run-entry abstract u h c command ≡ abstract-entry u h c command
   unfolding run-entry abstract-entry
@@ -85,7 +92,8 @@ step-is u h call = λ i. do
   require (leb least-room (call .room)) ShortAnswer
   l ← present (line (call .line)) NoForm
   c ← caller u (l .caller)
-  run-is u h c (l .command) i
+  command ← whole-command (working-directory (l .caller) (h .registry)) (l .command)
+  run-is u h c command i
 
 pub runs-are : (u : Setup) (h : Abstract) (calls : List Call) → runs abstract u h calls ≡ abstract-runs u h calls
 unfolding runs abstract-runs

@@ -13,10 +13,10 @@ use lib.ListN.{getD}
 use Rattle.buffers.specs.Text.{Text}
 use Rattle.accounts.specs.declared.Caller.{Caller}
 use Rattle.accounts.specs.declared.Right.{Right}
-use Rattle.accounts.specs.declared.Right.the-variants.{R, W}
+use Rattle.accounts.specs.declared.Right.the-variants.{R, W, X}
 use Rattle.accounts.specs.Dominance.{same-role, Bounded-role, dominates}
 use Rattle.syntax.specs.Path.{Path, Entry-path, parent, last, depth, most-names, below-rep}
-use Rattle.commands.specs.Command.{Account-command, login, logout, Entry-command, add, co, commit, up, del, Command, shell, account, entry, line}
+use Rattle.commands.specs.Command.{Account-command, login, logout, cd, Entry-command, add, co, commit, up, del, Command, shell, account, entry, line}
 use Rattle.setup.specs.Setup.{Setup}
 use Rattle.tree.specs.declared.Kind.{Kind}
 use Rattle.tree.specs.declared.Kind.the-variants.{Directory}
@@ -28,8 +28,9 @@ use Rattle.tree.specs.Walk.{Judge, by-modes, unused, walk, parent-walk, room}
 use Rattle.tree.specs.WellFormed.{most-nodes, last-revision, nodes}
 use Rattle.copying.specs.Copying.{Source, copy}
 use Rattle.shell.specs.Steps.{run-shell}
+use Rattle.shell.specs.WholePaths.{whole-command}
 use Rattle.shell.specs.Replies.{reply, after}
-use Rattle.store.specs.State.{Registry, set-session}
+use Rattle.store.specs.State.{Registry, set-session, working-directory, set-directory}
 use Rattle.store.specs.Initial.{initial-tree, initial-registry}
 use Rattle.store.specs.Callers.{caller, granted}
 use Rattle.machine.specs.Working.{Working, tagged}
@@ -138,6 +139,14 @@ module _ (setup : Setup) (h : Abstract) (c : Caller) where
   unfoldable pub abstract-logout : Result (Outcome Abstract)
   abstract-logout = ok (session-becomes none)
 
+  -- document 02: walk in the people's tree; not a directory 7; x 5; the path is kept
+  unfoldable pub abstract-cd : Path → Result (Outcome Abstract)
+  abstract-cd p = do
+    found ← person-walks p
+    require (is-directory (found .here .kind)) WrongKind
+    require (allows (c .account) X (found .here)) Access
+    ok (with-registry (set-directory (c .account .uid) p (h .registry)) h)
+
   -- the others first need a session
   unfoldable pub abstract-session : Result Bounded-role
   abstract-session = present (getD (h .registry .sessions) (c .account .uid .0) none) NoSession
@@ -221,6 +230,7 @@ module _ (setup : Setup) (h : Abstract) (c : Caller) where
   unfoldable pub abstract-account : Account-command → Result (Outcome Abstract)
   abstract-account (login z password) = abstract-login z password
   abstract-account logout = abstract-logout
+  abstract-account (cd p) = abstract-cd p
 
   unfoldable pub abstract-entry : Entry-command → Result (Outcome Abstract)
   abstract-entry (add w e r) = abstract-add w e r
@@ -237,13 +247,14 @@ module _ (setup : Setup) (h : Abstract) (c : Caller) where
   abstract-run (account command) = abstract-account command
   abstract-run (entry command) = abstract-entry command
 
--- a library call: 20, 1 and 2 come first
+-- a library call: 20, 1 and 2 come first, then 19 where a path behind the caller's working directory is too deep
 unfoldable pub abstract-step : Setup → Abstract → Call → Result (Outcome Abstract)
 abstract-step setup h call = do
   require (leb least-room (call .room)) ShortAnswer
   l ← present (line (call .line)) NoForm
   c ← caller setup (l .caller)
-  abstract-run setup h c (l .command)
+  command ← whole-command (working-directory (l .caller) (h .registry)) (l .command)
+  abstract-run setup h c command
 
 -- a list of them, each on what the one before left
 unfoldable pub abstract-runs : Setup → Abstract → List Call → Ran Abstract

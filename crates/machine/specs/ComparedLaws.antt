@@ -28,7 +28,8 @@ use Rattle.tree.specs.RootedLaws.{rooted-here, rooted-below}
 use Rattle.tree.specs.PlaceLaws.{leaf-here, leaf-below, update-root}
 use Rattle.tree.specs.GraftLaws.{graft-own, get-graft, update-inside}
 use Rattle.shell.specs.Replies.{reply, after}
-use Rattle.store.specs.State.{Store}
+use Rattle.shell.specs.WholePaths.{whole-command}
+use Rattle.store.specs.State.{working-directory, Store}
 use Rattle.store.specs.Initial.{rep-node, home-node, home-name, with-home, homes, initial-tree, initial-store}
 use Rattle.store.specs.Callers.{caller}
 use Rattle.machine.specs.StoreMachine.{store}
@@ -92,13 +93,14 @@ not-of-root o l e r = rw e at r
 module _ (u : Setup) (e : is-setup u ≡ true) where
   -- a call that is not root's does the same in both
   step-agrees : (call : Call) → root's call ≡ false → {s : Store} {h : Abstract} → Tie s h → Agree Tied (step store u s call) (step abstract u h call)
-  unfolding step perform root's
+  unfolding step perform root's embed
   step-agrees call r {h} t =
       rw (t .same) (
       check ShortAnswer refl λ _.
       each (present (line (call .line)) NoForm) λ l i.
       each (caller u (l .caller)) λ c j.
-      run-agrees u e (l .caller) c (not-of-root (line (call .line)) l (present-some (line (call .line)) NoForm i) r) j h (t .kept) (l .command))
+      each (whole-command (working-directory (l .caller) (h .registry)) (l .command)) λ command _.
+      run-agrees u e (l .caller) c (not-of-root (line (call .line)) l (present-some (line (call .line)) NoForm i) r) j h (t .kept) command)
 
   -- ---- a list of calls
 

@@ -18,7 +18,7 @@ use Rattle.accounts.specs.Service.{service-role}
 use Rattle.syntax.specs.Path.{Path, Entry-path, same-path, in-rep, entry-location, below-rep}
 use Rattle.syntax.specs.WithinLaws.{same-path-sound}
 use Rattle.syntax.specs.FormLaws.{answered}
-use Rattle.commands.specs.Command.{login, logout, add, co, commit, up, del, Command, shell, account, entry}
+use Rattle.commands.specs.Command.{login, logout, cd, add, co, commit, up, del, Command, shell, account, entry}
 use Rattle.setup.specs.Setup.{Setup}
 use Rattle.tree.specs.declared.Kind.{Kind}
 use Rattle.tree.specs.declared.Kind.the-variants.{File, Directory}
@@ -40,7 +40,7 @@ use Rattle.store.specs.State.{Store}
 use Rattle.store.specs.Initial.{directory-of, rep-node}
 use Rattle.store.specs.Callers.{caller}
 use Rattle.machine.specs.Working.{Working, tagged}
-use Rattle.machine.specs.Machine.{run-login, run-logout, session, run-add, run-co, working-file, original, run-commit, run-up, run-del, run-account, run-entry, run}
+use Rattle.machine.specs.Machine.{run-login, run-logout, run-cd, session, run-add, run-co, working-file, original, run-commit, run-up, run-del, run-account, run-entry, run}
 use Rattle.machine.specs.StoreMachine.{entry-mode, entry-node, next-node, store}
 use Rattle.machine.specs.AbstractMachine.{Entry, Abstract, Filed, top, an-entry, filed-kind, filed-readable, by-dominance, filed-revision, next-entry}
 use Rattle.machine.specs.AbstractInstance.{abstract}
@@ -210,10 +210,11 @@ module _ (u : Setup) (h : Abstract) (c : Caller) (e : Entry-path) (x : Entry) (s
 
   -- any command leaves the entry, or changes it by right
   run-guarded : (command : Command) → Ensures (Guarded command) (run abstract u h c command)
-  unfolding run run-account run-entry run-login run-logout entry-of Guarded
+  unfolding run run-account run-entry run-login run-logout run-cd entry-of Guarded
   run-guarded (shell command) = then-do (run-shell c _ (h .workspace) command) λ o _. gives (inl same)
   run-guarded (account (login z password)) = then-check NoGrant tt _ λ _. gives (inl same)
   run-guarded (account logout) = gives (inl same)
+  run-guarded (account (cd p)) = then-do _ λ d _. then-check WrongKind tt _ λ _. then-check Access tt _ λ _. gives (inl same)
   run-guarded (entry (add w e′ role′)) = add-guarded w e′ role′
   run-guarded (entry (co e′ d)) = co-guarded e′ d
   run-guarded (entry (commit w)) = commit-guarded w

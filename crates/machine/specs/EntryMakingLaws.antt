@@ -11,9 +11,9 @@ use Rattle.accounts.specs.Access.{is-root}
 use Rattle.accounts.specs.Dominance.{Bounded-role}
 use Rattle.syntax.specs.Path.{Path, _▹_, Entry-path, parent, same-path, in-rep, entry-location, below-rep}
 use Rattle.syntax.specs.WithinLaws.{same-path-sound}
-use Rattle.commands.specs.Command.{login, logout, add, co, commit, up, del, Command, shell, account, entry}
+use Rattle.commands.specs.Command.{login, logout, cd, add, co, commit, up, del, Command, shell, account, entry}
 use Rattle.setup.specs.Setup.{Setup}
-use Rattle.tree.specs.declared.Cause.the-variants.{Access, NotEmpty, Reserved, Full, NoGrant, Stale, RevisionsSpent, TooDeep}
+use Rattle.tree.specs.declared.Cause.the-variants.{Access, WrongKind, NotEmpty, Reserved, Full, NoGrant, Stale, RevisionsSpent, TooDeep}
 use Rattle.tree.specs.Result.{done, Outcome}
 use Rattle.tree.specs.Outcomes.{gives, Ensures}
 use Rattle.tree.specs.GivesLaws.{any-outcome, done-with, then-check, then-guard, then-do}
@@ -30,7 +30,7 @@ use Rattle.shell.specs.Steps.{run-shell}
 use Rattle.store.specs.State.{Store}
 use Rattle.store.specs.Callers.{caller}
 use Rattle.machine.specs.Working.{tagged}
-use Rattle.machine.specs.Machine.{run-login, run-logout, session, run-add, run-co, working-file, original, run-commit, run-up, run-del, run-account, run-entry, run}
+use Rattle.machine.specs.Machine.{run-login, run-logout, run-cd, session, run-add, run-co, working-file, original, run-commit, run-up, run-del, run-account, run-entry, run}
 use Rattle.machine.specs.StoreMachine.{store}
 use Rattle.machine.specs.AbstractMachine.{Abstract, Filed, an-entry, dominated, by-dominance, new-entry}
 use Rattle.machine.specs.AbstractInstance.{abstract}
@@ -144,10 +144,11 @@ module _ (u : Setup) (h : Abstract) (c : Caller) (e : Entry-path) (missing : ent
 
   -- any command leaves no entry there, or makes it by right
   run-unmade : (command : Command) → Ensures (Unmade command) (run abstract u h c command)
-  unfolding run run-account run-entry run-login run-logout entry-of Unmade
+  unfolding run run-account run-entry run-login run-logout run-cd entry-of Unmade
   run-unmade (shell command) = then-do (run-shell c _ (h .workspace) command) λ o _. gives (inl missing)
   run-unmade (account (login z password)) = then-check NoGrant tt _ λ _. gives (inl missing)
   run-unmade (account logout) = gives (inl missing)
+  run-unmade (account (cd p)) = then-do _ λ d _. then-check WrongKind tt _ λ _. then-check Access tt _ λ _. gives (inl missing)
   run-unmade (entry (add w e′ r)) = add-unmade w e′ r
   run-unmade (entry (co e′ d)) = co-unmade e′ d
   run-unmade (entry (commit w)) = commit-unmade w

@@ -12,10 +12,10 @@ use lib.ListN.{getD}
 use Rattle.buffers.specs.Text.{Text}
 use Rattle.accounts.specs.declared.Caller.{Caller}
 use Rattle.accounts.specs.declared.Right.{Right}
-use Rattle.accounts.specs.declared.Right.the-variants.{R, W}
+use Rattle.accounts.specs.declared.Right.the-variants.{R, W, X}
 use Rattle.accounts.specs.Dominance.{Bounded-role, dominates}
 use Rattle.syntax.specs.Path.{Path, Entry-path, parent, last, depth, most-names, below-rep}
-use Rattle.commands.specs.Command.{Account-command, login, logout, Entry-command, add, co, commit, up, del, Command, shell, account, entry}
+use Rattle.commands.specs.Command.{Account-command, login, logout, cd, Entry-command, add, co, commit, up, del, Command, shell, account, entry}
 use Rattle.setup.specs.Setup.{Setup}
 use Rattle.tree.specs.declared.Kind.{Kind}
 use Rattle.tree.specs.declared.Cause.the-variants.{Access, WrongKind, NotEmpty, Reserved, Full, NoSession, NoGrant, Stale, Untagged, RevisionsSpent, TooDeep}
@@ -26,7 +26,7 @@ use Rattle.tree.specs.Walk.{Judge, by-modes, unused, walk, parent-walk, room}
 use Rattle.tree.specs.WellFormed.{last-revision}
 use Rattle.copying.specs.Copying.{Source, copy}
 use Rattle.shell.specs.Steps.{fit, run-shell}
-use Rattle.store.specs.State.{Registry, set-session}
+use Rattle.store.specs.State.{Registry, set-session, set-directory}
 use Rattle.store.specs.Callers.{granted}
 use Rattle.machine.specs.Working.{Working, tagged}
 
@@ -83,6 +83,14 @@ module _ {S A : Type 0} (M : Machine S A) (setup : Setup) (s : S) (c : Caller) w
 
   unfoldable pub run-logout : Result (Outcome S)
   run-logout = ok (session-becomes none)
+
+  -- document 02: walk; not a directory 7; x 5; the path is kept
+  unfoldable pub run-cd : Path → Result (Outcome S)
+  run-cd p = do
+    found ← walks p
+    require (is-directory (found .here .kind)) WrongKind
+    require (allows (c .account) X (found .here)) Access
+    ok (M .with-registry (set-directory (c .account .uid) p (M .registry s)) s)
 
   -- the session's role
   unfoldable pub session : Result Bounded-role
@@ -164,6 +172,7 @@ module _ {S A : Type 0} (M : Machine S A) (setup : Setup) (s : S) (c : Caller) w
   unfoldable pub run-account : Account-command → Result (Outcome S)
   run-account (login z password) = run-login z password
   run-account logout = run-logout
+  run-account (cd p) = run-cd p
 
   unfoldable pub run-entry : Entry-command → Result (Outcome S)
   run-entry (add w e r) = run-add w e r

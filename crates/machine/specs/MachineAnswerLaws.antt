@@ -16,7 +16,7 @@ use Rattle.accounts.specs.declared.Right.the-variants.{R, W}
 use Rattle.accounts.specs.Access.{is-root}
 use Rattle.accounts.specs.Dominance.{Bounded-role}
 use Rattle.syntax.specs.Path.{Path, Entry-path, below-rep}
-use Rattle.commands.specs.Command.{line, Account-command, login, logout, Entry-command, add, co, commit, up, del, Command, shell, account, entry}
+use Rattle.commands.specs.Command.{line, Account-command, login, logout, cd, Entry-command, add, co, commit, up, del, Command, shell, account, entry}
 use Rattle.setup.specs.Setup.{Setup, person}
 use Rattle.tree.specs.declared.Cause.{Cause}
 use Rattle.tree.specs.declared.Cause.the-variants.{NoForm, UnknownCaller, Access, WrongKind, NotEmpty, Reserved, Full, NoSession, NoGrant, Stale, Untagged, RevisionsSpent, Unsound, TooDeep, ShortAnswer}
@@ -32,9 +32,10 @@ use Rattle.tree.specs.WellFormed.{is-tree}
 use Rattle.shell.specs.Steps.{text-of}
 use Rattle.shell.specs.Answers.{Own, Text-fits}
 use Rattle.shell.specs.ShellAnswerLaws.{none-fits, room-refuses, run-shell-answers, place-text-fits}
-use Rattle.store.specs.State.{Store}
+use Rattle.shell.specs.WholePathsLaws.{whole-refuses}
+use Rattle.store.specs.State.{working-directory, Store}
 use Rattle.store.specs.Callers.{known-caller, caller}
-use Rattle.machine.specs.Machine.{Machine, run-login, run-logout, session, run-add, run-co, working-file, original, run-commit, run-up, run-del, run-account, run-entry, run}
+use Rattle.machine.specs.Machine.{Machine, run-login, run-logout, run-cd, session, run-add, run-co, working-file, original, run-commit, run-up, run-del, run-account, run-entry, run}
 use Rattle.machine.specs.StoreMachine.{store}
 use Rattle.machine.specs.Runs.{Call, least-room, perform, step}
 use Rattle.machine.specs.RunsLaws.{least-room-is}
@@ -83,6 +84,14 @@ module _ {S A : Type 0} (M : Machine S A) (setup : Setup) (s : S) where
     Answers r = Gives Own (λ o. T (o .text)) r
 
     module _ (c : Caller) where
+      cd-answers : (p : Path) → Answers (run-cd M setup s c p)
+      unfolding run-cd
+      cd-answers p =
+          then-step (walks c p) λ d _.
+          then-check WrongKind refl _ λ _.
+          then-check Access refl _ λ _.
+          gives empty
+
       login-answers : (z : Bounded-role) (password : Text) → Answers (run-login M setup s c z password)
       unfolding run-login
       login-answers z password = then-check NoGrant refl _ λ _. gives empty
@@ -151,6 +160,7 @@ module _ {S A : Type 0} (M : Machine S A) (setup : Setup) (s : S) where
       unfolding run-account
       account-answers (login z password) = login-answers z password
       account-answers logout = logout-answers
+      account-answers (cd p) = cd-answers p
 
       entry-answers : (command : Entry-command) → Answers (run-entry M setup s c command)
       unfolding run-entry
@@ -173,7 +183,8 @@ module _ {S A : Type 0} (M : Machine S A) (setup : Setup) (s : S) where
     perform-gives text =
         then-step (present-refuses NoForm refl (line text)) λ l _.
         then-step (caller-refuses setup (l .caller)) λ c _.
-        run-gives c (l .command)
+        then-step (whole-refuses Own refl (working-directory (l .caller) (M .registry s)) (l .command)) λ command _.
+        run-gives c command
 
   -- where the answer buffer is long enough, a step is refused by a command's own cause
   step-own : (call : Call) (why : Cause) → leb least-room (call .room) ≡ true → step M setup s call ≡ refused why → Own why

@@ -19,7 +19,8 @@ use Rattle.accounts.specs.Dominance.{Bounded-role}
 use Rattle.accounts.specs.Service.{service}
 use Rattle.syntax.specs.Path.{Path, _▹_, Entry-path, parent, depth, in-rep, entry-location, is-path, is-entry-path, most-names, below-rep}
 use Rattle.syntax.specs.PathLaws.{entry-parts}
-use Rattle.commands.specs.Command.{line, Account-command, login, logout, Entry-command, add, co, commit, up, del, Command, shell, account, entry, is-entry-command, is-command, is-line}
+use Rattle.commands.specs.Command.{line, Account-command, login, logout, cd, Entry-command, add, co, commit, up, del, Command, shell, account, entry}
+use Rattle.commands.specs.Command.{is-command-form, is-shell-command, is-account-form, is-account-command, is-entry-form, is-entry-command, is-command, is-typed-command, is-line}
 use Rattle.commands.specs.CommandLaws.{line-is-line}
 use Rattle.setup.specs.Setup.{Setup, is-setup}
 use Rattle.setup.specs.SetupLaws.{accepted-is-setup}
@@ -44,16 +45,17 @@ use Rattle.copying.specs.Copying.{copy}
 use Rattle.copying.specs.CopyLaws.{copy-is-place}
 use Rattle.shell.specs.ShellKeepingLaws.{fit-most, room-keeps, run-shell-keeps}
 use Rattle.shell.specs.Replies.{after}
+use Rattle.shell.specs.WholePathsLaws.{whole-in-range}
 use Rattle.store.specs.State.{Registry, set-session, is-registry, Store, state-of, well-formed}
 use Rattle.store.specs.StateLaws.{parts, formed}
-use Rattle.store.specs.RegistryLaws.{set-session-keeps}
+use Rattle.store.specs.RegistryLaws.{working-directory-is-path, set-session-keeps, set-directory-keeps}
 use Rattle.store.specs.Initial.{initial-store}
 use Rattle.store.specs.InitialLaws.{initial-well-formed}
 use Rattle.store.specs.StoreBytes.{encode, decode}
 use Rattle.store.specs.StoreBytesLaws.{decode-encode}
 use Rattle.store.specs.Callers.{caller}
 use Rattle.machine.specs.Working.{Working}
-use Rattle.machine.specs.Machine.{source, run-login, run-logout, run-add, run-co, working-file, original, run-commit, run-up, run-del, run-account, run-entry, run}
+use Rattle.machine.specs.Machine.{source, run-login, run-logout, run-cd, run-add, run-co, working-file, original, run-commit, run-up, run-del, run-account, run-entry, run}
 use Rattle.machine.specs.StoreMachine.{entry-node, next-node, store}
 use Rattle.machine.specs.Runs.{Call, perform, step, runs}
 use Rattle.machine.specs.Observed.{Reached}
@@ -92,6 +94,14 @@ module _ (u : Setup) (g : is-setup u ≡ true) (s : Store) (w : well-formed (sta
   logout-keeps : Keeps (run-logout store u s c)
   unfolding run-logout
   logout-keeps = session-set none
+
+  cd-keeps : (p : Path) → is-path p ≡ true → Keeps (run-cd store u s c p)
+  unfolding run-cd
+  cd-keeps p k =
+      then-do _ λ d _.
+      then-check WrongKind tt _ λ _.
+      then-check Access tt _ λ _.
+      registry-set _ (set-directory-keeps (s .registry) (c .account .uid) p registered k)
 
   -- the node where a walk leads is in range
   node-at : (j : Judge Node) (p : Path) (d : Place Node) → walk j (s .tree) p ≡ done d → is-node (d .here) ≡ true
@@ -220,13 +230,14 @@ module _ (u : Setup) (g : is-setup u ≡ true) (s : Store) (w : well-formed (sta
       (node-of-revision (suc v) x (node-of-content content (a .here) n (i .1) (rw (h .2) (r .content))) (rw last-revision-is (le-leb (suc v) 9999 l)))
       (kind-of-set-revision (suc v) x ∙ kind-of-set-content content (a .here))) p e (suc v) (r .tag (k .tag) (h .4) .0) l)
 
-  account-keeps : (command : Account-command) → Keeps (run-account store u s c command)
-  unfolding run-account
-  account-keeps (login z password) = login-keeps z password
-  account-keeps logout = logout-keeps
+  account-keeps : (command : Account-command) → is-account-command command ≡ true → Keeps (run-account store u s c command)
+  unfolding run-account is-account-command is-account-form
+  account-keeps (login z password) k = login-keeps z password
+  account-keeps logout k = logout-keeps
+  account-keeps (cd p) k = cd-keeps p k
 
   entry-keeps : (command : Entry-command) → is-entry-command command ≡ true → Keeps (run-entry store u s c command)
-  unfolding run-entry is-entry-command
+  unfolding run-entry is-entry-command is-entry-form
   entry-keeps (add p e role) k = add-keeps p e role (and-both (is-path p) (is-entry-path e) k .1)
   entry-keeps (co e p) k = let i = and-both (is-entry-path e) (is-path p) k in co-keeps e p (i .0) (i .1)
   entry-keeps (commit p) k = commit-keeps p
@@ -235,9 +246,9 @@ module _ (u : Setup) (g : is-setup u ≡ true) (s : Store) (w : well-formed (sta
 
   -- a command of a caller in range keeps the store well-formed
   run-keeps : (command : Command) → is-command command ≡ true → Ensures (λ o. well-formed (state-of u (o .state)) ≡ true) (run store u s c command)
-  unfolding run is-command
+  unfolding run is-command is-command-form is-shell-command is-account-command is-entry-command
   run-keeps (shell command) k = then-step (run-shell-keeps c 0 (s .tree) o tree command k) λ x h. changed (x .text) (x .state) h
-  run-keeps (account command) k = account-keeps command
+  run-keeps (account command) k = account-keeps command k
   run-keeps (entry command) k = entry-keeps command k
 
 -- ---- calls
@@ -261,8 +272,10 @@ unfolding perform is-line
 perform-keeps u g s w t =
     then-do _ λ l e.
     then-do _ λ c f.
-    let i = and-both (ltb (l .caller .0) 24) (is-command (l .command)) (line-is-line t l (present-some (line t) NoForm e)) in
-    run-keeps u g s w c (caller-fits u g (l .caller) c f) (l .command) (i .1)
+    then-do _ λ command h.
+    let i = and-both (ltb (l .caller .0) 24) (is-typed-command (l .command)) (line-is-line t l (present-some (line t) NoForm e)) in
+    let q = working-directory-is-path (s .registry) (l .caller) (parts (state-of u s) w .registry) in
+    run-keeps u g s w c (caller-fits u g (l .caller) c f) command (whole-in-range _ (l .command) h q (i .1))
 
 -- so does a call
 pub step-keeps : (u : Setup) → is-setup u ≡ true → (s : Store) → well-formed (state-of u s) ≡ true → (call : Call)

@@ -13,7 +13,7 @@ use Rattle.accounts.specs.Dominance.{Bounded-role}
 use Rattle.accounts.specs.Service.{service, service-not-root, service-own, service-foreign}
 use Rattle.syntax.specs.Path.{Path, _▹_, Entry-path, parent, last, within, lies-below, in-rep, entry-location, below-rep}
 use Rattle.syntax.specs.WithinLaws.{outside-differs}
-use Rattle.commands.specs.Command.{Shell-command, Account-command, login, logout, Entry-command, add, co, commit, up, del, Command, shell, account, entry, some-path, some-working-path, some-walked-path}
+use Rattle.commands.specs.Command.{Shell-command, Account-command, login, logout, cd, Entry-command, add, co, commit, up, del, Command, shell, account, entry, some-path, some-account-path, some-working-path, some-walked-path}
 use Rattle.setup.specs.Setup.{Setup}
 use Rattle.tree.specs.declared.Cause.{Cause}
 use Rattle.tree.specs.declared.Cause.the-variants.{Access, WrongKind, NotEmpty, Reserved, Full, NoGrant, Stale, Untagged, RevisionsSpent, TooDeep}
@@ -31,7 +31,7 @@ use Rattle.shell.specs.ShutLaws.{never-walked, never-room, never-run}
 use Rattle.shell.specs.Privacy.{Private, Unaltered, in-place, walks-first}
 use Rattle.shell.specs.ShellPrivacyLaws.{private-shut, private-foreign, private-outside, put-private, drop-private, room-private, run-shell-through, run-shell-private}
 use Rattle.store.specs.State.{Store}
-use Rattle.machine.specs.Machine.{run-login, run-logout, session, run-add, run-co, working-file, original, run-commit, run-up, run-del, run-account, run-entry, run}
+use Rattle.machine.specs.Machine.{run-login, run-logout, run-cd, session, run-add, run-co, working-file, original, run-commit, run-up, run-del, run-account, run-entry, run}
 use Rattle.machine.specs.StoreMachine.{store}
 
 module _ (u : Setup) (s : Store) (c : Caller) (p : Path) (d : Place Node) (there : place-at (s .tree) p ≡ some d) (v : Private (c .account) d) where
@@ -51,11 +51,17 @@ module _ (u : Setup) (s : Store) (c : Caller) (p : Path) (d : Place Node) (there
   never-entry (up w) b = then-do (session store u s c) λ _ _. then-step (never-working W w b) λ _ z. absurd z
   never-entry (del e) b = contra b refl
 
+  never-account : (command : Account-command) → some-account-path (lies-below p) command ≡ true → Ensures (λ _. ⊥) (run-account store u s c command)
+  unfolding some-account-path run-account run-cd
+  never-account (login z password) b = contra b refl
+  never-account logout b = contra b refl
+  never-account (cd q) b = never-walked c (s .tree) p d there (private-shut v X) _ q b
+
   -- a command with a path below it is refused
   pub run-refused : (command : Command) → some-walked-path (lies-below p) command ≡ true → (why : Cause) × (run store u s c command ≡ refused why)
   unfolding some-walked-path run
   run-refused (shell command) b = never-done (then-step (never-run c (s .tree) p d there (private-shut v X) 0 command b) λ _ z. absurd z)
-  run-refused (account command) b = contra b refl
+  run-refused (account command) b = never-done (never-account command b)
   run-refused (entry command) b = never-done (never-entry command b)
 
   -- a shell command that walks first, for want of x
@@ -160,9 +166,10 @@ module _ (u : Setup) (s : Store) (c : Caller) (p : Path) (d : Place Node) (there
         gives (drop-private (s .tree) p d there (service-private z) q (e .name) x f w i (rw (writable-by-modes a (f .here)) at b) n (outside-differs p (q ▹ e .name) o))
 
     account-private : (command : Account-command) → Ensures (λ o. place-at (o .state .tree) p ≡ some d) (run-account store u s c command)
-    unfolding run-account run-login run-logout
+    unfolding run-account run-login run-logout run-cd
     account-private (login z password) = then-check NoGrant tt _ λ _. gives there
     account-private logout = gives there
+    account-private (cd q) = then-do _ λ _ _. then-check WrongKind tt _ λ _. then-check Access tt _ λ _. gives there
 
     entry-private : (command : Entry-command) → Ensures (λ o. place-at (o .state .tree) p ≡ some d) (run-entry store u s c command)
     unfolding run-entry

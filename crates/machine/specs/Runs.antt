@@ -11,6 +11,8 @@ use Rattle.setup.specs.Setup.{Setup}
 use Rattle.tree.specs.declared.Cause.the-variants.{NoForm, ShortAnswer}
 use Rattle.tree.specs.Result.{Result, _>>=_, _>>_, require, present, Outcome}
 use Rattle.shell.specs.Replies.{Reply, reply, after}
+use Rattle.shell.specs.WholePaths.{whole-command}
+use Rattle.store.specs.State.{working-directory}
 use Rattle.store.specs.Callers.{caller}
 use Rattle.machine.specs.Machine.{Machine, run}
 
@@ -29,12 +31,13 @@ pub record Ran (S : Type 0) : Type 0 where
   pub state : S
 
 module _ {S A : Type 0} (M : Machine S A) (u : Setup) where
-  -- before the command's checks: no listed form 1, an unknown caller 2
+  -- before the command's checks: no listed form 1, an unknown caller 2, a path behind the caller's working directory too deep 19
   unfoldable pub perform : S → Text → Result (Outcome S)
   perform s t = do
     l ← present (line t) NoForm
     c ← caller u (l .caller)
-    run M u s c (l .command)
+    command ← whole-command (working-directory (l .caller) (M .registry s)) (l .command)
+    run M u s c command
 
   -- and before these: answer buffer too short 20
   unfoldable pub step : S → Call → Result (Outcome S)

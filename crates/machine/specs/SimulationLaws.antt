@@ -9,12 +9,12 @@ use Rattle.buffers.specs.Text.{Text}
 use Rattle.accounts.specs.declared.Caller.{Caller}
 use Rattle.accounts.specs.declared.Uid.{Uid}
 use Rattle.accounts.specs.declared.Right.{Right}
-use Rattle.accounts.specs.declared.Right.the-variants.{R, W}
+use Rattle.accounts.specs.declared.Right.the-variants.{R, W, X}
 use Rattle.accounts.specs.Access.{is-root}
 use Rattle.accounts.specs.Dominance.{Bounded-role}
 use Rattle.accounts.specs.Service.{service}
 use Rattle.syntax.specs.Path.{Path, _▹_, Entry-path, parent, in-rep, entry-location, below-rep}
-use Rattle.commands.specs.Command.{Shell-command, Account-command, login, logout, Entry-command, add, co, commit, up, del, Command, shell, account, entry}
+use Rattle.commands.specs.Command.{Shell-command, Account-command, login, logout, cd, Entry-command, add, co, commit, up, del, Command, shell, account, entry}
 use Rattle.setup.specs.Setup.{Setup, is-setup}
 use Rattle.tree.specs.declared.Kind.{Kind}
 use Rattle.tree.specs.declared.Cause.the-variants.{Access, WrongKind, NotEmpty, Reserved, Full, NoGrant, Stale, Untagged, RevisionsSpent, TooDeep}
@@ -40,7 +40,7 @@ use Rattle.shell.specs.HidingLaws.{Kept-out, Beside, Alike, update-beside, walk
 use Rattle.store.specs.State.{Registry, Store}
 use Rattle.store.specs.Initial.{directory-of, top-node, rep-node}
 use Rattle.store.specs.Callers.{caller}
-use Rattle.machine.specs.Machine.{source, run-login, run-logout, session, run-add, run-co, working-file, original, run-commit, run-up, run-del, run-account, run-entry, run}
+use Rattle.machine.specs.Machine.{source, run-login, run-logout, run-cd, session, run-add, run-co, working-file, original, run-commit, run-up, run-del, run-account, run-entry, run}
 use Rattle.machine.specs.StoreMachine.{entry-node, next-node, on-tree, store}
 use Rattle.machine.specs.AbstractMachine.{Entry, Abstract, Filed, top, an-entry, new-entry, next-entry, on-entries}
 use Rattle.machine.specs.AbstractInstance.{abstract}
@@ -261,6 +261,14 @@ module _ (u : Setup) (c : Caller) (out : Kept-out c top-node (leaf rep-node .her
   unfolding run-logout embed
   logout-agrees = both (changed (registry-tie (start h k) _))
 
+  cd-agrees : (p : Path) → Agree Tied (run-cd store u (embed h) c p) (run-cd abstract u h c p)
+  unfolding run-cd embed
+  cd-agrees p =
+      bind (person-walk p) λ d e s.
+      check WrongKind (test (λ n. is-directory (n .kind)) s) λ _.
+      check Access (test (allows (c .account) X) s) λ _.
+      both (changed (registry-tie (start h k) _))
+
   add-agrees : (w : Path) (e : Entry-path) (role : Bounded-role) → Agree Tied (run-add store u (embed h) c w e role) (run-add abstract u h c w e role)
   unfolding run-add session embed
   add-agrees w e role =
@@ -332,6 +340,7 @@ module _ (u : Setup) (c : Caller) (out : Kept-out c top-node (leaf rep-node .her
   unfolding run-account
   account-agrees (login z password) = login-agrees z password
   account-agrees logout = logout-agrees
+  account-agrees (cd p) = cd-agrees p
 
   entry-agrees : (command : Entry-command) → Agree Tied (run-entry store u (embed h) c command) (run-entry abstract u h c command)
   unfolding run-entry

@@ -14,8 +14,8 @@ use Rattle.commands.specs.Command.{is-shell-form, is-account-form, is-entry-for
 use Rattle.tree.specs.declared.Cause.{Cause}
 use Rattle.tree.specs.declared.Cause.the-variants.{TooDeep}
 use Rattle.tree.specs.Result.{Result, refused, done}
-use Rattle.tree.specs.Outcomes.{Gives, gives}
-use Rattle.tree.specs.GivesLaws.{refused-by, done-with, weaker, then-step, then-check}
+use Rattle.tree.specs.Outcomes.{Gives, gives, Refuses}
+use Rattle.tree.specs.GivesLaws.{refused-by, done-with, only-refuses, weaker, then-step, then-check}
 use Rattle.shell.specs.WholePaths.{shell-paths, account-paths, entry-paths, command-paths, meant-path, whole-command}
 
 -- a conjunction whose parts each lead to another's leads to that
@@ -58,18 +58,20 @@ module _ {P Q : Type 0} (f : P → Result Q) (R : Cause → Type 0) (ok : P → 
   command-gives (entry c) = then-step (entry-gives c) λ d h. gives h
 
 -- the path that is meant is refused only as too deep, and is a path where the directory and the typed path are
-meant-gives : (q : Path) (p : Typed-path) → Gives (λ why. why ≡ TooDeep) (λ r. is-typed-path p ≡ true → is-path q ≡ true → is-path r ≡ true) (meant-path q p)
+meant-gives : (R : Cause → Type 0) → R TooDeep → (q : Path) (p : Typed-path) → Gives R (λ r. is-typed-path p ≡ true → is-path q ≡ true → is-path r ≡ true) (meant-path q p)
 unfolding meant-path is-typed-path
-meant-gives q (whole p) = gives λ i v. i
-meant-gives q (short p) = then-check TooDeep refl (leb (depth q + depth p) most-names) λ few. gives λ i v. follows-is-path q p v i few
+meant-gives R deep q (whole p) = gives λ i v. i
+meant-gives R deep q (short p) = then-check TooDeep deep (leb (depth q + depth p) most-names) λ few. gives λ i v. follows-is-path q p v i few
 
 -- and so is a whole command
-pub whole-only-too-deep : (q : Path) (k : Typed-command) {why : Cause} → whole-command q k ≡ refused why → why ≡ TooDeep
+pub whole-refuses : (R : Cause → Type 0) → R TooDeep → (q : Path) (k : Typed-command) → Refuses R (whole-command q k)
 unfolding whole-command
-whole-only-too-deep q k e =
-    refused-by (command-gives (meant-path q) (λ why. why ≡ TooDeep) (λ p. false) (λ r. true) (λ p. weaker (λ r h i. refl) (meant-gives q p)) k) e
+whole-refuses R deep q k = only-refuses (command-gives (meant-path q) R (λ p. false) (λ r. true) (λ p. weaker (λ r h i. refl) (meant-gives R deep q p)) k)
+
+pub whole-only-too-deep : (q : Path) (k : Typed-command) {why : Cause} → whole-command q k ≡ refused why → why ≡ TooDeep
+whole-only-too-deep q k e = refused-by (whole-refuses (λ why. why ≡ TooDeep) refl q k) e
 
 pub whole-in-range : (q : Path) (k : Typed-command) {l : Command} → whole-command q k ≡ done l → is-path q ≡ true → is-typed-command k ≡ true → is-command l ≡ true
 unfolding whole-command is-command is-typed-command
 whole-in-range q k e v h =
-    done-with (command-gives (meant-path q) (λ why. why ≡ TooDeep) is-typed-path is-path (λ p. weaker (λ r g i. g i v) (meant-gives q p)) k) e h
+    done-with (command-gives (meant-path q) (λ why. Unit {0}) is-typed-path is-path (λ p. weaker (λ r g i. g i v) (meant-gives (λ why. Unit {0}) tt q p)) k) e h
