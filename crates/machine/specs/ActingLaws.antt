@@ -1,15 +1,16 @@
--- The commands on entries leave the registry of the store as they were.
+-- The commands on entries leave the registry of the store as it was.
 use mathlib.Core.Path.{_≡_, refl}
 use Rattle.accounts.specs.declared.Caller.{Caller}
 use Rattle.accounts.specs.Dominance.{Bounded-role}
 use Rattle.syntax.specs.Path.{Path, Entry-path}
+use Rattle.commands.specs.Command.{Entry-command, add, co, commit, up, del}
 use Rattle.setup.specs.Setup.{Setup}
-use Rattle.tree.specs.declared.Cause.the-variants.{Access, NotEmpty, Reserved, Full, Stale, RevisionsSpent}
+use Rattle.tree.specs.declared.Cause.the-variants.{Access, NotEmpty, Reserved, Full, Stale, RevisionsSpent, TooDeep}
 use Rattle.tree.specs.Result.{Result, done, Outcome}
 use Rattle.tree.specs.Outcomes.{gives, Ensures}
 use Rattle.tree.specs.GivesLaws.{any-outcome, done-with, then-check, then-guard, then-do}
 use Rattle.store.specs.State.{Store}
-use Rattle.machine.specs.Machine.{run-add, run-commit, run-up, run-del}
+use Rattle.machine.specs.Machine.{run-add, run-co, run-commit, run-up, run-del, run-entry}
 use Rattle.machine.specs.StoreMachine.{store}
 
 module _ (u : Setup) (s : Store) (c : Caller) where
@@ -27,6 +28,17 @@ module _ (u : Setup) (s : Store) (c : Caller) where
       then-do _ λ f _.
       then-guard (any-outcome _) λ _.
       then-check Access tt _ λ _.
+      then-check Full tt _ λ _.
+      gives refl
+
+  co-registry : (e : Entry-path) (d : Path) → Keeps-registry (run-co store u s c e d)
+  unfolding run-co
+  co-registry e d =
+      then-do _ λ z _.
+      then-do _ λ f _.
+      then-do _ λ a _.
+      then-check Access tt _ λ _.
+      then-check TooDeep tt _ λ _.
       then-check Full tt _ λ _.
       gives refl
 
@@ -60,6 +72,14 @@ module _ (u : Setup) (s : Store) (c : Caller) where
       then-check Access tt _ λ _.
       then-check NotEmpty tt _ λ _.
       gives refl
+
+  pub entry-registry : (command : Entry-command) → Keeps-registry (run-entry store u s c command)
+  unfolding run-entry
+  entry-registry (add w e r) = add-registry w e r
+  entry-registry (co e d) = co-registry e d
+  entry-registry (commit w) = commit-registry w
+  entry-registry (up w) = up-registry w
+  entry-registry (del e) = del-registry e
 
   module _ {o : Outcome Store} where
     pub add-keeps-registry : (w : Path) (e : Entry-path) (r : Bounded-role) → run-add store u s c w e r ≡ done o → o .state .registry ≡ s .registry

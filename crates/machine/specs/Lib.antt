@@ -25,9 +25,11 @@ pub mod EntryChangesLaws
 pub mod EntryMakingLaws
 pub mod ReadingLaws
 pub mod MachinePrivacyLaws
+pub mod Acting
+pub mod ActingLaws
+pub mod WorkingDirectory
+pub mod WorkingDirectoryLaws
 pub mod Theorems
 pub mod Compute
 pub mod Cases
 pub mod RepositoryCases
-pub mod Acting
-pub mod ActingLaws

@@ -15,8 +15,8 @@ use Rattle.accounts.specs.declared.Caller.{Caller}
 use Rattle.accounts.specs.declared.Uid.{Uid}
 use Rattle.accounts.specs.Access.{is-root}
 use Rattle.accounts.specs.Dominance.{Bounded-role}
-use Rattle.syntax.specs.Path.{Path, Entry-path, lies-below}
-use Rattle.commands.specs.Command.{Shell-command, Command, shell, some-path, some-walked-path, Line, line}
+use Rattle.syntax.specs.Path.{Path, root, _▹_, Entry-path, rep, within, lies-below}
+use Rattle.commands.specs.Command.{Shell-command, cd, Command, shell, account, some-path, some-walked-path, Line, line}
 use Rattle.setup.specs.Setup.{Setup, accepted, setup, is-setup}
 use Rattle.setup.specs.SetupLaws.{accepted-is-setup}
 use Rattle.tree.specs.declared.Kind.{Kind}
@@ -51,6 +51,8 @@ use Rattle.machine.specs.Simulation.{Kept}
 use Rattle.machine.specs.ComparedLaws
 use Rattle.machine.specs.EntryAccess.{names-entry, May-read, Reads-all, More-pairs}
 use Rattle.machine.specs.KeptOutLaws
+use Rattle.machine.specs.WorkingDirectory.{Moved-by-cd}
+use Rattle.machine.specs.WorkingDirectoryLaws
 use Rattle.machine.specs.EntryChanges.{node-of, Filed-as, Rightful, Change, Making}
 use Rattle.machine.specs.EntryChangesLaws
 use Rattle.machine.specs.EntryMakingLaws
@@ -58,7 +60,8 @@ use Rattle.machine.specs.ReadingLaws
 use Rattle.machine.specs.MachinePrivacyLaws
 
 -- Demand 3. For every setup text that is taken and every list of calls, of any bytes and with any answer buffers, none of them
--- root's, the store and the abstract machine give the same replies, and afterwards hold the same people's tree, sessions, working directories and entries.
+-- root's, the store and the abstract machine give the same replies, and afterwards hold the same people's tree, sessions, working
+-- directories and entries.
 pub demand-3 : (text : Text) (u : Setup) → setup text ≡ accepted u → (calls : List Call) → without-root calls ≡ true →
     Compared (runs store u (initial-store u) calls) (abstract-runs u (initial-abstract u) calls)
 demand-3 = ComparedLaws.compared-lists
@@ -110,6 +113,17 @@ initial-is-reached text u e = record { reached = record { text = text; taken = e
 pub shell-reaches-no-entry : (u : Setup) (s : Store) → Reached-without-root u s → (v : Uid) (c : Caller) → is-root v ≡ false → caller u v ≡ done c →
     (command : Shell-command) → names-entry command ≡ true → (why : Cause) × (run store u s c (shell command) ≡ refused why)
 shell-reaches-no-entry = KeptOutLaws.shell-refused
+
+-- A person's `cd` to `/rep` or below is refused.
+pub cd-reaches-no-entry : (u : Setup) (s : Store) → Reached-without-root u s → (v : Uid) (c : Caller) → is-root v ≡ false → caller u v ≡ done c →
+    (p : Path) → within (root ▹ rep) p ≡ true → (why : Cause) × (run store u s c (account (cd p)) ≡ refused why)
+cd-reaches-no-entry = KeptOutLaws.cd-refused
+
+-- A done command, of anyone on any store, leaves every account's working directory, or it is a `cd`, the account is the caller's, and
+-- the registry is the one before with the path of the `cd` for that account.
+pub only-cd-moves : (u : Setup) (s : Store) (c : Caller) (command : Command) (o : Outcome Store) → run store u s c command ≡ done o →
+    Moved-by-cd c command (s .registry) (o .state .registry)
+only-cd-moves = WorkingDirectoryLaws.only-cd-moves
 
 -- A person's done command leaves an entry as it is, or the session's role dominates the entry's and writes in its directory, and the
 -- command is a `commit` of a file tagged with its path and revision, which gives it the file's content and the next revision, or the
