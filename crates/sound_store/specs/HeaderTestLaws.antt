@@ -1,4 +1,4 @@
--- A header's bytes pass part by part just if they are those of a setup in range and of sessions.
+-- A header's bytes pass part by part just if they are those of a setup in range, of sessions and of working directories.
 --
 -- In order: the bytes of one value; tests in another order; the parts, and the whole header.
 use mathlib.Core.Path.{_≡_, refl, sym, _∙_, ap, ap₂}
@@ -26,10 +26,11 @@ use Rattle.syntax.specs.Form.{is-some}
 use Rattle.syntax.specs.Field.{bounded, bounded-by}
 use Rattle.setup.specs.Setup.{Setup, accounts, most-pairs, most-grants, person, is-person, is-slot, is-pair, is-grant, is-setup}
 use Rattle.soundness.specs.RowTestLaws.{length-text-at, same-filled, same-zeros-at}
-use Rattle.store.specs.StoreBytes.{slot-bytes, slot-of, session-byte, session-of, grant-bytes, grant-of, header-bytes, setup-of, sessions-of, is-header}
-use Rattle.store.specs.HeaderLayout.{pair-start, grant-start, grants-offset, spare-offset, spare-width, sessions-offset, pairs-offset, Wide-header, pair-width, grant-width, slot-width}
-use Rattle.sound_store.specs.HeaderTests.{passes-from, slot-start, is-slot-at, has-slots, is-session-at, has-sessions, is-pair-at, has-pairs, named-at, is-password-at, is-grant-at, has-grants, header-test}
+use Rattle.store.specs.StoreBytes.{slot-bytes, slot-of, session-byte, session-of, grant-bytes, grant-of, directory-bytes, directory-from, front-bytes, header-bytes, setup-of, sessions-of, directories-of, registry-of, is-header}
+use Rattle.store.specs.HeaderLayout.{pair-start, grant-start, directory-start, grants-offset, directories-offset, spare-offset, spare-width, sessions-offset, pairs-offset, Wide-header, pair-width, grant-width, directory-width, slot-width}
+use Rattle.sound_store.specs.HeaderTests.{passes-from, slot-start, is-slot-at, has-slots, is-session-at, has-sessions, is-pair-at, has-pairs, named-at, is-password-at, is-grant-at, has-grants, is-directory-at, has-directories, header-test}
 use Rattle.sound_store.specs.PassesLaws.{passes-both, passes-same, stretch, opened, all-pass, all-same, table-values, table-same}
+use Rattle.sound_store.specs.DirectoryTestLaws.{directory-long, directory-read}
 
 -- ---- the bytes of one value
 
@@ -180,6 +181,10 @@ module _ (b : List ℕ) (wide : Wide-header b) (small : (k : ℕ) → getD b k 0
       (grant-read (setup-of b) (getD b i 0) (getD b (i + 1) 0) y (text-at (i + 2) 8 b) t
       ∙ rw (named-is (getD b i 0), same-filled (i + 2) 8 b (omega arith)))
 
+  directory-is : (k : ℕ) → k < 16 → let s = stretch directory-width directories-offset b k in same-text (directory-bytes (directory-from s)) s ≡ is-directory-at b k
+  unfolding is-directory-at
+  directory-is k h = directory-read b (directory-start k) (omega arith)
+
   -- ---- the parts, tested and written as they are read
 
   abbrev slots-same : Bool
@@ -193,6 +198,9 @@ module _ (b : List ℕ) (wide : Wide-header b) (small : (k : ℕ) → getD b k 0
 
   abbrev grants-same : Bool
   grants-same = passes-from (λ k. same-text (grant-bytes (grant-of (stretch grant-width (grants-offset + 1) b k))) (stretch grant-width (grants-offset + 1) b k)) 0 (getD b grants-offset 0)
+
+  abbrev directories-same : Bool
+  directories-same = passes-from (λ k. same-text (directory-bytes (directory-from (stretch directory-width directories-offset b k))) (stretch directory-width directories-offset b k)) 0 16
 
   abbrev u : Setup
   u = setup-of b
@@ -236,6 +244,11 @@ module _ (b : List ℕ) (wide : Wide-header b) (small : (k : ℕ) → getD b k 0
       ∙ passes-both P T 0 n
       ∙ passes-same (λ k. P k && T k) (is-grant-at b) 0 n (λ k h. grant-is k (omega arith))
 
+  directories-are : directories-same ≡ has-directories b
+  unfolding has-directories
+  directories-are =
+      passes-same (λ k. same-text (directory-bytes (directory-from (stretch directory-width directories-offset b k))) (stretch directory-width directories-offset b k)) (is-directory-at b) 0 16 (λ k h. directory-is k (omega arith))
+
   -- how many of each are read
   pair-number : length (u .pairs) ≡ getD b pairs-offset 0
   unfolding setup-of
@@ -254,33 +267,36 @@ module _ (b : List ℕ) (wide : Wide-header b) (small : (k : ℕ) → getD b k 0
       rw (eq-eqb (length (u .persons)) 16 sixteen, account-0-is, pair-number, grant-number)
 
   -- the bytes of what is read, with a name for the zeros at their end
-  header-with : (R : List ℕ) → R ≡ replicate spare-width 0 → header-bytes u (sessions-of b)
-      ≡ all-bytes slot-bytes (all-from slot-width slot-of 16 b) ++ (all-bytes (λ z. session-byte z ∷ []) (all-from 1 (λ s. session-of (getD s 0 0)) 16 (drop sessions-offset b))
-      ++ (table-bytes 2 28 pair-bytes (table-from 2 pair-of (drop pairs-offset b)) ++ (table-bytes 10 32 grant-bytes (table-from 10 grant-of (drop grants-offset b)) ++ R)))
-  unfolding header-bytes setup-of sessions-of accounts most-pairs most-grants
-  header-with R e =
-      ap (λ (l : List ℕ). all-bytes slot-bytes (all-from slot-width slot-of 16 b) ++ (all-bytes (λ z. session-byte z ∷ []) (all-from 1 (λ s. session-of (getD s 0 0)) 16 (drop sessions-offset b))
-      ++ (table-bytes 2 28 pair-bytes (table-from 2 pair-of (drop pairs-offset b)) ++ (table-bytes 10 32 grant-bytes (table-from 10 grant-of (drop grants-offset b)) ++ l)))) (sym e)
+  abbrev header-before : List ℕ → List ℕ
+  header-before R = all-bytes slot-bytes (all-from slot-width slot-of 16 b) ++ (all-bytes (λ z. session-byte z ∷ []) (all-from 1 (λ s. session-of (getD s 0 0)) 16 (drop sessions-offset b))
+      ++ (table-bytes 2 28 pair-bytes (table-from 2 pair-of (drop pairs-offset b)) ++ (table-bytes 10 32 grant-bytes (table-from 10 grant-of (drop grants-offset b))
+      ++ (all-bytes directory-bytes (all-from directory-width directory-from 16 (drop directories-offset b)) ++ R))))
+
+  header-with : (R : List ℕ) → R ≡ replicate spare-width 0 → header-bytes u (registry-of b) ≡ header-before R
+  unfolding header-bytes front-bytes setup-of registry-of sessions-of directories-of accounts most-pairs most-grants
+  header-with R e = ap header-before (sym e)
 
   pairs-zero : Bool
   pairs-zero = zeros-at (pair-start (getD b pairs-offset 0)) (grants-offset - pair-start (getD b pairs-offset 0)) b
 
   grants-zero : Bool
-  grants-zero = zeros-at (grant-start (getD b grants-offset 0)) (spare-offset - grant-start (getD b grants-offset 0)) b
+  grants-zero = zeros-at (grant-start (getD b grants-offset 0)) (directories-offset - grant-start (getD b grants-offset 0)) b
 
   -- they are the header's just if each part's are, with zeros behind the pairs and the grants
   same-header : (R : List ℕ) → R ≡ replicate spare-width 0 → getD b pairs-offset 0 ≤ 28 → getD b grants-offset 0 ≤ 32 →
-      same-text (header-bytes u (sessions-of b)) b
-      ≡ (slots-same && (sessions-same && (pairs-same && (pairs-zero && (grants-same && (grants-zero && zeros-at spare-offset spare-width b))))))
+      same-text (header-bytes u (registry-of b)) b
+      ≡ (slots-same && (sessions-same && (pairs-same && (pairs-zero && (grants-same && (grants-zero && (directories-same && zeros-at spare-offset spare-width b)))))))
   unfolding pairs-zero grants-zero
   same-header R e few-pairs few-grants =
       let n = getD b pairs-offset 0 in
       let m = getD b grants-offset 0 in
-      let G = table-bytes 10 32 grant-bytes (table-from 10 grant-of (drop grants-offset b)) ++ R in
+      let D = all-bytes directory-bytes (all-from directory-width directory-from 16 (drop directories-offset b)) ++ R in
+      let G = table-bytes 10 32 grant-bytes (table-from 10 grant-of (drop grants-offset b)) ++ D in
       let P = table-bytes 2 28 pair-bytes (table-from 2 pair-of (drop pairs-offset b)) ++ G in
       let Z = all-bytes (λ z. session-byte z ∷ []) (all-from 1 (λ s. session-of (getD s 0 0)) 16 (drop sessions-offset b)) ++ P in
       let last = ap (λ (l : List ℕ). same-text l (drop spare-offset b)) e ∙ zeros-last spare-width spare-offset b (omega arith) in
-      let grants = table-same 10 32 grants-offset b grant-of (omega arith) grant-bytes grant-long R (spare-offset - grant-start m) spare-offset (omega arith) (omega arith) (omega arith) in
+      let directories = all-same directory-width directories-offset b directory-from directory-bytes directory-long R 16 spare-offset refl (omega arith) in
+      let grants = table-same 10 32 grants-offset b grant-of (omega arith) grant-bytes grant-long D (directories-offset - grant-start m) directories-offset (omega arith) (omega arith) (omega arith) in
       let pairs = table-same 2 28 pairs-offset b pair-of (omega arith) pair-bytes pair-long G (grants-offset - pair-start n) grants-offset (omega arith) (omega arith) (omega arith) in
       let sessions = all-same 1 sessions-offset b (λ s. session-of (getD s 0 0)) (λ z. session-byte z ∷ []) session-long P 16 pairs-offset refl (omega arith) in
       let slots = all-same slot-width 0 b slot-of slot-bytes slot-long Z 16 sessions-offset refl (omega arith) in
@@ -289,7 +305,8 @@ module _ (b : List ℕ) (wide : Wide-header b) (small : (k : ℕ) → getD b k 0
       ∙ ap (λ (t : Bool). slots-same && t) (sessions
       ∙ ap (λ (t : Bool). sessions-same && t) (pairs
       ∙ ap (λ (t : Bool). pairs-same && (pairs-zero && t)) (grants
-      ∙ ap (λ (t : Bool). grants-same && (grants-zero && t)) last)))
+      ∙ ap (λ (t : Bool). grants-same && (grants-zero && t)) (directories
+      ∙ ap (λ (t : Bool). directories-same && t) last))))
 
   -- the parts together are the header
   pub header-test-is : header-test b ≡ is-header b
@@ -297,13 +314,13 @@ module _ (b : List ℕ) (wide : Wide-header b) (small : (k : ℕ) → getD b k 0
   header-test-is =
       let n = getD b pairs-offset 0 in
       let m = getD b grants-offset 0 in
-      let same = same-text (header-bytes u (sessions-of b)) b in
+      let same = same-text (header-bytes u (registry-of b)) b in
       let setup = ap (λ (t : Bool). t && same) setup-is in
       case (leb n 28)
       (λ p. case (leb m 32)
       (λ g. sym (setup
       ∙ ap (λ (t : Bool). ((eqb (getD b 0 0) 0 && every is-slot (u .persons)) && ((leb n 28 && every is-pair (u .pairs)) && (leb m 32 && every (is-grant u) (u .grants)))) && t) (same-header (replicate spare-width 0) refl (leb-true n 28 p) (leb-true m 32 g))
-      ∙ parts-shuffled (eqb (getD b 0 0) 0) (every is-slot (u .persons)) slots-same sessions-same (leb n 28) (every is-pair (u .pairs)) pairs-same pairs-zero (leb m 32) (every (is-grant u) (u .grants)) grants-same grants-zero (zeros-at spare-offset spare-width b)
-      ∙ rw (slots-are, sessions-are, pairs-are (leb-true n 28 p), grants-are (leb-true m 32 g))))
+      ∙ parts-shuffled (eqb (getD b 0 0) 0) (every is-slot (u .persons)) slots-same sessions-same (leb n 28) (every is-pair (u .pairs)) pairs-same pairs-zero (leb m 32) (every (is-grant u) (u .grants)) grants-same grants-zero (directories-same && zeros-at spare-offset spare-width b)
+      ∙ rw (slots-are, sessions-are, pairs-are (leb-true n 28 p), grants-are (leb-true m 32 g), directories-are)))
       (λ g. simp (g, and-false) (sym (setup ∙ simp (g, and-false)))))
       (λ p. simp (p, and-false) (sym (setup ∙ simp (p, and-false))))

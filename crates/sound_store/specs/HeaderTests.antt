@@ -5,15 +5,16 @@ use Prim.Native.Nat.{ℕ, zero, suc, _+_, _-_, _*_, _%_}
 use lib.Dec.{eqb, leb, ltb}
 use lib.ListN.{getD}
 use Rattle.buffers.specs.Fields.{text-at, zeros-at, is-filled}
-use Rattle.syntax.specs.Path.{is-name}
-use Rattle.store.specs.HeaderLayout.{slot-width, sessions-offset, pairs-offset, grants-offset, password-offset, password-width, spare-offset, spare-width, pair-start, grant-start}
+use Rattle.syntax.specs.Form.{is-some}
+use Rattle.syntax.specs.Path.{is-name, path}
+use Rattle.store.specs.HeaderLayout.{slot-width, sessions-offset, pairs-offset, grants-offset, password-offset, password-width, directories-offset, directory-width, spare-offset, spare-width, pair-start, grant-start, directory-start}
 
 -- whether so many indices from one on pass a test
 unfoldable pub passes-from : (ℕ → Bool) → ℕ → ℕ → Bool
 passes-from test i zero = true
 passes-from test i (suc m) = test i && passes-from test (suc i) m
 
--- where the slot, the pair and the grant of an index stand
+-- where the slot of an index stands
 abbrev pub slot-start : ℕ → ℕ
 slot-start k = slot-width * k
 
@@ -58,8 +59,17 @@ is-grant-at b k = named-at b (getD b (grant-start k) 0) && (ltb (getD b (grant-s
 unfoldable pub has-grants : List ℕ → Bool
 has-grants b =
     let n = getD b grants-offset 0 in
-    leb n 32 && (passes-from (is-grant-at b) 0 n && zeros-at (grant-start n) (spare-offset - grant-start n) b)
+    leb n 32 && (passes-from (is-grant-at b) 0 n && zeros-at (grant-start n) (directories-offset - grant-start n) b)
+
+-- a working directory is a path's text, filled up with zeros
+unfoldable pub is-directory-at : List ℕ → ℕ → Bool
+is-directory-at b k =
+    let at = directory-start k in
+    is-some (path (text-at at directory-width b)) && is-filled at directory-width b
+
+unfoldable pub has-directories : List ℕ → Bool
+has-directories b = passes-from (is-directory-at b) 0 16
 
 -- all parts of a header, and the zeros at its end
 unfoldable pub header-test : List ℕ → Bool
-header-test b = (has-slots b && has-sessions b) && (has-pairs b && (has-grants b && zeros-at spare-offset spare-width b))
+header-test b = (has-slots b && has-sessions b) && (has-pairs b && (has-grants b && (has-directories b && zeros-at spare-offset spare-width b)))

@@ -1,21 +1,32 @@
 -- What the code goes by where it tests a header and a store: each test by what it has seen.
 use mathlib.Core.Path.{_≡_, _∙_}
 use mathlib.Core.List.{List}
-use mathlib.Core.Bool.{true, false, not, and-false}
+use mathlib.Core.Bool.{Bool, true, false, _&&_, not, and-false}
 use Prim.Native.Nat.{ℕ, _+_, _-_, _%_, _≤_, _<_}
 use native.Mathlib.Omega.{arith}
 use lib.Dec.{eqb, ltb}
 use lib.ListN.{length, getD, take, drop}
 use borrow.Author.Tests.{eq-eqb, ne-eqb, lt-ltb, le-ltb, le-leb, lt-leb}
+use Rattle.buffers.specs.Text.{Text}
 use Rattle.buffers.specs.Fields.{text-at, zeros-at, is-filled}
-use Rattle.syntax.specs.Path.{is-name}
 use Rattle.syntax.specs.Form.{is-some}
-use Rattle.soundness.specs.RowTestLaws.{length-text-at}
 use Rattle.tree.specs.Encoding.{decode-tree}
 use Rattle.store.specs.StoreBytes.{store-width, is-header, decode}
 use Rattle.store.specs.DecodeLaws.{decode-in-parts}
-use Rattle.store.specs.HeaderLayout.{pair-start, grant-start, grants-offset, header-width, spare-offset, spare-width, sessions-offset, pairs-offset, Wide-header}
-use Rattle.sound_store.specs.HeaderTests.{passes-from, slot-start, is-slot-at, has-slots, is-session-at, is-pair-at, has-pairs, named-at, is-password-at, is-grant-at, has-grants, has-sessions, header-test}
+use Rattle.store.specs.HeaderLayout.{pair-start, grant-start, grants-offset, directories-offset, header-width, spare-offset, spare-width, sessions-offset, pairs-offset}
+use Rattle.sound_store.specs.HeaderTests.{passes-from, slot-start, is-slot-at, has-slots, is-session-at, is-pair-at, has-pairs, named-at, is-password-at, is-grant-at, has-grants, has-directories, has-sessions, header-test}
+
+-- a field whose text passes no test, and one whose text passes and ends after n bytes
+module _ (test : Text → Bool) (i w : ℕ) (b : List ℕ) where
+  pub text-fails : test (text-at i w b) ≡ false → (test (text-at i w b) && is-filled i w b) ≡ false
+  text-fails e = rw e
+
+  pub by-filling : test (text-at i w b) ≡ true → (n : ℕ) → n ≡ length (text-at i w b) →
+      (test (text-at i w b) && is-filled i w b) ≡ zeros-at (i + n) (i + w - (i + n)) b
+  unfolding is-filled
+  by-filling e n l =
+      let q : w - n ≡ i + w - (i + n) = omega arith in
+      rw (e, ← l, q)
 
 module _ (b : List ℕ) (k : ℕ) where
   -- a slot that is no person's
@@ -64,22 +75,6 @@ module _ (b : List ℕ) (k : ℕ) where
   unfolding named-at
   slot-named e h = rw (ne-eqb k 0 e, le-leb k 15 h)
 
-  -- a password that is no name, and one that is
-  pub password-none : is-name (text-at (grant-start k + 2) 8 b) ≡ false → is-password-at b k ≡ false
-  unfolding is-password-at
-  password-none e = rw e
-
-  pub password-filled : is-name (text-at (grant-start k + 2) 8 b) ≡ true → (n : ℕ) → n ≡ length (text-at (grant-start k + 2) 8 b) →
-      is-password-at b k ≡ zeros-at (grant-start k + 2 + n) (grant-start k + 2 + 8 - (grant-start k + 2 + n)) b
-  unfolding is-password-at is-filled
-  password-filled e n l =
-      let q : 8 - n ≡ grant-start k + 2 + 8 - (grant-start k + 2 + n) = omega arith in
-      rw (e, ← l, q)
-
-  -- no password is longer than its field
-  pub password-within : Wide-header b → k < 32 → length (text-at (grant-start k + 2) 8 b) ≤ 8
-  password-within w h = length-text-at (grant-start k + 2) 8 b (omega arith)
-
   -- a grant of nobody, one of a role past 7, and another
   pub grant-unnamed : named-at b (getD b (grant-start k) 0) ≡ false → is-grant-at b k ≡ false
   unfolding is-grant-at
@@ -127,7 +122,7 @@ module _ (b : List ℕ) where
   grant-fails e = simp (e, and-false)
 
   pub by-grant-zeros : getD b grants-offset 0 ≤ 32 → passes-from (is-grant-at b) 0 (getD b grants-offset 0) ≡ true →
-      has-grants b ≡ zeros-at (grant-start (getD b grants-offset 0)) (spare-offset - grant-start (getD b grants-offset 0)) b
+      has-grants b ≡ zeros-at (grant-start (getD b grants-offset 0)) (directories-offset - grant-start (getD b grants-offset 0)) b
   unfolding has-grants
   by-grant-zeros h e = rw (le-leb (getD b grants-offset 0) 32 h, e)
 
@@ -148,9 +143,13 @@ module _ (b : List ℕ) where
   unfolding header-test
   grants-fail e = simp (e, and-false)
 
-  pub by-spare : has-slots b ≡ true → has-sessions b ≡ true → has-pairs b ≡ true → has-grants b ≡ true → header-test b ≡ zeros-at spare-offset spare-width b
+  pub directories-fail : has-directories b ≡ false → header-test b ≡ false
   unfolding header-test
-  by-spare s z p g = rw (s, z, p, g)
+  directories-fail e = simp (e, and-false)
+
+  pub by-spare : has-slots b ≡ true → has-sessions b ≡ true → has-pairs b ≡ true → has-grants b ≡ true → has-directories b ≡ true → header-test b ≡ zeros-at spare-offset spare-width b
+  unfolding header-test
+  by-spare s z p g d = rw (s, z, p, g, d)
 
   -- and those of a store
   pub another-length : (length b ≡ 65536 → ⊥) → is-some (decode b) ≡ false

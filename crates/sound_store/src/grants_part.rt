@@ -5,11 +5,11 @@ ghost use Rattle.store.specs.HeaderLayout.{Wide-header};
 ghost use Rattle.sound_store.specs.HeaderTests.{passes-from, is-grant-at, is-password-at, has-grants};
 use crate::accounts_part::is_named;
 use buffers::is_zero;
+use store::DIRECTORIES;
 use store::GRANT;
 use store::GRANTS;
 use store::PASSWORD;
 use store::PASSWORD_WIDTH;
-use store::SPARE;
 
 // Whether a grant's password is a name, filled up with zeros.
 fn is_password(header: &[u8], k: usize) -> bool
@@ -70,5 +70,5 @@ pub fn has_grants(header: &[u8]) -> bool
     if !are_grants(header, n) {
         return false;
     }
-    is_zero(header, GRANTS + 1 + GRANT * n, SPARE)
+    is_zero(header, GRANTS + 1 + GRANT * n, DIRECTORIES)
 }

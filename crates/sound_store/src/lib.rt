@@ -5,11 +5,13 @@ ghost use Rattle.store.specs.HeaderLayout.{Wide-header};
 ghost use Rattle.store.specs.StoreBytes.{is-header, decode};
 
 mod accounts_part;
+mod directories_part;
 mod grants_part;
 mod pairs_part;
 
 use accounts_part::has_sessions;
 use accounts_part::has_slots;
+use directories_part::has_directories;
 use grants_part::has_grants;
 use pairs_part::has_pairs;
 use soundness::holds_tree;
@@ -18,7 +20,7 @@ use store::HEADER;
 use store::SPARE;
 use store::STORE;
 
-// Whether a header's bytes are those of a setup in range and of sessions.
+// Whether a header's bytes are those of a setup in range, of sessions and working directories.
 pub fn holds_header(header: &[u8]) -> bool
     requires { ⌜ Wide-header (now header) ⌝ }
     ensures { λ r. ⌜ r ≡ is-header (now (header .entry)) ⌝ }
@@ -33,6 +35,9 @@ pub fn holds_header(header: &[u8]) -> bool
         return false;
     }
     if !has_grants(header) {
+        return false;
+    }
+    if !has_directories(header) {
         return false;
     }
     is_zero_in_blocks(header, SPARE, HEADER)

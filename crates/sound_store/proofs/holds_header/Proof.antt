@@ -8,7 +8,7 @@ use Rattle.buffers.specs.Cases.{answers-false, answers-true}
 use Rattle.store.specs.StoreBytes.{is-header}
 use Rattle.sound_store.specs.HeaderTests.{header-test}
 use Rattle.sound_store.specs.HeaderTestLaws.{header-test-is}
-use Rattle.sound_store.specs.StoreStepLaws.{slots-fail, sessions-fail, pairs-fail, grants-fail, by-spare}
+use Rattle.sound_store.specs.StoreStepLaws.{slots-fail, sessions-fail, pairs-fail, grants-fail, directories-fail, by-spare}
 use Rattle.sound_store.proofs.holds_header.Statement.{statement}
 use Rattle.sound_store.proofs.holds_header.Tie as tie
 
@@ -42,17 +42,24 @@ has-grants-requires c κs = omega arith
 returns-4 : tie.Need-returns-4
 returns-4 c = let k = c .before .before .before .before .before .before .before .before in sym (grants-fail (bytes-of k) (answers-false (c .before .has-grants .ensures) (c .if4 .taken))) ∙ whole k
 
+has-directories-requires : tie.Need-has-directories-requires
+has-directories-requires c κs = omega arith
+
+returns-5 : tie.Need-returns-5
+returns-5 c = let k = c .before .before .before .before .before .before .before .before .before .before in sym (directories-fail (bytes-of k) (answers-false (c .before .has-directories .ensures) (c .if5 .taken))) ∙ whole k
+
 is-zero-in-blocks-requires : tie.Need-is-zero-in-blocks-requires
 is-zero-in-blocks-requires c κs = (omega arith, omega arith)
 
-returns-5 : tie.Need-returns-5
-returns-5 c =
-    let k = c .before .before .before .before .before .before .before .before .before in
-    let slots = answers-true (c .before .before .before .before .before .before .before .before .has-slots .ensures) (c .before .before .before .before .before .before .before .if1 .left) in
-    let sessions = answers-true (c .before .before .before .before .before .before .has-sessions .ensures) (c .before .before .before .before .before .if2 .left) in
-    let pairs = answers-true (c .before .before .before .before .has-pairs .ensures) (c .before .before .before .if3 .left) in
-    let grants = answers-true (c .before .before .has-grants .ensures) (c .before .if4 .left) in
-    c .is-zero-in-blocks .ensures ∙ sym (by-spare (bytes-of k) slots sessions pairs grants) ∙ whole k
+returns-6 : tie.Need-returns-6
+returns-6 c =
+    let k = c .before .before .before .before .before .before .before .before .before .before .before in
+    let slots = answers-true (c .before .before .before .before .before .before .before .before .before .before .has-slots .ensures) (c .before .before .before .before .before .before .before .before .before .if1 .left) in
+    let sessions = answers-true (c .before .before .before .before .before .before .before .before .has-sessions .ensures) (c .before .before .before .before .before .before .before .if2 .left) in
+    let pairs = answers-true (c .before .before .before .before .before .before .has-pairs .ensures) (c .before .before .before .before .before .if3 .left) in
+    let grants = answers-true (c .before .before .before .before .has-grants .ensures) (c .before .before .before .if4 .left) in
+    let directories = answers-true (c .before .before .has-directories .ensures) (c .before .if5 .left) in
+    c .is-zero-in-blocks .ensures ∙ sym (by-spare (bytes-of k) slots sessions pairs grants directories) ∙ whole k
 
 pub holds-header-spec : {M : Type 1} → statement M
 holds-header-spec =
@@ -66,5 +73,7 @@ holds-header-spec =
     returns-3
     has-grants-requires
     returns-4
+    has-directories-requires
+    returns-5
     is-zero-in-blocks-requires
-    returns-5)
+    returns-6)

@@ -1,11 +1,15 @@
 -- `sound_store::grants_part::is_password` meets its contract: each return by the bytes that have been tested.
 use mathlib.Core.Path.{sym, _∙_, ap}
+use Prim.Native.Nat.{_+_}
 use lib.ListN.{length}
 use Rattle.buffers.specs.Cases.{answers-false, answers-true}
 use Rattle.syntax.specs.Path.{is-name}
 use native.Mathlib.Omega.{arith}
 use denote.Ref.{now}
-use Rattle.sound_store.specs.StoreStepLaws.{password-none, password-filled, password-within}
+use Rattle.buffers.specs.FieldsLaws.{field-text-fits}
+use Rattle.store.specs.HeaderLayout.{grant-start, password-offset, password-width}
+use Rattle.sound_store.specs.HeaderTests.{is-password-at}
+use Rattle.sound_store.specs.StoreStepLaws.{text-fails, by-filling}
 use borrow.Author.Needs.{needs}
 use Rattle.sound_store.proofs.grants_part.is_password.Statement.{statement}
 use Rattle.sound_store.proofs.grants_part.is_password.Tie as tie
@@ -29,7 +33,10 @@ is-name-requires : tie.Need-is-name-requires
 is-name-requires c κs = search needs
 
 returns : tie.Need-returns
-returns c = let a = c .before .before .before .before .args in sym (password-none (now (a .header)) (a .k) (ap is-name (sym (c .before .before .text .ensures)) ∙ answers-false (c .before .is-name .ensures) (c .if1 .taken)))
+unfolding is-password-at
+returns c =
+    let a = c .before .before .before .before .args in
+    sym (text-fails is-name (grant-start (a .k) + password-offset) password-width (now (a .header)) (ap is-name (sym (c .before .before .text .ensures)) ∙ answers-false (c .before .is-name .ensures) (c .if1 .taken)))
 
 add-is-zero : tie.Need-add-is-zero
 add-is-zero c = search needs
@@ -40,16 +47,17 @@ add-is-zero-2 c = search needs
 is-zero-requires : tie.Need-is-zero-requires
 is-zero-requires c κs =
     let a = c .before .before .before .before .args in
-    let f = password-within (now (a .header)) (a .k) (omega arith) (omega arith) in
+    let f = field-text-fits (now (a .header)) (grant-start (a .k) + password-offset) password-width in
     let e = ap length (c .before .before .text .ensures) in
     (omega arith, omega arith)
 
 returns-2 : tie.Need-returns-2
+unfolding is-password-at
 returns-2 c =
     let a = c .before .before .before .before .before .args in
     let t = c .before .before .before .text in
     let named = ap is-name (sym (t .ensures)) ∙ answers-true (c .before .before .is-name .ensures) (c .before .if1 .left) in
-    c .is-zero .ensures ∙ sym (password-filled (now (a .header)) (a .k) named (length (now (t .result))) (ap length (t .ensures)))
+    c .is-zero .ensures ∙ sym (by-filling is-name (grant-start (a .k) + password-offset) password-width (now (a .header)) named (length (now (t .result))) (ap length (t .ensures)))
 
 pub is-password-spec : {M : Type 1} → statement M
 is-password-spec =
