@@ -1,20 +1,26 @@
 -- What the code goes by where it tests a header and a store: each test by what it has seen.
-use mathlib.Core.Path.{_≡_, _∙_}
-use mathlib.Core.List.{List}
+use mathlib.Core.Path.{_≡_, sym, _∙_, ap}
+use mathlib.Core.List.{List, _∷_}
 use mathlib.Core.Bool.{Bool, true, false, _&&_, not, and-false}
-use Prim.Native.Nat.{ℕ, _+_, _-_, _%_, _≤_, _<_}
+use Prim.Native.Nat.{ℕ, suc, _+_, _-_, _%_, _≤_, _<_}
 use native.Mathlib.Omega.{arith}
+use native.Mathlib.Numerals.{add-one}
 use lib.Dec.{eqb, ltb}
 use lib.ListN.{length, getD, take, drop}
-use borrow.Author.Tests.{eq-eqb, ne-eqb, lt-ltb, le-ltb, le-leb, lt-leb}
+use lib.Seq.{drop-cons}
+use borrow.Author.Tests.{eqb-true, eqb-false, eq-eqb, ne-eqb, lt-ltb, le-ltb, le-leb, lt-leb}
+use Rattle.buffers.specs.Cases.{case}
 use Rattle.buffers.specs.Text.{Text}
-use Rattle.buffers.specs.Fields.{text-at, zeros-at, is-filled}
+use Rattle.buffers.specs.Fields.{unpadded, text-at, zeros-at, is-filled}
+use Rattle.buffers.specs.FieldsLaws.{text-stops}
 use Rattle.syntax.specs.Form.{is-some}
+use Rattle.syntax.specs.Path.{path}
+use Rattle.syntax.specs.PathPartsLaws.{path-empty, path-begins, path-top}
 use Rattle.tree.specs.Encoding.{decode-tree}
 use Rattle.store.specs.StoreBytes.{store-width, is-header, decode}
 use Rattle.store.specs.DecodeLaws.{decode-in-parts}
-use Rattle.store.specs.HeaderLayout.{pair-start, grant-start, grants-offset, directories-offset, header-width, spare-offset, spare-width, sessions-offset, pairs-offset}
-use Rattle.sound_store.specs.HeaderTests.{passes-from, slot-start, is-slot-at, has-slots, is-session-at, is-pair-at, has-pairs, named-at, is-password-at, is-grant-at, has-grants, has-directories, has-sessions, header-test}
+use Rattle.store.specs.HeaderLayout.{pair-start, grant-start, directory-start, grants-offset, directories-offset, directory-width, header-width, spare-offset, spare-width, sessions-offset, pairs-offset, Wide-header}
+use Rattle.sound_store.specs.HeaderTests.{passes-from, slot-start, is-slot-at, has-slots, is-session-at, is-pair-at, has-pairs, named-at, is-password-at, is-grant-at, has-grants, is-directory-at, has-directories, has-sessions, header-test}
 
 -- a field whose text passes no test, and one whose text passes and ends after n bytes
 module _ (test : Text → Bool) (i w : ℕ) (b : List ℕ) where
@@ -27,6 +33,39 @@ module _ (test : Text → Bool) (i w : ℕ) (b : List ℕ) where
   by-filling e n l =
       let q : w - n ≡ i + w - (i + n) = omega arith in
       rw (e, ← l, q)
+
+-- a field's text begins with its first byte, unless that is zero
+text-opened : (b : List ℕ) (i w : ℕ) → i < length b → (getD b i 0 ≡ 0 → ⊥) → text-at i (suc w) b ≡ getD b i 0 ∷ text-at (suc i) w b
+unfolding text-at unpadded
+text-opened b i w h e = rw (drop-cons b i 0 h, ne-eqb (getD b i 0) 0 e)
+
+-- a working directory, as the test of a field's text
+abbrev pub reads-path : Text → Bool
+reads-path t = is-some (path t)
+
+module _ (b : List ℕ) (k : ℕ) (wide : Wide-header b) (h : k < 16) where
+  -- one that does not begin with `/`
+  pub directory-begins : (getD b (directory-start k) 0 ≡ 47 → ⊥) → is-directory-at b k ≡ false
+  unfolding is-directory-at
+  directory-begins f =
+      let i = directory-start k in
+      let w = directory-width - 1 in
+      let x = getD b i 0 in
+      text-fails reads-path i directory-width b
+      (case (eqb x 0)
+      (λ z. path-empty (text-at i directory-width b) (text-stops b i w (omega arith) (eqb-true x 0 z)))
+      (λ z. rw (text-opened b i w (omega arith) (eqb-false x 0 z)) (path-begins (x ∷ text-at (suc i) w b) (omega arith) f)))
+
+  -- and `/` alone
+  pub directory-top : getD b (directory-start k) 0 ≡ 47 → getD b (directory-start k + 1) 0 ≡ 0 →
+      is-directory-at b k ≡ zeros-at (directory-start k + 1) (directory-start k + directory-width - (directory-start k + 1)) b
+  unfolding is-directory-at
+  directory-top e z =
+      let i = directory-start k in
+      let t = text-at i directory-width b in
+      let q = text-opened b i (directory-width - 1) (omega arith) (λ y. omega arith) in
+      let l : length t ≡ 1 = ap length q ∙ ap suc (text-stops b (suc i) (directory-width - 2) (omega arith) (rw add-one at z)) in
+      by-filling reads-path i directory-width b (path-top t l (ap (λ (s : Text). getD s 0 0) q ∙ e)) 1 (sym l)
 
 module _ (b : List ℕ) (k : ℕ) where
   -- a slot that is no person's

@@ -7,13 +7,19 @@ use buffers::is_zero;
 use store::DIRECTORIES;
 use store::DIRECTORY;
 
-// Whether an account's working directory is a path, filled up with zeros.
+// Whether an account's working directory is a path, filled up with zeros. Nearly always it is `/`, which is seen without its text.
 fn is_directory(header: &[u8], k: usize) -> bool
     requires { ⌜ Wide-header (now header) ⌝ }
     requires { ⌜ k < 16 ⌝ }
     ensures { λ r. ⌜ r ≡ is-directory-at (now (header .entry)) k ⌝ }
 {
     let at = DIRECTORIES + DIRECTORY * k;
+    if header[at] != 47 {
+        return false;
+    }
+    if header[at + 1] == 0 {
+        return is_zero(header, at + 1, at + DIRECTORY);
+    }
     let directory = buffers::text(header, at, DIRECTORY);
     if !syntax::is_path(directory) {
         return false;
