@@ -22,7 +22,7 @@ use Rattle.store.specs.DecodeLaws.{decode-in-parts}
 use Rattle.store.specs.HeaderLayout.{pair-start, grant-start, directory-start, grants-offset, directories-offset, directory-width, header-width, spare-offset, spare-width, sessions-offset, pairs-offset, Wide-header}
 use Rattle.sound_store.specs.HeaderTests.{passes-from, slot-start, is-slot-at, has-slots, is-session-at, is-pair-at, has-pairs, named-at, is-password-at, is-grant-at, has-grants, is-directory-at, has-directories, has-sessions, header-test}
 
--- a field whose text passes no test, and one whose text passes and ends after n bytes
+-- a field whose text fails a test, and one whose text of n bytes passes it
 module _ (test : Text → Bool) (i w : ℕ) (b : List ℕ) where
   pub text-fails : test (text-at i w b) ≡ false → (test (text-at i w b) && is-filled i w b) ≡ false
   text-fails e = rw e
