@@ -53,21 +53,6 @@ module _ (u : Setup) (s : Store) (c : Caller) (e : Entry-path) (d : Path) where
       on-tree-judged _ _ _ _ λ filed.
       on-tree-then _ _ _ (on-tree-then _ _ _ (on-tree-done _)))
 
-  keeps-sessions : Ensures (λ (o : Outcome Store). o .state .sessions ≡ s .sessions) (run-co store u s c e d)
-  unfolding run-co
-  keeps-sessions =
-      then-do _ λ z _.
-      then-do _ λ directory _.
-      then-do _ λ filed _.
-      then-check Access tt _ λ _.
-      then-check TooDeep tt _ λ _.
-      then-check Full tt _ λ _.
-      gives refl
-
-  -- a done `co` keeps the sessions
-  pub co-keeps-sessions : {o : Outcome Store} → run-co store u s c e d ≡ done o → o .state .sessions ≡ s .sessions
-  co-keeps-sessions run = done-with keeps-sessions run
-
 -- the command's steps are those by the session's account
 pub co-acts : {c : Caller} {a : Account} (j : Acting c a) (e : Entry-path) (d : Path)
     → on-tree-steps (run-co store (j .setup) (j .state) c e d) ≡ co-steps (copier a c) (j .state .tree) e d

@@ -81,15 +81,5 @@ module _ (u : Setup) (s : Store) (c : Caller) where
   entry-registry (up w) = up-registry w
   entry-registry (del e) = del-registry e
 
-  module _ {o : Outcome Store} where
-    pub add-keeps-registry : (w : Path) (e : Entry-path) (r : Bounded-role) → run-add store u s c w e r ≡ done o → o .state .registry ≡ s .registry
-    add-keeps-registry w e r q = done-with (add-registry w e r) q
-
-    pub commit-keeps-registry : (w : Path) → run-commit store u s c w ≡ done o → o .state .registry ≡ s .registry
-    commit-keeps-registry w q = done-with (commit-registry w) q
-
-    pub up-keeps-registry : (w : Path) → run-up store u s c w ≡ done o → o .state .registry ≡ s .registry
-    up-keeps-registry w q = done-with (up-registry w) q
-
-    pub del-keeps-registry : (e : Entry-path) → run-del store u s c e ≡ done o → o .state .registry ≡ s .registry
-    del-keeps-registry e q = done-with (del-registry e) q
+  pub entry-keeps-registry : (command : Entry-command) {o : Outcome Store} → run-entry store u s c command ≡ done o → o .state .registry ≡ s .registry
+  entry-keeps-registry command q = done-with (entry-registry command) q

@@ -4,7 +4,6 @@ use mathlib.Core.List.{List, [], _++_, append-nil}
 use Prim.Native.Nat.{ℕ, _-_}
 use native.Mathlib.Omega.{arith}
 use lib.ListN.{length, take, drop, take-append-drop, length-drop, drop-of-length-le}
-use lib.Seq.{take-all}
 use Rattle.accounts.specs.declared.Caller.{Caller}
 use Rattle.commands.specs.Command.{Shell-command, shell}
 use Rattle.setup.specs.Setup.{Setup}
@@ -12,7 +11,7 @@ use Rattle.tree.specs.Result.{Result, refused, done, _>>=_, Outcome}
 use Rattle.tree.specs.ResultLaws.{bind-done, refused-bind, done-bind}
 use Rattle.tree.specs.Forest.{Place}
 use Rattle.tree.specs.Node.{Node}
-use Rattle.tree.specs.TreeBytes.{Encodes, Whole}
+use Rattle.tree.specs.TreeBytes.{Encodes}
 use Rattle.shell.specs.declared.Answer.{Answer}
 use Rattle.shell.specs.Steps.{run-shell}
 use Rattle.shell.specs.Replies.{reply, answer-of, written}
@@ -23,28 +22,19 @@ use Rattle.store.specs.StoreBytes.{header-bytes, encode}
 use Rattle.machine.specs.Machine.{run}
 use Rattle.machine.specs.StoreMachine.{store}
 use Rattle.machine.specs.Acting.{on-tree-steps}
-use Rattle.stored_header.specs.Stored.{Stored, Some-store, bytes-with}
+use Rattle.stored_header.specs.Stored.{Stored, bytes-with}
+use Rattle.stored_header.specs.StoredLaws.{lent-tree, lent-is}
 
 -- ---- a store's bytes lent in two parts
 
--- the bytes behind the header as they are lent, and the store with others in their place
-abbrev pub lent-tree : List ℕ → List ℕ
-lent-tree b = take (length b - header-width) (drop header-width b)
-
+-- the store with other bytes in place of the tree's that were lent
 abbrev pub tree-back : List ℕ → List ℕ → List ℕ
 tree-back b T = take header-width b ++ (T ++ drop (length b - header-width) (drop header-width b))
 
-module _ {b : List ℕ} (h : Some-store b) where
-  lent-is : lent-tree b ≡ drop header-width b
-  lent-is = take-all (length b - header-width) (drop header-width b) (omega (arith, length-drop header-width b))
-
-  back-is : (T : List ℕ) → tree-back b T ≡ take header-width b ++ T
-  back-is T =
-      let gone : drop (length b - header-width) (drop header-width b) ≡ [] = drop-of-length-le (drop header-width b) {i = length b - header-width} (omega (arith, length-drop header-width b)) in
-      rw (gone, append-nil T)
-
-  pub lent-whole : Whole (lent-tree b)
-  lent-whole = rw lent-is (h .0 .store .tree, h .1 .tree)
+back-is : (b T : List ℕ) → tree-back b T ≡ take header-width b ++ T
+back-is b T =
+    let gone : drop (length b - header-width) (drop header-width b) ≡ [] = drop-of-length-le (drop header-width b) {i = length b - header-width} (omega (arith, length-drop header-width b)) in
+    rw (gone, append-nil T)
 
 -- ---- what follows for the store
 

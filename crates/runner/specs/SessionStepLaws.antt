@@ -26,10 +26,10 @@ use Rattle.machine.specs.StoreMachine.{store}
 use Rattle.shell.specs.CommandBytes.{Carries, Carries-silently, Follows}
 use Rattle.shell.specs.CommandBytesLaws.{refusal-follows}
 use Rattle.machine.specs.Acting.{Acting, on-tree-steps}
-use Rattle.machine.specs.ActingLaws.{add-keeps-registry, commit-keeps-registry, up-keeps-registry, del-keeps-registry}
-use Rattle.checkout.specs.CheckoutRunLaws.{co-keeps-registry}
+use Rattle.machine.specs.ActingLaws.{entry-keeps-registry}
 use Rattle.stored_header.specs.Stored.{Stored, bytes-with}
-use Rattle.runner.specs.RunnerLaws.{lent-tree, tree-back, lent-carries}
+use Rattle.stored_header.specs.StoredLaws.{lent-tree}
+use Rattle.runner.specs.RunnerLaws.{tree-back, lent-carries}
 
 -- no session is held where none is, and a role's where it is
 held-none : (o : Option Bounded-role) → Nobody ≡ session-held o → o ≡ none
@@ -78,18 +78,8 @@ module _ {b : List ℕ} {s : State} (h : Stored b s) (c : Caller) where
     served = q;
   }
 
-  -- and keeps the registry
-  command-keeps-registry : (k : Entry-command) (o : Outcome Store) → run-entry store (s .setup) (s .store) c k ≡ done o
-      → o .state .registry ≡ s .store .registry
-  unfolding run-entry
-  command-keeps-registry (add w p z) o e = add-keeps-registry (s .setup) (s .store) c w p z e
-  command-keeps-registry (co p d) o e = co-keeps-registry (s .setup) (s .store) c p d e
-  command-keeps-registry (commit w) o e = commit-keeps-registry (s .setup) (s .store) c w e
-  command-keeps-registry (up w) o e = up-keeps-registry (s .setup) (s .store) c w e
-  command-keeps-registry (del p) o e = del-keeps-registry (s .setup) (s .store) c p e
-
-  -- so what follows its steps on the tree is carried out on the store
+  -- and what follows its steps on the tree is carried out on the store, since it keeps the registry
   pub role-carries : (k : Entry-command) (a a′ : List ℕ) (r : Answer) (T : List ℕ)
       → (Encodes (lent-tree b) (s .store .tree) → Follows (on-tree-steps (run-entry store (s .setup) (s .store) c k)) (lent-tree b) a r T a′)
       → Carries (bytes-with (s .setup)) (run-entry store (s .setup) (s .store) c k) b a r (tree-back b T) a′
-  role-carries k a a′ r T f = lent-carries h (run-entry store (s .setup) (s .store) c k) (command-keeps-registry k) a a′ r T f
+  role-carries k a a′ r T f = lent-carries h (run-entry store (s .setup) (s .store) c k) (λ o. entry-keeps-registry (s .setup) (s .store) c k) a a′ r T f

@@ -7,7 +7,8 @@ use buffers::is_zero;
 use store::DIRECTORIES;
 use store::DIRECTORY;
 
-// Whether an account's working directory is a path, filled up with zeros. Nearly always it is `/`, which is seen without its text.
+// Whether an account's working directory is a path, filled up with zeros. `/`, which accounts that are no person's have, is seen without
+// its text.
 fn is_directory(header: &[u8], k: usize) -> bool
     requires { ⌜ Wide-header (now header) ⌝ }
     requires { ⌜ k < 16 ⌝ }

@@ -3,10 +3,10 @@
 use mathlib.Core.Path.{_≡_, sym, _∙_, ap, ap₂}
 use mathlib.Core.List.{List, _++_}
 use mathlib.Core.Option.{none, some}
-use Prim.Native.Nat.{ℕ, _≤_}
+use Prim.Native.Nat.{ℕ, _-_, _≤_}
 use native.Mathlib.Omega.{arith}
-use lib.ListN.{length, take, drop, take-append-drop}
-use lib.Seq.{take-at, length-take-le}
+use lib.ListN.{length, take, drop, take-append-drop, length-drop}
+use lib.Seq.{take-at, length-take-le, take-all}
 use Rattle.buffers.specs.Text.{Text}
 use Rattle.accounts.specs.declared.Caller.{Caller}
 use Rattle.accounts.specs.Dominance.{Bounded-role}
@@ -17,9 +17,11 @@ use Rattle.syntax.specs.ParentLaws.{text-of-path}
 use Rattle.setup.specs.Setup.{Setup}
 use Rattle.tree.specs.declared.Cause.{Cause}
 use Rattle.tree.specs.Result.{Result, refused, done, _>>=_, Outcome}
+use Rattle.tree.specs.Forest.{Place}
+use Rattle.tree.specs.Node.{Node}
 use Rattle.tree.specs.Encoding.{encode-tree}
 use Rattle.tree.specs.ResultLaws.{refused-bind, done-bind}
-use Rattle.tree.specs.TreeBytes.{Whole, Path-text}
+use Rattle.tree.specs.TreeBytes.{Encodes, Whole, Path-text}
 use Rattle.walks.specs.declared.Walked.{Walked}
 use Rattle.walks.specs.declared.Walked.the-variants.{To, Refused}
 use Rattle.walks.specs.RowWalk.{outcome}
@@ -64,6 +66,16 @@ read-stored b s e =
       tree = tree-read b s e;
     }
 
+-- the bytes behind the header as they are lent
+abbrev pub lent-tree : List ℕ → List ℕ
+lent-tree b = take (length b - header-width) (drop header-width b)
+
+pub lent-is : (b : List ℕ) → lent-tree b ≡ drop header-width b
+lent-is b = take-all (length b - header-width) (drop header-width b) (omega (arith, length-drop header-width b))
+
+pub lent-encodes : {b : List ℕ} {s : State} → Stored b s → Encodes (lent-tree b) (s .store .tree)
+lent-encodes {b} h = rw (lent-is b) (h .tree)
+
 module _ {b : List ℕ} (h : Some-store b) where
   pub long-enough : header-width ≤ length b
   unfolding store-width
@@ -76,12 +88,12 @@ module _ {b : List ℕ} (h : Some-store b) where
   pub lent-headed : Headed (take header-width b)
   lent-headed = (h .0 .setup, h .0 .store .registry, h .1 .header)
 
-  pub lent-whole : Whole (drop header-width b)
-  lent-whole = (h .0 .store .tree, h .1 .tree)
+  pub lent-whole : Whole (lent-tree b)
+  lent-whole = (h .0 .store .tree, lent-encodes (h .1))
 
 -- a text that reads as a path tells one
 pub path-told : {t : Text} → Path-text t → Tells-path t
-path-told {t} h = (h .0, (path-is-path t (h .0) (h .1), sym (text-of-path t (h .0) (h .1))))
+path-told {t} h = (h .0, path-is-path t (h .0) (h .1), sym (text-of-path t (h .0) (h .1)))
 
 -- ---- what follows for the store
 
@@ -119,11 +131,15 @@ module _ {b : List ℕ} {s : State} (h : Stored b s) where
 
 -- ---- `cd`
 
--- it is the decision on the tree, then the working directory
+-- what it does once it is decided
+abbrev cd-goes-on : Caller → Path → Store → Place Node → Result (Outcome Store)
+cd-goes-on c p s d = done (record { text = none; state = moved-to (c .account .uid) p s })
+
+-- it is the decision on the tree, then that
 cd-checked : (u : Setup) (s : Store) (c : Caller) (p : Path)
-    → run-cd store u s c p ≡ (may-do (c .account) Enter (s .tree) p >>= λ d. done (record { text = none; state = moved-to (c .account .uid) p s }))
+    → run-cd store u s c p ≡ (may-do (c .account) Enter (s .tree) p >>= cd-goes-on c p s)
 unfolding run-cd
-cd-checked u s c p = enter-checked (c .account) (s .tree) p (λ d. done (record { text = none; state = moved-to (c .account .uid) p s }))
+cd-checked u s c p = enter-checked (c .account) (s .tree) p (cd-goes-on c p s)
 
 module _ {b : List ℕ} {s : State} (h : Stored b s) where
   -- the header of another working directory, before the tree
@@ -133,13 +149,10 @@ module _ {b : List ℕ} {s : State} (h : Stored b s) where
   directory-bytes uid p H e = ap₂ _++_ e (h .tree .bytes)
 
   module _ (c : Caller) (p : Path) {r : Walked} (same : outcome r ≡ may-do-at (c .account) Enter (s .store .tree) p) where
-    abbrev goes-on : Result (Outcome Store)
-    goes-on = done (record { text = none; state = moved-to (c .account .uid) p (s .store) })
-
     pub cd-refused : {cause : Cause} → r ≡ Refused cause
         → Carries-silently (bytes-with (s .setup)) (run-cd store (s .setup) (s .store) c p) b (the-variants.Refused cause) b
-    cd-refused e = refusal-follows b (cd-checked (s .setup) (s .store) c p ∙ decided-refused (h .tree) (c .account) Enter p same (λ d. goes-on) e)
+    cd-refused e = refusal-follows b (cd-checked (s .setup) (s .store) c p ∙ decided-refused (h .tree) (c .account) Enter p same (cd-goes-on c p (s .store)) e)
 
     pub cd-carries : {row above : ℕ} → r ≡ To row above → (b′ : List ℕ) → b′ ≡ bytes-with (s .setup) (moved-to (c .account .uid) p (s .store))
         → Carries-silently (bytes-with (s .setup)) (run-cd store (s .setup) (s .store) c p) b the-variants.Done b′
-    cd-carries e b′ q = silence-follows b b′ (cd-checked (s .setup) (s .store) c p ∙ decided-there (h .tree) (c .account) Enter p same (λ d. goes-on) e) q
+    cd-carries e b′ q = silence-follows b b′ (cd-checked (s .setup) (s .store) c p ∙ decided-there (h .tree) (c .account) Enter p same (cd-goes-on c p (s .store)) e) q

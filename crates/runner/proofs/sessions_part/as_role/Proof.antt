@@ -11,7 +11,7 @@ use Rattle.header.specs.PairRowsLaws.{rows-tell-account}
 use Rattle.store.specs.HeaderLayout.{header-width}
 use Rattle.stored_header.specs.StoredLaws.{long-enough}
 use Rattle.entry_runner.specs.EntryDoneLaws.{entry-acts}
-use Rattle.runner.specs.RunnerLaws.{lent-whole}
+use Rattle.stored_header.specs.StoredLaws.{lent-whole}
 use Rattle.runner.specs.SessionStepLaws.{held-some, acting, role-carries}
 use borrow.Rule.Slice.PartMut.{same-len-mid}
 use Rattle.runner.proofs.sessions_part.as_role.Statement.{statement}

@@ -5,7 +5,8 @@ use lib.ListN.{length}
 use denote.Ref.{now}
 use Rattle.store.specs.HeaderLayout.{header-width}
 use Rattle.stored_header.specs.StoredLaws.{long-enough}
-use Rattle.runner.specs.RunnerLaws.{lent-whole, shell-carries}
+use Rattle.stored_header.specs.StoredLaws.{lent-whole}
+use Rattle.runner.specs.RunnerLaws.{shell-carries}
 use borrow.Rule.Slice.PartMut.{same-len-mid}
 use Rattle.runner.proofs.store_part.in_shell.Statement.{statement}
 use Rattle.runner.proofs.store_part.in_shell.Tie as tie
