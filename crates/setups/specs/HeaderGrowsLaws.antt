@@ -2,75 +2,32 @@
 use mathlib.Core.Path.{_≡_, refl, sym, _∙_, ap, ap₂}
 use mathlib.Core.List.{List, [], _∷_, _++_, append-assoc, append-nil}
 use mathlib.Core.Option.{Option, none}
-use mathlib.Core.Bool.{Bool, true}
-use Prim.Native.Nat.{ℕ, zero, suc, _+_, _-_, _*_, _≤_, _<_}
+use mathlib.Core.Bool.{true}
+use Prim.Native.Nat.{ℕ, suc, _+_, _-_, _*_, _≤_, _<_}
 use native.Mathlib.Omega.{arith}
 use native.Mathlib.Numerals.{add-one}
-use native.Mathlib.Nat.{mul-zero, mul-suc, suc-mul, add-comm}
-use lib.ListN.{length, getD, set, replicate, length-append, length-replicate}
+use native.Mathlib.Nat.{suc-mul, add-comm}
+use lib.ListN.{length, set, replicate, length-append, length-replicate}
 use lib.Seq.{paste}
-use Rattle.buffers.specs.Cases.{and-both}
-use Rattle.buffers.specs.Text.{every}
 use Rattle.buffers.specs.Fields.{all-bytes, table-bytes}
 use Rattle.buffers.specs.TableLaws.{zeros-join, all-bytes-append, length-all-bytes}
 use Rattle.buffers.specs.PasteLaws.{paste-piece}
 use Rattle.buffers.specs.FieldsLaws.{length-padded}
-use Rattle.buffers.specs.TextLaws.{every-getD}
 use Rattle.accounts.specs.declared.Pair.{Pair}
 use Rattle.accounts.specs.PairBytes.{pair-bytes, length-pair as pair-wide}
 use Rattle.setup.specs.Setup.{Person, Grant, Setup, accounts, most-pairs, most-grants, with-pair, with-grant, is-slot, is-pair, is-grant, is-setup}
 use Rattle.setup.specs.SetupLaws.{apart}
-use Rattle.store.specs.HeaderLayout.{spare-width, pairs-offset, pair-width, grants-offset, grant-width, pair-start, grant-start}
+use Rattle.store.specs.HeaderLayout.{directories-width, spare-width, pairs-offset, pair-width, grants-offset, grant-width, pair-start, grant-start}
 use Rattle.store.specs.Initial.{no-sessions}
-use Rattle.store.specs.StoreBytes.{slot-bytes, session-byte, grant-bytes, header-bytes}
-use Rattle.store.specs.HeaderLaws.{length-slot, length-grant, part-widths}
-
--- ---- values one after another
-
--- the bytes before the value of an index, and those behind it, whichever value stands there
-record Around {A : Type 0} (f : A → List ℕ) (w : ℕ) (l : List A) (i : ℕ) (d : A) : Type 0 where
-  before : List ℕ
-  behind : List ℕ
-  wide : length before ≡ w * i
-  there : (R : List ℕ) → all-bytes f l ++ R ≡ before ++ (f (getD l i d) ++ (behind ++ R))
-  instead : (v : A) (R : List ℕ) → all-bytes f (set l i v) ++ R ≡ before ++ (f v ++ (behind ++ R))
-
-around : {A : Type 0} (w : ℕ) (test : A → Bool) (f : A → List ℕ) → ((a : A) → test a ≡ true → length (f a) ≡ w) →
-    (l : List A) (i : ℕ) (d : A) → every test l ≡ true → i < length l → Around f w l i d
-unfolding every all-bytes
-around w test f long [] i d h k = let z : ⊥ = omega arith in absurd z
-around w test f long (a ∷ l) zero d h k = record {
-  before = [];
-  behind = all-bytes f l;
-  wide = sym (mul-zero w);
-  there = λ R. append-assoc (f a) (all-bytes f l) R;
-  instead = λ v R. append-assoc (f v) (all-bytes f l) R;
-}
-around w test f long (a ∷ l) (suc i) d h k =
-    let p = and-both (test a) (every test l) h in
-    let r = around w test f long l i d (p .1) (omega arith) in
-    let s : w * suc i ≡ w * i + w = mul-suc w i in
-    record {
-      before = f a ++ r .before;
-      behind = r .behind;
-      wide = length-append (f a) (r .before) ∙ omega (arith, long a (p .0), r .wide, s);
-      there = λ R. append-assoc (f a) (all-bytes f l) R ∙ ap (λ (x : List ℕ). f a ++ x) (r .there R) ∙ sym (append-assoc (f a) (r .before) (f (getD l i d) ++ (r .behind ++ R)));
-      instead = λ v R. append-assoc (f a) (all-bytes f (set l i v)) R ∙ ap (λ (x : List ℕ). f a ++ x) (r .instead v R) ∙ sym (append-assoc (f a) (r .before) (f v ++ (r .behind ++ R)));
-    }
-
--- one written over another
-pub value-replaced : {A : Type 0} (w : ℕ) (test : A → Bool) (f : A → List ℕ) → ((a : A) → test a ≡ true → length (f a) ≡ w) →
-    (l : List A) (i : ℕ) (v d : A) (R : List ℕ) → every test l ≡ true → test v ≡ true → test (getD l i d) ≡ true → i < length l →
-    paste (all-bytes f l ++ R) (w * i) (f v) w ≡ all-bytes f (set l i v) ++ R
-value-replaced w test f long l i v d R h e k n =
-    let r = around w test f long l i d h n in
-    ap (λ (x : List ℕ). paste x (w * i) (f v) w) (r .there R)
-    ∙ paste-piece (r .before) (r .behind ++ R) (f (getD l i d)) (f v) (w * i) w (r .wide) (long (getD l i d) k) (long v e)
-    ∙ sym (r .instead v R)
+use Rattle.store.specs.StoreBytes.{slot-bytes, session-byte, grant-bytes, front-bytes}
+use Rattle.store.specs.SetupHeader.{setup-header}
+use Rattle.store.specs.ValuesLaws.{value-replaced}
+use Rattle.store.specs.FrontLaws.{length-slot, length-grant, part-widths}
 
 -- ---- tables
 
-one-more : {A : Type 0} (f : A → List ℕ) (l : List A) (x : A) → all-bytes f (l ++ (x ∷ [])) ≡ all-bytes f l ++ f x
+-- one value more
+pub one-more : {A : Type 0} (f : A → List ℕ) (l : List A) (x : A) → all-bytes f (l ++ (x ∷ [])) ≡ all-bytes f l ++ f x
 unfolding all-bytes
 one-more f l x = all-bytes-append f l (x ∷ []) ∙ ap (λ (r : List ℕ). all-bytes f l ++ r) (append-nil (f x))
 
@@ -130,21 +87,21 @@ module _ (u : Setup) (h : is-setup u ≡ true) where
 
   -- a slot is written over another
   pub slot-written : (v : ℕ) (o : Option Person) → v < 16 → is-slot o ≡ true →
-      paste (header-bytes u no-sessions) (3 * v) (slot-bytes o) 3 ≡ header-bytes (record { persons = set (u .persons) v o; pairs = u .pairs; grants = u .grants }) no-sessions
-  unfolding header-bytes is-slot
+      paste (setup-header u) (3 * v) (slot-bytes o) 3 ≡ setup-header (record { persons = set (u .persons) v o; pairs = u .pairs; grants = u .grants })
+  unfolding setup-header front-bytes
   slot-written v o k e =
       let r = apart u h in
-      value-replaced 3 is-slot slot-bytes length-slot (u .persons) v o none _ (r .slots) e (every-getD is-slot (u .persons) v none (r .slots) refl) (omega (arith, r .count))
+      value-replaced 3 is-slot slot-bytes length-slot (u .persons) v o none _ (r .slots) (length-slot o e) (omega (arith, r .count))
 
   long-front : length (slots ++ no-roles) ≡ pairs-offset
   long-front = length-append slots no-roles ∙ omega (arith, part-widths u h .slots, length-no-roles)
 
   -- a pair behind the others
   pub pair-written : (p : Pair) → length (u .pairs) < 28 →
-      paste (paste (header-bytes u no-sessions) (pair-start (length (u .pairs))) (pair-bytes p) pair-width) pairs-offset (suc (length (u .pairs)) ∷ []) 1 ≡ header-bytes (with-pair p u) no-sessions
-  unfolding header-bytes with-pair no-roles most-pairs
+      paste (paste (setup-header u) (pair-start (length (u .pairs))) (pair-bytes p) pair-width) pairs-offset (suc (length (u .pairs)) ∷ []) 1 ≡ setup-header (with-pair p u)
+  unfolding setup-header front-bytes with-pair no-roles most-pairs
   pair-written p few =
-      let G = table-bytes 10 most-grants grant-bytes (u .grants) ++ replicate spare-width 0 in
+      let G = table-bytes 10 most-grants grant-bytes (u .grants) ++ replicate (directories-width + spare-width) 0 in
       let wide : length (all-bytes pair-bytes (u .pairs)) ≡ 2 * length (u .pairs) =
       length-all-bytes 2 is-pair pair-bytes length-pair (u .pairs) (apart u h .all-pairs) ∙ omega arith in
       ap (λ (y : List ℕ). paste (paste y (pair-start (length (u .pairs))) (pair-bytes p) pair-width) pairs-offset (suc (length (u .pairs)) ∷ []) 1) (sym (append-assoc slots no-roles _))
@@ -153,8 +110,8 @@ module _ (u : Setup) (h : is-setup u ≡ true) where
 
   -- a grant behind the others
   pub grant-written : (g : Grant) → length (g .password) ≤ 8 → length (u .grants) < 32 →
-      paste (paste (header-bytes u no-sessions) (grant-start (length (u .grants))) (grant-bytes g) grant-width) grants-offset (suc (length (u .grants)) ∷ []) 1 ≡ header-bytes (with-grant g u) no-sessions
-  unfolding header-bytes with-grant no-roles most-grants
+      paste (paste (setup-header u) (grant-start (length (u .grants))) (grant-bytes g) grant-width) grants-offset (suc (length (u .grants)) ∷ []) 1 ≡ setup-header (with-grant g u)
+  unfolding setup-header front-bytes with-grant no-roles most-grants
   grant-written g short few =
       let T = table-bytes 2 most-pairs pair-bytes (u .pairs) in
       let F = (slots ++ no-roles) ++ T in
@@ -164,5 +121,5 @@ module _ (u : Setup) (h : is-setup u ≡ true) where
       length-all-bytes 10 (is-grant u) grant-bytes (length-grant u) (u .grants) (apart u h .all-grants) ∙ omega arith in
       let parts : (X : List ℕ) → F ++ X ≡ slots ++ (no-roles ++ (T ++ X)) = λ X. append-assoc (slots ++ no-roles) T X ∙ append-assoc slots no-roles (T ++ X) in
       ap (λ (y : List ℕ). paste (paste y (grant-start n) (grant-bytes g) grant-width) grants-offset (suc n ∷ []) 1) (sym (parts _))
-      ∙ table-grows grant-width 32 grant-bytes (u .grants) g F (replicate spare-width 0) grants-offset front wide (grant-width-of g short) few
+      ∙ table-grows grant-width 32 grant-bytes (u .grants) g F (replicate (directories-width + spare-width) 0) grants-offset front wide (grant-width-of g short) few
       ∙ parts _

@@ -1,5 +1,6 @@
 pub mod HeaderValuesLaws
 pub mod HeaderGrowsLaws
+pub mod DirectoriesLaws
 pub mod LineRead
 pub mod LineReadLaws
 pub mod OpeningLaws

@@ -6,16 +6,15 @@ use Prim.Native.Nat.{ℕ}
 use lib.ListN.{length}
 use Rattle.setup.specs.Setup.{is-setup}
 use Rattle.setup.specs.SetupStep.{Line-answer, leads-on, ends-it, is-wrong}
-use Rattle.store.specs.Initial.{no-sessions}
-use Rattle.store.specs.StoreBytes.{store-width, header-bytes, setup-of}
-use Rattle.store.specs.SetupHeader.{headed, first-store}
+use Rattle.store.specs.StoreBytes.{store-width, setup-of}
+use Rattle.store.specs.SetupHeader.{setup-header, headed, first-store}
 use Rattle.setups.specs.declared.LineRead.{LineRead}
 use Rattle.setups.specs.declared.LineRead.the-variants.{More, End, Wrong}
 
--- the header of the setup so far, which is in range, without sessions
+-- the header of the setup so far, which is in range, without sessions and working directories
 pub record Begun (b : List ℕ) : Type 0 where
   pub in-range : is-setup (setup-of b) ≡ true
-  pub whole : header-bytes (setup-of b) no-sessions ≡ b
+  pub whole : setup-header (setup-of b) ≡ b
 
 -- what is answered, and the header, or the whole store, afterwards
 pub record Line-done : Type 0 where
@@ -27,7 +26,7 @@ read-as r b = record { answer = r; header = b }
 
 -- a line that leads on is of a kind and stands in the header; `end` and a wrong line leave it
 unfoldable pub after-line : List ℕ → Line-answer → Line-done
-after-line b (leads-on d) = record { answer = More (d .kind); header = header-bytes (d .so-far) no-sessions }
+after-line b (leads-on d) = record { answer = More (d .kind); header = setup-header (d .so-far) }
 after-line b ends-it = record { answer = End; header = b }
 after-line b is-wrong = record { answer = Wrong; header = b }
 

@@ -43,8 +43,8 @@ use Rattle.setup.specs.SetupStep.{Line-answer, leads-on, ends-it, is-wrong, fit
 use Rattle.store.specs.declared.Person.{Person as Slot}
 use Rattle.store.specs.HeaderLayout.{Wide-header, slot-width, pairs-offset, pair-width, grants-offset, grant-width, pair-start, grant-start}
 use Rattle.store.specs.InitialRows.{slot-value}
-use Rattle.store.specs.Initial.{no-sessions}
-use Rattle.store.specs.StoreBytes.{slot-bytes, slot-of, grant-bytes, grant-of, header-bytes, setup-of}
+use Rattle.store.specs.StoreBytes.{slot-bytes, slot-of, grant-bytes, grant-of, setup-of}
+use Rattle.store.specs.SetupHeader.{setup-header}
 use Rattle.store.specs.SetupHeaderLaws.{setup-header-wide, header-holds}
 use Rattle.setups.specs.declared.LineRead.the-variants.{More, End, Wrong}
 use Rattle.setups.specs.LineRead.{Begun, Line-done, read-as, after-line}
@@ -166,7 +166,7 @@ module _ (b : List ℕ) (w : Begun b) where
   wrong-done e = rw e
 
   -- a line that leads on
-  fits-done : {m : Option Reading} (k : ℕ) (u : Setup) (b′ : List ℕ) → m ≡ some (record { kind = k; so-far = u }) → b′ ≡ header-bytes u no-sessions →
+  fits-done : {m : Option Reading} (k : ℕ) (u : Setup) (b′ : List ℕ) → m ≡ some (record { kind = k; so-far = u }) → b′ ≡ setup-header u →
       read-as (More k) b′ ≡ after-line b (fitting m)
   unfolding after-line fitting
   fits-done k u b′ e h = rw e (λ i. record { answer = More k; header = h i })
@@ -278,10 +278,10 @@ module _ (t : Text) (d : Reading) where
 -- ---- what was answered tells what the line comes to
 
 -- the header of a setup in range
-pub header-begun : (u : Setup) → is-setup u ≡ true → Begun (header-bytes u no-sessions)
+pub header-begun : (u : Setup) → is-setup u ≡ true → Begun (setup-header u)
 header-begun u h = record {
   in-range = ap is-setup (header-holds u h) ∙ h;
-  whole = ap (λ (v : Setup). header-bytes v no-sessions) (header-holds u h);
+  whole = ap setup-header (header-holds u h);
 }
 
 -- what a line led on to, by the kind and the header that were answered
@@ -289,7 +289,7 @@ pub record Led (a : Line-answer) (k : ℕ) (H : List ℕ) : Type 0 where
   pub to : Reading
   pub is : a ≡ leads-on to
   pub of-kind : k ≡ to .kind
-  pub holds : H ≡ header-bytes (to .so-far) no-sessions
+  pub holds : H ≡ setup-header (to .so-far)
 
 module _ (b H : List ℕ) where
   pub more-led : (a : Line-answer) (k : ℕ) → read-as (More k) H ≡ after-line b a → Led a k H

@@ -2,9 +2,7 @@
 use mathlib.Core.List.{List}
 use Prim.Native.Nat.{ℕ}
 use Rattle.setup.specs.Setup.{Setup-answer, accepted, wrong-line, no-setup}
-use Rattle.store.specs.Initial.{no-sessions}
-use Rattle.store.specs.StoreBytes.{header-bytes}
-use Rattle.store.specs.SetupHeader.{first-store}
+use Rattle.store.specs.SetupHeader.{setup-header, first-store}
 use Rattle.setups.specs.declared.TextRead.{TextRead}
 use Rattle.setups.specs.declared.TextRead.the-variants.{Accepted, Wrong}
 
@@ -18,8 +16,8 @@ text-as r b = record { answer = r; bytes = b }
 
 -- a header holds the setup, or where a line is wrong nothing
 unfoldable pub header-made : Setup-answer → Text-done
-header-made (accepted u) = text-as Accepted (header-bytes u no-sessions)
-header-made (wrong-line n) = text-as (Wrong n) (header-bytes no-setup no-sessions)
+header-made (accepted u) = text-as Accepted (setup-header u)
+header-made (wrong-line n) = text-as (Wrong n) (setup-header no-setup)
 
 -- a store is the one that the setup begins with, or where a line is wrong as it was
 unfoldable pub store-made : List ℕ → Setup-answer → Text-done

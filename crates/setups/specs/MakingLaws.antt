@@ -16,9 +16,8 @@ use Rattle.setup.specs.SetupStep.{Line-answer, ends-it, setup-step}
 use Rattle.setup.specs.SetupStepLaws.{step-keeps, step-kind}
 use Rattle.setup.specs.LinesLaws.{answer-from, answer-from-first, stops-in-line, place-leads-on, place-is-wrong, place-ends-it, place-ends-early}
 use Rattle.store.specs.HeaderLayout.{header-width, Wide-header}
-use Rattle.store.specs.Initial.{no-sessions}
-use Rattle.store.specs.StoreBytes.{header-bytes, setup-of}
-use Rattle.store.specs.SetupHeader.{reading-in, headed, first-store}
+use Rattle.store.specs.StoreBytes.{setup-of}
+use Rattle.store.specs.SetupHeader.{reading-in, setup-header, headed, first-store}
 use Rattle.store.specs.SetupHeaderLaws.{setup-header-wide, headed-holds, header-holds}
 use Rattle.setups.specs.declared.LineRead.{LineRead}
 use Rattle.setups.specs.declared.LineRead.the-variants as line
@@ -36,8 +35,8 @@ pub refused : (h h′ : List ℕ) (n : ℕ) → Wide-header h → h′ ≡ paste
 unfolding header-made
 refused h h′ n w e =
     let none-left : drop header-width h ≡ [] = drop-of-length-le h {i = header-width} (omega arith) in
-    let all : h′ ≡ header-bytes no-setup no-sessions =
-    e ∙ nothing-cleared h ∙ ap (λ (x : List ℕ). header-bytes no-setup no-sessions ++ x) none-left ∙ append-nil (header-bytes no-setup no-sessions) in
+    let all : h′ ≡ setup-header no-setup =
+    e ∙ nothing-cleared h ∙ ap (λ (x : List ℕ). setup-header no-setup ++ x) none-left ∙ append-nil (setup-header no-setup) in
     ap (text-as (Wrong n)) all
 
 -- where a line begins: the header holds what was read, and the lines from there on give what the text gives
@@ -48,7 +47,7 @@ pub record Going (t h : List ℕ) (kind at n : ℕ) : Type 0 where
   pub begun : Begun h
   pub goes : answer-from t at n (reading-in kind h) ≡ setup t
 
-pub going-first : (t h : List ℕ) → h ≡ header-bytes no-setup no-sessions → Going t h 0 0 0
+pub going-first : (t h : List ℕ) → h ≡ setup-header no-setup → Going t h 0 0 0
 going-first t h e =
     let held : setup-of h ≡ no-setup = ap setup-of e ∙ header-holds no-setup nothing in
     record {
@@ -128,9 +127,9 @@ module _ {t h : List ℕ} {kind at n end : ℕ} {r : LineRead} {h′ : List ℕ}
 pub record Held (t h : List ℕ) : Type 0 where
   pub the-setup : Setup
   pub is : setup t ≡ accepted the-setup
-  pub holds : h ≡ header-bytes the-setup no-sessions
+  pub holds : h ≡ setup-header the-setup
 
-accepted-by : (a : Setup-answer) (h : List ℕ) → text-as Accepted h ≡ header-made a → (u : Setup) × (a ≡ accepted u) × (h ≡ header-bytes u no-sessions)
+accepted-by : (a : Setup-answer) (h : List ℕ) → text-as Accepted h ≡ header-made a → (u : Setup) × (a ≡ accepted u) × (h ≡ setup-header u)
 unfolding header-made
 accepted-by (accepted u) h e = (u, refl, ap (λ (x : Text-done). x .bytes) e)
 accepted-by (wrong-line n) h e = let z : Accepted ≡ Wrong n = ap (λ (x : Text-done). x .answer) e in contra {b = true} refl (cc)

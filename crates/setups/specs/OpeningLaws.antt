@@ -19,14 +19,18 @@ use Rattle.setup.specs.SetupStep.{Line-answer, leads-on, ends-it, setup-step}
 use Rattle.setup.specs.SetupStepLaws.{step-keeps}
 use Rattle.tree.specs.Encoding.{encode-tree}
 use Rattle.store.specs.declared.Person.{Person as Slot}
-use Rattle.store.specs.HeaderLayout.{header-width, slot-width}
-use Rattle.store.specs.Initial.{no-sessions, initial-tree, initial-store}
+use Rattle.store.specs.HeaderLayout.{header-width, slot-width, directories-offset, directories-width}
+use Rattle.store.specs.State.{Registry}
+use Rattle.store.specs.Initial.{initial-tree, initial-registry, initial-store}
+use Rattle.store.specs.InitialLaws.{initial-registered}
 use Rattle.store.specs.InitialRows.{slot-value}
 use Rattle.store.specs.StoreBytes.{store-width, slot-of, header-bytes, setup-of, encode}
-use Rattle.store.specs.SetupHeader.{reading-in, headed, first-store}
+use Rattle.store.specs.SetupHeader.{reading-in, setup-header, headed, first-store}
 use Rattle.store.specs.SetupHeaderLaws.{setup-header-wide, headed-holds, header-holds, nothing-is-zeros}
+use Rattle.store.specs.HeaderLaws.{length-header}
 use Rattle.setups.specs.declared.LineRead.{LineRead}
 use Rattle.setups.specs.declared.LineRead.the-variants.{More, End, Wrong}
+use Rattle.setups.specs.DirectoriesLaws.{first-bytes, first-header}
 use Rattle.setups.specs.LineRead.{Begun, Begun-store, read-as, after-line, line-call}
 use Rattle.setups.specs.LineReadLaws.{header-begun, more-led, end-ended, wrong-stayed}
 
@@ -89,27 +93,42 @@ nothing-cleared b =
 
 -- ---- the store opened
 
+-- the tree's bytes in a store
+pub tree-wide : (b : List ℕ) → length b ≡ 65536 → length (take (length b - header-width) (drop header-width b)) ≡ 58114
+tree-wide b w =
+    ap length (take-all (length b - header-width) (drop header-width b) (omega (arith, length-drop header-width b)))
+    ∙ length-drop header-width b ∙ omega arith
+
 module _ (b : List ℕ) (w : Begun-store b) where
   pub store-wide : length b ≡ 65536
   unfolding store-width
   store-wide = w .wide
 
   -- the header stands in front
-  pub header-in : take header-width b ≡ header-bytes (setup-of b) no-sessions
+  pub header-in : take header-width b ≡ setup-header (setup-of b)
   header-in =
-      ap (take header-width) (sym (w .whole)) ∙ take-at (header-bytes (setup-of b) no-sessions) (drop header-width b) header-width (setup-header-wide (setup-of b) (w .in-range))
+      ap (take header-width) (sym (w .whole)) ∙ take-at (setup-header (setup-of b)) (drop header-width b) header-width (setup-header-wide (setup-of b) (w .in-range))
 
-  -- the tree's bytes behind it
-  pub tree-wide : length (take (length b - header-width) (drop header-width b)) ≡ 58114
-  tree-wide =
-      ap length (take-all (length b - header-width) (drop header-width b) (omega (arith, length-drop header-width b)))
-      ∙ length-drop header-width b ∙ omega (arith, store-wide)
+  -- with the first working directories it is that of the store that the setup begins with
+  module _ (persons : List Slot) (b₁ : List ℕ) (same : map slot-value persons ≡ setup-of b .persons) (put : b₁ ≡ paste b directories-offset (first-bytes (map slot-value persons)) directories-width) where
+    abbrev first-registry : Registry
+    first-registry = initial-registry (setup-of b)
 
-  pub opened : (T : List ℕ) → T ≡ encode-tree (initial-tree (setup-of b)) → take header-width b ++ (T ++ drop (length b - header-width) (drop header-width b)) ≡ first-store (setup-of b)
-  unfolding encode initial-store
-  opened T e =
-      let none-left : drop (length b - header-width) (drop header-width b) ≡ [] = drop-of-length-le (drop header-width b) {i = length b - header-width} (omega (arith, length-drop header-width b)) in
-      ap₂ _++_ header-in (ap₂ _++_ e none-left ∙ append-nil (encode-tree (initial-tree (setup-of b))))
+    put-in : b₁ ≡ header-bytes (setup-of b) first-registry ++ drop header-width b
+    put-in =
+        put
+        ∙ ap₂ (λ (x : List ℕ) (l : List (Option Person)). paste x directories-offset (first-bytes l) directories-width) (sym (w .whole)) same
+        ∙ first-header (setup-of b) (w .in-range) (drop header-width b)
+
+    -- and with the initial tree behind it, it is that store
+    pub opened : (T : List ℕ) → T ≡ encode-tree (initial-tree (setup-of b)) → take header-width b₁ ++ (T ++ drop (length b₁ - header-width) (drop header-width b₁)) ≡ first-store (setup-of b)
+    unfolding encode initial-store
+    opened T e =
+        let wide = length-header (setup-of b) first-registry (w .in-range) (initial-registered (setup-of b) (w .in-range)) in
+        let front : take header-width b₁ ≡ header-bytes (setup-of b) first-registry =
+        ap (take header-width) put-in ∙ take-at (header-bytes (setup-of b) first-registry) (drop header-width b) header-width wide in
+        let none-left : drop (length b₁ - header-width) (drop header-width b₁) ≡ [] = drop-of-length-le (drop header-width b₁) {i = length b₁ - header-width} (omega (arith, length-drop header-width b₁)) in
+        ap₂ _++_ front (ap₂ _++_ e none-left ∙ append-nil (encode-tree (initial-tree (setup-of b))))
 
 -- ---- a line
 
@@ -164,13 +183,13 @@ module _ (b : List ℕ) (w : Begun-store b) where
 pub headed-begun : (u : Setup) (b : List ℕ) → is-setup u ≡ true → length b ≡ 65536 → Begun-store (headed u b)
 unfolding store-width
 headed-begun u b h w =
-    let H = header-bytes u no-sessions in
+    let H = setup-header u in
     let wide = setup-header-wide u h in
     let back = headed-holds u b h in
     record {
       wide = length-append H (drop header-width b) ∙ omega (arith, wide, length-drop header-width b, w);
       in-range = ap is-setup back ∙ h;
-      whole = ap₂ (λ (v : Setup) (x : List ℕ). header-bytes v no-sessions ++ x) back (drop-at H (drop header-width b) header-width wide);
+      whole = ap₂ (λ (v : Setup) (x : List ℕ). setup-header v ++ x) back (drop-at H (drop header-width b) header-width wide);
     }
 
 -- before the first line

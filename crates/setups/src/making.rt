@@ -3,8 +3,8 @@ ghost use mathlib.Core.Path.{_≡_};
 ghost use lib.ListN.{length};
 ghost use Rattle.setup.specs.Setup.{wrong-line, no-setup, setup};
 ghost use Rattle.store.specs.HeaderLayout.{Wide-header};
-ghost use Rattle.store.specs.Initial.{no-sessions};
-ghost use Rattle.store.specs.StoreBytes.{store-width, header-bytes};
+ghost use Rattle.store.specs.StoreBytes.{store-width};
+ghost use Rattle.store.specs.SetupHeader.{setup-header};
 ghost use Rattle.setups.specs.Making.{text-as, header-made, store-made};
 use crate::LineRead;
 use crate::TextRead;
@@ -26,7 +26,7 @@ fn refuse(header: &mut [u8], number: usize) -> TextRead
 
 // Reads a setup text into a header of nothing.
 fn read_header(header: &mut [u8], text: &[u8]) -> TextRead
-    requires { ⌜ now header ≡ header-bytes no-setup no-sessions ⌝ }
+    requires { ⌜ now header ≡ setup-header no-setup ⌝ }
     ensures { λ r. ⌜ text-as r (now (header .exit)) ≡ header-made (setup (now (text .entry))) ⌝ }
 {
     let mut kind: u8 = 0;

@@ -11,6 +11,7 @@ ghost use Rattle.store.specs.StoreBytes.{store-width, slot-of, setup-of};
 ghost use Rattle.store.specs.SetupHeader.{reading-in, headed, first-store};
 ghost use Rattle.setups.specs.LineRead.{Begun-store, read-as, line-call};
 use crate::LineRead;
+use crate::directories::write_directories;
 use crate::line::read_line;
 use accounts::Gid;
 use accounts::Groups;
@@ -57,12 +58,13 @@ pub fn begin_store(store: &mut [u8])
     clear(store, 0, HEADER);
 }
 
-// Opens the store of the setup that its header holds: the initial tree stands behind it.
+// Opens the store of the setup that its header holds: the first working directories stand in it, the initial tree behind it.
 pub fn open_store(store: &mut [u8])
     requires { ⌜ Begun-store (now store) ⌝ }
     ensures { λ _. ⌜ now (store .exit) ≡ first-store (setup-of (now (store .entry))) ⌝ }
 {
     let persons = slots_in(store);
+    write_directories(store, persons);
     write_initial(&mut store[HEADER..], persons);
 }
 

@@ -203,12 +203,12 @@ home-is-path : (n : Name) → is-name n ≡ true → is-path (root ▹ n) ≡ tr
 unfolding is-path has-names depth most-names
 home-is-path n h = rw h
 
-first-is-path : (k : ℕ) → k < 16 → (o : Option Person) → is-path (first-directory (record { 0 = k }) o) ≡ true
+pub first-is-path : (k : ℕ) → k < 16 → (o : Option Person) → is-path (first-directory (record { 0 = k }) o) ≡ true
 unfolding first-directory
 first-is-path k l none = root-is-path
 first-is-path k l (some who) = home-is-path (home-name (record { 0 = k })) (home-named k (names-below (suc k) (omega arith)) .0)
 
-first-are-paths : (l : List (Option Person)) (k : ℕ) → k + length l ≤ 16 → every is-path (first-directories k l) ≡ true
+pub first-are-paths : (l : List (Option Person)) (k : ℕ) → k + length l ≤ 16 → every is-path (first-directories k l) ≡ true
 unfolding every first-directories
 first-are-paths [] k b = refl
 first-are-paths (o ∷ os) k b = rw (first-is-path k (omega arith) o) (first-are-paths os (suc k) (omega arith))
