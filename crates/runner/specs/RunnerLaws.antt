@@ -88,8 +88,8 @@ module _ {b : List ℕ} {s : State} (h : Stored b s) where
       → (a a′ : List ℕ) (r : Answer) (T : List ℕ) → (Encodes (lent-tree b) (s .store .tree) → Follows (on-tree-steps steps) (lent-tree b) a r T a′)
       → Carries (bytes-with (s .setup)) steps b a r (tree-back b T) a′
   lent-carries steps keeps a a′ r T f =
-      let g : Encodes (drop header-width b) (s .store .tree) → Follows (on-tree-steps steps) (drop header-width b) a r T a′ = rw (lent-is (s, h)) at f in
-      tree-carries h steps keeps a a′ r T (tree-back b T) (g (h .tree)) (back-is (s, h) T)
+      let g : Encodes (drop header-width b) (s .store .tree) → Follows (on-tree-steps steps) (drop header-width b) a r T a′ = rw (lent-is b) at f in
+      tree-carries h steps keeps a a′ r T (tree-back b T) (g (h .tree)) (back-is b T)
 
   -- a shell command
   pub shell-carries : (c : Caller) (k : Shell-command) (a a′ : List ℕ) (r : Answer) (T : List ℕ)

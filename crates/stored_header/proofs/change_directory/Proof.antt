@@ -7,7 +7,7 @@ use Rattle.stored_header.proofs.change_directory.Tie as tie
 returns : tie.Need-returns
 returns c s p h q =
     let f = c .before .before .before .before .before .before .before .before .before .before .before in
-    cd-carries h (f .args .caller) p (c .before .before .before .before .before .before .before .may-enter .ensures s p h q) ? (c .before .before .put-directory .last .0) (c .before .before .put-directory .ensures s p h q)
+    cd-carries h (f .args .caller) p (c .before .before .before .before .before .before .may-enter .ensures s p h q) (c .before .before .before .before .enum-told .given .1) (c .before .before .put-directory .last .0) (c .before .before .put-directory .ensures s p h q)
 
 returns-2 : tie.Need-returns-2
 returns-2 c s p h q =
