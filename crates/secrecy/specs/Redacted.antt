@@ -13,7 +13,7 @@ use Rattle.accounts.specs.Access.{is-root, same-uid}
 use Rattle.accounts.specs.Dominance.{Bounded-role}
 use Rattle.accounts.specs.Service.{service-uid}
 use Rattle.syntax.specs.Path.{root, _▹_, rep}
-use Rattle.commands.specs.Command.{Account-command, login, logout, Command, shell, account, entry, Line, line}
+use Rattle.commands.specs.Command.{Account-form, login, logout, cd, Command-form, shell, account, entry, Line, line}
 use Rattle.setup.specs.Setup.{Setup}
 use Rattle.tree.specs.Forest.{map-place, update}
 use Rattle.tree.specs.Node.{is-directory, Node}
@@ -63,12 +63,13 @@ is-senior u r (some z) = dominated u z r
 unfoldable pub without-seniors : Setup → Bounded-role → Sessions → Bool
 without-seniors u r sessions = every (λ z. not (is-senior u r z)) sessions
 
--- a login to a role that dominates r, whether it would be granted or not
-unfoldable pub admits-senior : Setup → Bounded-role → Account-command → Bool
+-- a login to a role that dominates r, whether it would be granted or not; whatever its paths are, as they are typed or whole
+unfoldable pub admits-senior : {P : Type 0} → Setup → Bounded-role → Account-form P → Bool
 admits-senior u r (login z password) = dominated u z r
 admits-senior u r logout = false
+admits-senior u r (cd p) = false
 
-unfoldable pub is-junior's : Setup → Bounded-role → Command → Bool
+unfoldable pub is-junior's : {P : Type 0} → Setup → Bounded-role → Command-form P → Bool
 is-junior's u r (shell command) = true
 is-junior's u r (account command) = not (admits-senior u r command)
 is-junior's u r (entry command) = true

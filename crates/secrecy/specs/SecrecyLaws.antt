@@ -16,12 +16,13 @@ use Rattle.accounts.specs.declared.Right.the-variants.{R, W}
 use Rattle.accounts.specs.Access.{is-root}
 use Rattle.accounts.specs.Dominance.{Bounded-role}
 use Rattle.syntax.specs.Path.{Path, Entry-path, below-rep}
-use Rattle.commands.specs.Command.{Account-command, login, logout, Entry-command, add, co, commit, up, del, Command, shell, account, entry, Line, line}
+use Rattle.commands.specs.Command.{Account-command, login, logout, cd, Entry-command, add, co, commit, up, del, Command, Typed-command, shell, account, entry, Line, line}
 use Rattle.setup.specs.Setup.{Setup}
 use Rattle.tree.specs.declared.Cause.the-variants.{Access, WrongKind, NotEmpty, Reserved, Full, NoForm, NoSession, NoGrant, Stale, RevisionsSpent, ShortAnswer, TooDeep}
 use Rattle.tree.specs.Result.{Result, done, present, Outcome}
-use Rattle.tree.specs.ResultLaws.{present-some}
-use Rattle.tree.specs.Outcomes.{Agree, refusal, both}
+use Rattle.tree.specs.ResultLaws.{present-some, done-bind}
+use Rattle.tree.specs.Outcomes.{gives, Ensures, Agree, refusal, both}
+use Rattle.tree.specs.GivesLaws.{done-with, then-step, then-do}
 use Rattle.tree.specs.AgreeLaws.{bind, each, check, guard}
 use Rattle.tree.specs.Forest.{Place, leaf, size, map-place}
 use Rattle.tree.specs.ForestLaws.{size-map, empty-map}
@@ -31,10 +32,11 @@ use Rattle.tree.specs.Walk.{by-modes, walk, room}
 use Rattle.tree.specs.WellFormed.{most-nodes, nodes}
 use Rattle.shell.specs.Steps.{run-shell}
 use Rattle.shell.specs.Replies.{reply, after}
-use Rattle.store.specs.State.{Sessions, Registry, set-session}
-use Rattle.store.specs.RegistryLaws.{session-is-set}
+use Rattle.shell.specs.WholePaths.{account-paths, command-paths, meant-path, whole-command}
+use Rattle.store.specs.State.{Sessions, Registry, set-session, working-directory}
+use Rattle.store.specs.RegistryLaws.{session-is-set, directory-keeps-sessions}
 use Rattle.store.specs.Callers.{caller}
-use Rattle.machine.specs.AbstractMachine.{Abstract, Filed, new-entry, with-registry, dominated, filed-readable, abstract-login, abstract-logout, abstract-session, abstract-add, abstract-co, abstract-working, abstract-original, abstract-commit, abstract-up, abstract-del, abstract-account, abstract-entry, abstract-run, abstract-step, abstract-runs}
+use Rattle.machine.specs.AbstractMachine.{Abstract, Filed, new-entry, with-registry, dominated, filed-readable, abstract-login, abstract-logout, abstract-cd, abstract-session, abstract-add, abstract-co, abstract-working, abstract-original, abstract-commit, abstract-up, abstract-del, abstract-account, abstract-entry, abstract-run, abstract-step, abstract-runs}
 use Rattle.machine.specs.Runs.{Call}
 use Rattle.secrecy.specs.Redacted.{is-senior, without-seniors, admits-senior, is-junior's, by-junior, by-juniors}
 use Rattle.secrecy.specs.RedactedLaws.{redacted-entry, redacted-filed, hidden, redacted-abstract, hidden-twice, redacted-twice, insert-alike, remove-alike, revise-alike, kind-kept, readable-kept, writable-kept, walk-kept, parent-walk-kept, open-filed, copy-kept}
@@ -115,6 +117,14 @@ module _ (u : Setup) (r : Bounded-role) where
     unfolding abstract-logout redacted-abstract is-senior
     logout-kept = both (registry-kept _ (session-kept none refl))
 
+    cd-kept : (p : Path) → Agree Alike-outcomes (abstract-cd u h′ c p) (abstract-cd u h c p)
+    unfolding abstract-cd redacted-abstract
+    cd-kept p =
+        each (walk (by-modes (c .account)) (h .workspace) p) λ d _.
+        check WrongKind refl λ _.
+        check Access refl λ _.
+        both (registry-kept _ (rw (directory-keeps-sessions (h .registry) (c .account .uid) p) w))
+
     add-kept : (p : Path) (e : Entry-path) (q : Bounded-role) → Agree Alike-outcomes (abstract-add u h′ c p e q) (abstract-add u h c p e q)
     unfolding abstract-add abstract-session redacted-abstract
     add-kept p e q =
@@ -184,6 +194,7 @@ module _ (u : Setup) (r : Bounded-role) where
     unfolding abstract-account admits-senior
     account-kept (login z password) j = login-kept z password j
     account-kept logout j = logout-kept
+    account-kept (cd p) j = cd-kept p
 
     entry-kept : (command : Entry-command) → Agree Alike-outcomes (abstract-entry u h′ c command) (abstract-entry u h c command)
     unfolding abstract-entry
@@ -208,14 +219,24 @@ module _ (u : Setup) (r : Bounded-role) where
   unfolding by-junior
   line-junior o l e j = and-both (not (is-root (l .caller))) (is-junior's u r (l .command)) (rw e at j) .1
 
+  -- its command with whole paths is one too
+  whole-junior : (q : Path) (command : Typed-command) → Ensures (λ k. is-junior's u r k ≡ is-junior's u r command) (whole-command q command)
+  unfolding whole-command command-paths account-paths is-junior's admits-senior
+  whole-junior q (shell command) = then-do _ λ _ _. gives refl
+  whole-junior q (account (login z password)) = rw done-bind (gives refl)
+  whole-junior q (account logout) = rw done-bind (gives refl)
+  whole-junior q (account (cd p)) = then-step (then-do {P = λ d. admits-senior u r d ≡ false} (meant-path q p) λ x _. gives refl) λ d j. gives (rw j)
+  whole-junior q (entry command) = then-do _ λ _ _. gives refl
+
   step-kept : (call : Call) → by-junior u r (line (call .line)) ≡ true → (h : Abstract) → without-seniors u r (h .registry .sessions) ≡ true
       → Agree Alike-outcomes (abstract-step u (redacted-abstract r h) call) (abstract-step u h call)
-  unfolding abstract-step
+  unfolding abstract-step redacted-abstract
   step-kept call j h w =
       check ShortAnswer refl λ _.
       each (present (line (call .line)) NoForm) λ l i.
       each (caller u (l .caller)) λ c _.
-      run-kept c h w (l .command) (line-junior (line (call .line)) l (present-some (line (call .line)) NoForm i) j)
+      each (whole-command (working-directory (l .caller) (h .registry)) (l .command)) λ command e.
+      run-kept c h w command (done-with (whole-junior _ (l .command)) e ∙ line-junior (line (call .line)) l (present-some (line (call .line)) NoForm i) j)
 
   reply-alike : {a b : Result (Outcome Abstract)} → Agree Alike-outcomes a b → reply a ≡ reply b
   unfolding reply
