@@ -1,6 +1,6 @@
 -- Document 01's commands computed on the store and on the abstract machine: its wrong turns, what comes before a command,
 -- sessions, which of two failing checks decides, the last node and the last revision. What is alike in both machines' texts,
--- and so out of demand 3's sight, is bound here and in RepositoryCases.
+-- and so out of demand 3's sight, is bound here, in RepositoryCases and in DirectoryCases.
 use mathlib.Core.Path.{_≡_, refl}
 use mathlib.Core.List.{List, [], _∷_, _++_, map}
 use mathlib.Core.Option.{none}
@@ -41,7 +41,14 @@ replies run from room (accepted u) cases = replied cases (run u (from u) (calls 
 unfoldable pub roles : Text
 roles = bytes "p,1,1\np,2,2\ng,1,3\ng,2,3\nr,0,1\nr,0,2\nr,2,3\nl,0,1,yew\nl,1,0,oak\nl,1,1,ash\nl,2,0,fir\nend\n"
 
--- both machines answer so after that setup, from the states
+-- the store, and the abstract machine, answers so after that setup
+abbrev pub In-store : List Case → Type 0
+In-store cases = replies (runs store) initial-store 4096 (setup roles) cases ≡ cases
+
+abbrev pub In-abstract : List Case → Type 0
+In-abstract cases = replies abstract-runs initial-abstract 4096 (setup roles) cases ≡ cases
+
+-- both do, from the states
 abbrev Answered-from : (Setup → Store) → (Setup → Abstract) → ℕ → List Case → Type 0
 Answered-from s h room cases = (replies (runs store) s room (setup roles) cases ≡ cases) × (replies abstract-runs h room (setup roles) cases ≡ cases)
 
@@ -169,11 +176,11 @@ unreadable =
     "1,login,0,oak" gives 0 ∷
     "1,commit,/u1/c" gives 14 ∷ [])
 
-unreadable-in-store : replies (runs store) initial-store 4096 (setup roles) unreadable ≡ unreadable
+unreadable-in-store : In-store unreadable
 unfolding compute unreadable
 unreadable-in-store = refl
 
-unreadable-in-abstract : replies abstract-runs initial-abstract 4096 (setup roles) unreadable ≡ unreadable
+unreadable-in-abstract : In-abstract unreadable
 unfolding compute unreadable
 unreadable-in-abstract = refl
 

@@ -33,3 +33,4 @@ pub mod Theorems
 pub mod Compute
 pub mod Cases
 pub mod RepositoryCases
+pub mod DirectoryCases
