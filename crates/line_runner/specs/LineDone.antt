@@ -24,6 +24,9 @@ pub record Whole-meant (t : Text) (c : Typed) (k : Command) : Type 0 where
   pub means : whole-meaning t c ≡ some k
   pub in-range : is-command k ≡ true
 
+abbrev pub Some-whole : Text → Typed → Type 0
+Some-whole t c = (k : Command) × Whole-meant t c k
+
 -- a typed command that was read in a line
 pub record Some-typed (t : Text) (c : Typed) : Type 0 where
   pub command : Typed-command

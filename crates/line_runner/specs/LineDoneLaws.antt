@@ -1,9 +1,21 @@
--- What follows for a typed command where its paths were made whole, and where one would be too deep.
-use mathlib.Core.Path.{_≡_}
+-- What follows for a typed command where its paths are whole in its line or were made so in a second text, and where one would be too
+-- deep.
+use mathlib.Core.Path.{_≡_, refl, sym, _∙_, ap}
 use mathlib.Core.List.{List}
+use mathlib.Core.Option.{some}
+use mathlib.Core.Bool.{Bool, true, false, cond}
 use Prim.Native.Nat.{ℕ}
+use lib.ListN.{length}
+use Rattle.buffers.specs.Cases.{contra}
+use Rattle.buffers.specs.Text.{Text}
 use Rattle.accounts.specs.declared.Caller.{Caller}
+use Rattle.accounts.specs.declared.Uid.{Uid}
+use Rattle.syntax.specs.Path.{Path, is-path, path, path-text}
+use Rattle.syntax.specs.PathLaws.{path-of-text}
+use Rattle.commands.specs.declared.Typed.{Typed}
 use Rattle.commands.specs.Command.{Command, Typed-command}
+use Rattle.commands.specs.Parsed.{whole-meaning, Typed-read}
+use Rattle.commands.specs.Meaning.{Typed-meant}
 use Rattle.tree.specs.declared.Cause.the-variants.{TooDeep}
 use Rattle.tree.specs.Result.{refused, done}
 use Rattle.tree.specs.ResultLaws.{done-bind, refused-bind}
@@ -12,11 +24,75 @@ use Rattle.shell.specs.declared.Answer.the-variants.{Refused}
 use Rattle.shell.specs.CommandBytes.{Carries}
 use Rattle.shell.specs.CommandBytesLaws.{refusal-follows}
 use Rattle.shell.specs.WholePaths.{whole-command}
+use Rattle.shell.specs.WholePathsLaws.{whole-in-range}
 use Rattle.store.specs.State.{working-directory, State}
+use Rattle.store.specs.RegistryLaws.{working-directory-is-path}
 use Rattle.machine.specs.Machine.{run}
 use Rattle.machine.specs.StoreMachine.{store}
-use Rattle.stored_header.specs.Stored.{bytes-with}
-use Rattle.line_runner.specs.LineDone.{joins-and-runs}
+use Rattle.stored_header.specs.Stored.{Stored, bytes-with}
+use Rattle.whole_paths.specs.declared.Whole.{Whole}
+use Rattle.whole_paths.specs.declared.Whole.the-variants as w
+use Rattle.whole_paths.specs.WholeText.{text-width, any-short, any-deep, whole-typed, whole-text, whole-or-deep}
+use Rattle.whole_paths.specs.WholeTextLaws.{unshort-done, deep-refused, not-deep-done}
+use Rattle.line_runner.specs.LineDone.{Whole-meant, joins-and-runs}
+
+-- ---- the directory
+
+module _ {b : List ℕ} {s : State} (h : Stored b s) (uid : Uid) where
+  kept-is-path : is-path (working-directory uid (s .store .registry)) ≡ true
+  kept-is-path = working-directory-is-path (s .store .registry) uid (h .header .registered)
+
+  -- its text reads as it
+  pub directory-reads : (d : Text) → d ≡ path-text (working-directory uid (s .store .registry)) → path d ≡ some (working-directory uid (s .store .registry))
+  directory-reads d e = ap path e ∙ path-of-text (working-directory uid (s .store .registry)) kept-is-path
+
+-- ---- the whole command
+
+-- what was told of the second text
+told-in : (deep : Bool) (c : Typed) {moved : Typed} → cond deep w.TooDeep (w.In c) ≡ w.In moved → (deep ≡ false) × (c ≡ moved)
+told-in true c e = contra {b = true} refl (cc)
+told-in false c e = (refl, cc)
+
+told-deep : (deep : Bool) (c : Typed) → cond deep w.TooDeep (w.In c) ≡ w.TooDeep → deep ≡ true
+told-deep true c e = refl
+told-deep false c e = contra {b = true} refl (cc)
+
+-- a whole command that is made in a text, of a command that was typed in a directory
+pub record Made-whole (q : Path) (k : Typed-command) (t : Text) (c : Typed) : Type 0 where
+  pub command : Command
+  pub is-whole : whole-command q k ≡ done command
+  pub meant : Whole-meant t c command
+
+module _ {b : List ℕ} {s : State} (h : Stored b s) (uid : Uid) {t : Text} {c : Typed} {k : Typed-command} (m : Typed-meant t c k) (i : Typed-read t c) where
+  abbrev directory : Path
+  directory = working-directory uid (s .store .registry)
+
+  made-of : {x : Text} {d : Typed} → (l : Command) × (whole-command directory k ≡ done l) × (whole-meaning x d ≡ some l) → Made-whole directory k x d
+  made-of j = record {
+    command = j .0;
+    is-whole = j .1;
+    meant = record { means = j .2; in-range = whole-in-range directory k (j .1) (kept-is-path h uid) (m .in-range) };
+  }
+
+  -- without short paths it is made in the line
+  pub line-made : any-short t c ≡ false → Made-whole directory k t c
+  line-made e = made-of (unshort-done t c k e i m directory)
+
+  -- with them in the second text, or one is too deep
+  module _ (d : Text) (same : d ≡ path-text directory) (x : List ℕ) (wide : length x ≡ text-width) {r : Whole} (told : r ≡ whole-or-deep d t c x) where
+    pub text-made : (y : Text) → y ≡ whole-text d t c x → {moved : Typed} → r ≡ w.In moved → Made-whole directory k y moved
+    unfolding whole-or-deep
+    text-made y left e =
+        let j = told-in (any-deep (whole-text d t c x) (whole-typed d t c)) (whole-typed d t c) (sym told ∙ e) in
+        rw (left, ← j .1) (made-of (not-deep-done d directory (directory-reads h uid d same) t c i k m x wide (j .0)))
+
+    pub text-too-deep : r ≡ w.TooDeep → whole-command directory k ≡ refused TooDeep
+    unfolding whole-or-deep
+    text-too-deep e =
+        deep-refused d directory (directory-reads h uid d same) t c i k m x wide
+        (told-deep (any-deep (whole-text d t c x) (whole-typed d t c)) (whole-typed d t c) (sym told ∙ e))
+
+-- ---- what is carried out
 
 module _ (s : State) (c : Caller) (k : Typed-command) where
   -- the whole command carried out is the typed one

@@ -1,0 +1,5 @@
+pub mod WholeText
+pub mod WrittenLaws
+pub mod StandsLaws
+pub mod CarriedLaws
+pub mod WholeTextLaws

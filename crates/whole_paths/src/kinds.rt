@@ -1,0 +1,98 @@
+// Which arguments are paths, which have a text, and which paths are short or too deep.
+ghost use mathlib.Core.Path.{_≡_};
+ghost use Rattle.syntax.specs.Path.{begins-with-slash};
+ghost use Rattle.commands.specs.Parsed.{Typed-read};
+ghost use Rattle.whole_paths.specs.WholeText.{is-path-kind, has-text, is-short, is-deep, any-short, any-deep, Arguments-inside};
+use arguments::ArgumentKind;
+use commands::Typed;
+use commands::part;
+use syntax::is_path;
+
+// Whether an argument of this kind is a path, which may be short.
+fn is_path_kind(kind: ArgumentKind) -> bool
+    ensures { λ r. ⌜ r ≡ is-path-kind kind ⌝ }
+{
+    match kind {
+        ArgumentKind::Path => true,
+        _ => false,
+    }
+}
+
+// Whether one of this kind is a text; any other is its number.
+pub fn has_text(kind: ArgumentKind) -> bool
+    ensures { λ r. ⌜ r ≡ has-text kind ⌝ }
+{
+    match kind {
+        ArgumentKind::Path | ArgumentKind::Entry | ArgumentKind::Password | ArgumentKind::Content =>
+            true,
+        _ => false,
+    }
+}
+
+// Whether a text begins with `/`.
+fn begins_with_slash(s: &[u8]) -> bool
+    ensures { λ r. ⌜ r ≡ begins-with-slash (now (s .entry)) ⌝ }
+{
+    if s.len() == 0 {
+        return false;
+    }
+    s[0] == b'/'
+}
+
+// Whether an argument is a short path.
+pub fn is_short(kind: ArgumentKind, s: &[u8]) -> bool
+    ensures { λ r. ⌜ r ≡ is-short kind (now (s .entry)) ⌝ }
+{
+    if is_path_kind(kind) {
+        return !begins_with_slash(s);
+    }
+    false
+}
+
+// Whether an argument is a path with too many names, where it is a path or several paths joined.
+fn is_deep(kind: ArgumentKind, s: &[u8]) -> bool
+    ensures { λ r. ⌜ r ≡ is-deep kind (now (s .entry)) ⌝ }
+{
+    if is_path_kind(kind) {
+        return !is_path(s);
+    }
+    false
+}
+
+// Whether an argument of a command is a short path.
+pub fn any_short(line: &[u8], typed: Typed) -> bool
+    requires { ⌜ Typed-read (now line) typed ⌝ }
+    ensures { λ r. ⌜ r ≡ any-short (now (line .entry)) typed ⌝ }
+{
+    let shape = typed.shape;
+    let f = typed.fields;
+    let first = shape.first;
+    if is_short(first, part(line, f.first)) {
+        return true;
+    }
+    let second = shape.second;
+    if is_short(second, part(line, f.second)) {
+        return true;
+    }
+    let third = shape.third;
+    is_short(third, part(line, f.third))
+}
+
+// Whether one has too many names.
+pub fn any_deep(text: &[u8], typed: Typed) -> bool
+    requires { ⌜ Arguments-inside (now text) typed ⌝ }
+    ensures { λ r. ⌜ r ≡ any-deep (now (text .entry)) typed ⌝ }
+{
+    let shape = typed.shape;
+    let f = typed.fields;
+    let first = shape.first;
+    if is_deep(first, part(text, f.first)) {
+        return true;
+    }
+    let second = shape.second;
+    if is_deep(second, part(text, f.second)) {
+        return true;
+    }
+    let third = shape.third;
+    is_deep(third, part(text, f.third))
+}
