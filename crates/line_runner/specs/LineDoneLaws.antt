@@ -1,12 +1,11 @@
 -- What follows for a typed command where its paths are whole in its line or were made so in a second text, and where one would be too
 -- deep.
-use mathlib.Core.Path.{_≡_, refl, sym, _∙_, ap}
+use mathlib.Core.Path.{_≡_, sym, _∙_, ap}
 use mathlib.Core.List.{List}
 use mathlib.Core.Option.{some}
-use mathlib.Core.Bool.{Bool, true, false, cond}
+use mathlib.Core.Bool.{true, false}
 use Prim.Native.Nat.{ℕ}
 use lib.ListN.{length}
-use Rattle.buffers.specs.Cases.{contra}
 use Rattle.buffers.specs.Text.{Text}
 use Rattle.accounts.specs.declared.Caller.{Caller}
 use Rattle.accounts.specs.declared.Uid.{Uid}
@@ -32,8 +31,8 @@ use Rattle.machine.specs.StoreMachine.{store}
 use Rattle.stored_header.specs.Stored.{Stored, bytes-with}
 use Rattle.whole_paths.specs.declared.Whole.{Whole}
 use Rattle.whole_paths.specs.declared.Whole.the-variants as w
-use Rattle.whole_paths.specs.WholeText.{text-width, any-short, any-deep, whole-typed, whole-text, whole-or-deep}
-use Rattle.whole_paths.specs.WholeTextLaws.{unshort-done, deep-refused, not-deep-done}
+use Rattle.whole_paths.specs.WholeText.{text-width, any-short, whole-text, whole-or-deep}
+use Rattle.whole_paths.specs.WholeTextLaws.{unshort-done, deep-told, whole-told}
 use Rattle.line_runner.specs.LineDone.{Whole-meant, joins-and-runs}
 
 -- ---- the directory
@@ -47,15 +46,6 @@ module _ {b : List ℕ} {s : State} (h : Stored b s) (uid : Uid) where
   directory-reads d e = ap path e ∙ path-of-text (working-directory uid (s .store .registry)) kept-is-path
 
 -- ---- the whole command
-
--- what was told of the second text
-told-in : (deep : Bool) (c : Typed) {moved : Typed} → cond deep w.TooDeep (w.In c) ≡ w.In moved → (deep ≡ false) × (c ≡ moved)
-told-in true c e = contra {b = true} refl (cc)
-told-in false c e = (refl, cc)
-
-told-deep : (deep : Bool) (c : Typed) → cond deep w.TooDeep (w.In c) ≡ w.TooDeep → deep ≡ true
-told-deep true c e = refl
-told-deep false c e = contra {b = true} refl (cc)
 
 -- a whole command that is made in a text, of a command that was typed in a directory
 pub record Made-whole (q : Path) (k : Typed-command) (t : Text) (c : Typed) : Type 0 where
@@ -81,16 +71,10 @@ module _ {b : List ℕ} {s : State} (h : Stored b s) (uid : Uid) {t : Text} {c :
   -- with them in the second text, or one is too deep
   module _ (d : Text) (same : d ≡ path-text directory) (x : List ℕ) (wide : length x ≡ text-width) {r : Whole} (told : r ≡ whole-or-deep d t c x) where
     pub text-made : (y : Text) → y ≡ whole-text d t c x → {moved : Typed} → r ≡ w.In moved → Made-whole directory k y moved
-    unfolding whole-or-deep
-    text-made y left e =
-        let j = told-in (any-deep (whole-text d t c x) (whole-typed d t c)) (whole-typed d t c) (sym told ∙ e) in
-        rw (left, ← j .1) (made-of (not-deep-done d directory (directory-reads h uid d same) t c i k m x wide (j .0)))
+    text-made y left e = rw left (made-of (whole-told d directory (directory-reads h uid d same) t c i k m x wide (sym e ∙ told)))
 
     pub text-too-deep : r ≡ w.TooDeep → whole-command directory k ≡ refused TooDeep
-    unfolding whole-or-deep
-    text-too-deep e =
-        deep-refused d directory (directory-reads h uid d same) t c i k m x wide
-        (told-deep (any-deep (whole-text d t c x) (whole-typed d t c)) (whole-typed d t c) (sym told ∙ e))
+    text-too-deep e = deep-told d directory (directory-reads h uid d same) t c i k m x wide (sym e ∙ told)
 
 -- ---- what is carried out
 

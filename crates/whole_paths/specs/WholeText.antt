@@ -48,10 +48,11 @@ has-text a.Password = true
 has-text a.Content = true
 has-text a.Absent = false
 
+-- a path that does not begin with `/`
 unfoldable pub is-short : ArgumentKind → Text → Bool
 is-short k x = is-path-kind k && not (begins-with-slash x)
 
--- a path that does not read as one: where directories were put in front, too many names
+-- a path that does not read as one: behind the directory it has too many names
 unfoldable pub is-deep : ArgumentKind → Text → Bool
 is-deep k x = is-path-kind k && not (is-some (path x))
 

@@ -32,7 +32,8 @@ use Rattle.tree.specs.declared.Cause.the-variants.{TooDeep}
 use Rattle.tree.specs.Result.{Result, refused, done}
 use Rattle.shell.specs.WholePaths.{whole-command}
 use Rattle.shell.specs.WholePathsLaws.{whole-only-too-deep}
-use Rattle.whole_paths.specs.WholeText.{is-path-kind, is-short, is-deep, front-length, joined-text, argument-text, any-argument, any-short, any-deep, text-width, first-text, second-text, third-text, whole-typed, whole-text, made}
+use Rattle.whole_paths.specs.declared.Whole.the-variants as answer
+use Rattle.whole_paths.specs.WholeText.{is-path-kind, is-short, is-deep, front-length, joined-text, argument-text, any-argument, any-short, any-deep, text-width, first-text, second-text, third-text, whole-typed, whole-text, whole-or-deep, made}
 use Rattle.whole_paths.specs.WrittenLaws.{short-written, text-written}
 use Rattle.whole_paths.specs.StandsLaws.{formed, whole-inside, first-stands, second-stands, third-stands}
 use Rattle.whole_paths.specs.CarriedLaws.{Moved, Argument-moved, some-deep, Each-moved, word-carried}
@@ -209,3 +210,23 @@ module _ (d : Text) (q : Path) (here : path d ≡ some q) where
     pub not-deep-done : any-deep (whole-text d t c b) (whole-typed d t c) ≡ false
         → (l : Command) × (whole-command q k ≡ done l) × (whole-meaning (whole-text d t c b) (whole-typed d t c) ≡ some l)
     not-deep-done e = done-unless-deep written e
+
+    -- so the code's answer tells
+    pub deep-told : answer.TooDeep ≡ whole-or-deep d t c b → whole-command q k ≡ refused TooDeep
+    unfolding whole-or-deep
+    deep-told e = case (any-deep (whole-text d t c b) (whole-typed d t c)) deep-refused (λ h. differ (rw h at e))
+      where
+        differ : {P : Type 0} {m : Typed} → answer.TooDeep ≡ answer.In m → P
+        differ f = contra {b = true} refl (cc)
+
+    pub whole-told : {m : Typed} → answer.In m ≡ whole-or-deep d t c b
+        → (l : Command) × (whole-command q k ≡ done l) × (whole-meaning (whole-text d t c b) m ≡ some l)
+    unfolding whole-or-deep
+    whole-told {m} e = case (any-deep (whole-text d t c b) (whole-typed d t c)) (λ h. differ (rw h at e)) (λ h. as-told (not-deep-done h) (rw h at e))
+      where
+        differ : {P : Type 0} → answer.In m ≡ answer.TooDeep → P
+        differ f = contra {b = true} refl (cc)
+
+        as-told : (l : Command) × (whole-command q k ≡ done l) × (whole-meaning (whole-text d t c b) (whole-typed d t c) ≡ some l) → answer.In m ≡ answer.In (whole-typed d t c)
+            → (l : Command) × (whole-command q k ≡ done l) × (whole-meaning (whole-text d t c b) m ≡ some l)
+        as-told i f = let g : m ≡ whole-typed d t c = cc in (i .0, i .1, rw g (i .2))

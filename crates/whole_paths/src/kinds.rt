@@ -8,7 +8,7 @@ use commands::Typed;
 use commands::part;
 use syntax::is_path;
 
-// Whether an argument of this kind is a path, which may be short.
+// Whether an argument of this kind is a path, which may be short; an entry path is always whole.
 fn is_path_kind(kind: ArgumentKind) -> bool
     ensures { λ r. ⌜ r ≡ is-path-kind kind ⌝ }
 {
@@ -49,7 +49,7 @@ pub fn is_short(kind: ArgumentKind, s: &[u8]) -> bool
     false
 }
 
-// Whether an argument is a path with too many names, where it is a path or several paths joined.
+// Whether an argument is a path that does not read as one: behind the directory it has too many names.
 fn is_deep(kind: ArgumentKind, s: &[u8]) -> bool
     ensures { λ r. ⌜ r ≡ is-deep kind (now (s .entry)) ⌝ }
 {
@@ -78,7 +78,7 @@ pub fn any_short(line: &[u8], typed: Typed) -> bool
     is_short(third, part(line, f.third))
 }
 
-// Whether one has too many names.
+// Whether one is a path with too many names.
 pub fn any_deep(text: &[u8], typed: Typed) -> bool
     requires { ⌜ Arguments-inside (now text) typed ⌝ }
     ensures { λ r. ⌜ r ≡ any-deep (now (text .entry)) typed ⌝ }

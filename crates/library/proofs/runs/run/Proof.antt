@@ -1,10 +1,10 @@
 -- `library::runs::run` meets its contract: the answer buffer's length, then the store, then the line's form, then who calls decide.
-use mathlib.Core.Path.{sym, _∙_, ap, refl}
+use mathlib.Core.Path.{sym, _∙_, ap, refl, subst}
 use native.Mathlib.Omega.{arith}
 use denote.Ref.{now}
 use Rattle.buffers.specs.Cases.{answers-false, answers-true}
 use Rattle.syntax.specs.FormLaws.{the-some}
-use Rattle.commands.specs.Parsed.{parsed}
+use Rattle.commands.specs.Parsed.{parsed, Read-in}
 use Rattle.commands.specs.MeaningLaws.{parsed-none, parsed-line}
 use Rattle.store.specs.StoreBytes.{decode}
 use Rattle.stored_header.specs.StoredLaws.{read-stored}
@@ -46,8 +46,9 @@ by-caller-requires c κs =
     let wide = held .before .before in
     let a = wide .before .before .before .before .args in
     let s = the-some (decode (now (a .store))) (answers-true (held .holds-store .ensures) (p .before .if2 .left)) in
-    let l = parsed-line (now (a .line)) _ _ (ap (parsed (now (a .line))) (sym (is .caller .given .1)) ∙ p .parse .ensures) in
-    ((s .0, read-stored _ (s .0) (s .1)), ((l .0, l .1), omega (arith, wide .if1 .left)))
+    let l = parsed-line (now (a .line)) _ _ (ap (parsed (now (a .line))) (sym (is .caller .given .1)) ∙ p .parse .ensures .0) in
+    let read = subst (Read-in (now (a .line))) (is .caller .given .1) (p .parse .ensures .1) in
+    ((s .0, read-stored _ (s .0) (s .1)), (record { command = l .0; meant = l .1; read = read }, omega (arith, wide .if1 .left)))
 
 same-length-2 : tie.Need-same-length-2
 same-length-2 c = refl
@@ -59,7 +60,7 @@ returns-3 c =
     let wide = held .before .before in
     let a = wide .before .before .before .before .args in
     let s = the-some (decode (now (a .store))) (answers-true (held .holds-store .ensures) (p .before .if2 .left)) in
-    let n = parsed-none (now (a .line)) (ap (parsed (now (a .line))) (sym (c .enum-told .given .1)) ∙ p .parse .ensures) in
+    let n = parsed-none (now (a .line)) (ap (parsed (now (a .line))) (sym (c .enum-told .given .1)) ∙ p .parse .ensures .0) in
     run-unformed (now (a .store)) (now (a .answer)) (now (a .line)) (s .0) (omega (arith, wide .if1 .left)) (s .1) n
 
 same-length-3 : tie.Need-same-length-3
@@ -76,7 +77,7 @@ returns-4 c =
     let wide = held .before .before in
     let a = wide .before .before .before .before .args in
     let s = the-some (decode (now (a .store))) (answers-true (held .holds-store .ensures) (p .before .if2 .left)) in
-    let l = parsed-line (now (a .line)) _ _ (ap (parsed (now (a .line))) (sym (is .caller .given .1)) ∙ p .parse .ensures) in
+    let l = parsed-line (now (a .line)) _ _ (ap (parsed (now (a .line))) (sym (is .caller .given .1)) ∙ p .parse .ensures .0) in
     let called = c .before .before .before .before .by-caller .ensures (s .0) (l .0) (read-stored _ (s .0) (s .1)) (l .1) in
     run-carried (now (a .store)) (now (a .answer)) (now (a .line)) (s .0) (omega (arith, wide .if1 .left)) (s .1) _ (l .0) (l .2) called
 
