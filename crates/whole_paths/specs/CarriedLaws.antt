@@ -4,6 +4,8 @@ use mathlib.Core.Path.{_≡_, refl, sym, ap, _∙_}
 use mathlib.Core.List.{List, [], _∷_, _++_}
 use mathlib.Core.Option.{Option, none, some}
 use mathlib.Core.Bool.{Bool, true, false, _||_, not}
+use Prim.Native.Nat.{_+_}
+use lib.Dec.{leb}
 use Rattle.buffers.specs.Cases.{contra}
 use Rattle.buffers.specs.Text.{Text}
 use Rattle.syntax.specs.Form.{_>>=_, _>>_, check, is-some}
@@ -20,9 +22,8 @@ use Rattle.commands.specs.declared.Word.the-variants.{Create, Mkdir, Read, Writ
 use Rattle.commands.specs.Command.{create, mkdir, read, write, rm, rmdir, mv, chmod, chgrp, chown, cd, add, co, commit, up, Command, Typed-command, shell, account, entry, takes, listed}
 use Rattle.tree.specs.declared.Cause.the-variants.{TooDeep}
 use Rattle.tree.specs.Result.{Result, refused, done, _>>=_ as _then_, _>>_ as _upon_, require}
+use Rattle.tree.specs.ResultLaws.{done-then, refused-then, done-bind, refused-bind, require-true, require-false}
 use Rattle.shell.specs.WholePaths.{shell-paths, account-paths, entry-paths, command-paths, meant-path, whole-command}
-use lib.Dec.{leb}
-use Prim.Native.Nat.{_+_}
 use Rattle.whole_paths.specs.WholeText.{is-path-kind, has-text, is-short, is-deep, made}
 
 -- ---- one argument
@@ -54,9 +55,9 @@ whole-value q a.Absent v = done v
 
 -- a check made by a reader, and by a command
 checks-agree : {A : Type 0} (b : Bool) (x : A) → (check b >> some x) ≡ made (require b TooDeep upon done x)
-unfolding check _>>_ require _upon_ made
-checks-agree true x = refl
-checks-agree false x = refl
+unfolding check _>>_ made
+checks-agree true x = rw (require-true, done-then)
+checks-agree false x = rw (require-false, refused-then)
 
 path-carried : (q : Path) (x y : Text) (p : Typed-path) → typed-path x ≡ some p → Moved q a.Path x y → path y ≡ made (meant-path q p)
 unfolding meant-path made is-short is-path-kind has-text
@@ -172,21 +173,21 @@ module _ (q : Path) (t u : Text) {X : Type 0} (Y : Type 0) where
 -- ---- the command of a word
 
 one-path : {K : Type 0} (r : Result Path) (make : Path → K) (of : K → Command) → made ((r then λ p. done (make p)) then λ k. done (of k)) ≡ (made r >>= λ p. some (of (make p)))
-unfolding _then_ _>>=_ made
-one-path (refused why) make of = refl
-one-path (done p) make of = refl
+unfolding _>>=_ made
+one-path (refused why) make of = rw (refused-bind, refused-bind)
+one-path (done p) make of = rw (done-bind, done-bind)
 
 two-paths : {K : Type 0} (r s : Result Path) (make : Path → Path → K) (of : K → Command)
     → made ((r then λ p. s then λ o. done (make p o)) then λ k. done (of k)) ≡ (made r >>= λ p. made s >>= λ o. some (of (make p o)))
-unfolding _then_ _>>=_ made
-two-paths (refused why) s make of = refl
-two-paths (done p) (refused why) make of = refl
-two-paths (done p) (done o) make of = refl
+unfolding _>>=_ made
+two-paths (refused why) s make of = rw (refused-bind, refused-bind)
+two-paths (done p) (refused why) make of = rw (done-bind, refused-bind, refused-bind)
+two-paths (done p) (done o) make of = rw (done-bind, done-bind, done-bind)
 
 -- the directory in front of the short paths of what the values make is what the values that are meant make
 word-whole : (q : Path) (w : Word) (vs : Values (listed w .kinds))
     → made (whole-command q (made-of (listed w .kinds) (listed w .makes Typed-path) vs)) ≡ made-whole q (listed w .kinds) (listed w .makes Path) vs
-unfolding listed takes Values made-of made-whole whole-value made _>>=_ _then_ whole-command command-paths shell-paths account-paths entry-paths
+unfolding listed takes Values made-of made-whole whole-value made _>>=_ whole-command command-paths shell-paths account-paths entry-paths
 word-whole q Create vs = one-path (meant-path q (vs .0)) (λ p. create p (vs .1 .0)) shell
 word-whole q Mkdir vs = one-path (meant-path q (vs .0)) (λ p. mkdir p (vs .1 .0)) shell
 word-whole q Read vs = one-path (meant-path q (vs .0)) read shell
@@ -197,14 +198,14 @@ word-whole q Mv vs = two-paths (meant-path q (vs .0)) (meant-path q (vs .1 .0)) 
 word-whole q Chmod vs = one-path (meant-path q (vs .0)) (λ p. chmod p (vs .1 .0)) shell
 word-whole q Chgrp vs = one-path (meant-path q (vs .0)) (λ p. chgrp p (vs .1 .0)) shell
 word-whole q Chown vs = one-path (meant-path q (vs .0)) (λ p. chown p (vs .1 .0)) shell
-word-whole q Login vs = refl
-word-whole q Logout vs = refl
+word-whole q Login vs = rw done-bind
+word-whole q Logout vs = rw done-bind
 word-whole q Cd vs = one-path (meant-path q (vs .0)) cd account
 word-whole q Add vs = one-path (meant-path q (vs .0)) (λ p. add p (vs .1 .0) (vs .1 .1 .0)) entry
 word-whole q Co vs = one-path (meant-path q (vs .1 .0)) (co (vs .0)) entry
 word-whole q Commit vs = one-path (meant-path q (vs .0)) commit entry
 word-whole q Up vs = one-path (meant-path q (vs .0)) up entry
-word-whole q Del vs = refl
+word-whole q Del vs = rw done-bind
 
 -- arguments that stand for those of a typed command make it with the directory in front, where none is too deep
 pub record Made-whole (q : Path) (u : Text) (w : Word) (ws : List Argument) (k : Typed-command) : Type 0 where
