@@ -157,8 +157,10 @@ junior =
     "2,co,/rep/d/a,/u2/a" gives 5 ∷
     "2,co,/rep/d,/u2/w" gives 0 ∷
     "2,read,/u2/w" shows "b" ∷
-    "2,read,/u1/c" shows "51" ∷
-    "2,commit,/u1/c" gives 5 ∷
+    "2,cd,/rep/d" gives 5 ∷
+    "2,cd,/u1" gives 0 ∷
+    "2,read,c" shows "51" ∷
+    "2,commit,c" gives 5 ∷
     "2,del,/rep/d/a" gives 5 ∷
     "2,write,/u2/w/b,t" gives 0 ∷
     "2,commit,/u2/w/b" gives 0 ∷
