@@ -1,7 +1,7 @@
--- `soundness::zeros::is_zero_in_blocks` meets its contract: what is left is all 0 just if the whole is.
+-- `soundness::zeros::is_zero_in_blocks` meets its contract: what is left in front is all 0 just if the whole is.
 use mathlib.Core.Path.{_≡_, refl, sym, _∙_, ap}
 use mathlib.Core.List.{List}
-use mathlib.Core.Bool.{Bool, true, false, _&&_}
+use mathlib.Core.Bool.{Bool, true, false, _&&_, and-false, and-true}
 use Prim.Native.Nat.{ℕ, _≤_, _-_, _+_}
 use native.Mathlib.Omega.{arith}
 use lib.Dec.{eqb}
@@ -14,40 +14,45 @@ use Rattle.buffers.specs.Fields.{all-zero, zeros-at}
 use Rattle.soundness.proofs.zeros.is_zero_in_blocks.Statement.{statement}
 use Rattle.soundness.proofs.zeros.is_zero_in_blocks.Tie as tie
 
-module _ (s : List ℕ) (to i : ℕ) (h : 256 ≤ to - i) where
-  -- a block and what is behind it
-  by-block : zeros-at i (to - i) s ≡ (zeros-at i (i + 256 - i) s && zeros-at (i + 256) (to - (i + 256)) s)
+module _ (s : List ℕ) (from end : ℕ) (h : from + 256 ≤ end) where
+  -- the last block and what is before it
+  by-block : zeros-at from (end - from) s ≡ (zeros-at from (end - 256 - from) s && zeros-at (end - 256) (end - 256 + 256 - (end - 256)) s)
   unfolding zeros-at all-zero
   by-block =
-      let left = to - (i + 256) in
-      let q : to - i ≡ 256 + left = omega arith in
-      let p : i + 256 - i ≡ 256 = omega arith in
+      let left = end - 256 - from in
+      let q : end - from ≡ left + 256 = omega arith in
+      let p : end - 256 + 256 - (end - 256) ≡ 256 = omega arith in
+      let at : from + left ≡ end - 256 = omega arith in
       rw (q, p)
-      (ap all-zero (take-add 256 left (drop i s))
-      ∙ every-append (λ (b : ℕ). eqb b 0) (take 256 (drop i s)) (take left (drop 256 (drop i s)))
-      ∙ ap (λ (l : List ℕ). all-zero (take 256 (drop i s)) && all-zero (take left l)) (drop-drop 256 i s))
+      (ap all-zero (take-add left 256 (drop from s))
+      ∙ every-append (λ (b : ℕ). eqb b 0) (take left (drop from s)) (take 256 (drop left (drop from s)))
+      ∙ ap (λ (l : List ℕ). all-zero (take left (drop from s)) && all-zero (take 256 l)) (drop-drop left from s ∙ ap (λ (n : ℕ). drop n s) at))
 
-  misses : zeros-at i (i + 256 - i) s ≡ false → false ≡ zeros-at i (to - i) s
-  misses e = sym (by-block ∙ ap (λ (b : Bool). b && zeros-at (i + 256) (to - (i + 256)) s) e)
+  misses : zeros-at (end - 256) (end - 256 + 256 - (end - 256)) s ≡ false → false ≡ zeros-at from (end - from) s
+  misses e = sym (by-block ∙ ap (λ (b : Bool). zeros-at from (end - 256 - from) s && b) e ∙ and-false (zeros-at from (end - 256 - from) s))
 
-  goes-on : zeros-at i (i + 256 - i) s ≡ true → zeros-at (i + 256) (to - (i + 256)) s ≡ zeros-at i (to - i) s
-  goes-on e = sym (by-block ∙ ap (λ (b : Bool). b && zeros-at (i + 256) (to - (i + 256)) s) e)
+  goes-on : zeros-at (end - 256) (end - 256 + 256 - (end - 256)) s ≡ true → zeros-at from (end - 256 - from) s ≡ zeros-at from (end - from) s
+  goes-on e = sym (by-block ∙ ap (λ (b : Bool). zeros-at from (end - 256 - from) s && b) e ∙ and-true (zeros-at from (end - 256 - from) s))
 
-record Going (s : List ℕ) (from to i : ℕ) : Type 0 where
-  le : i ≤ to
-  goes : zeros-at i (to - i) s ≡ zeros-at from (to - from) s
+record Going (s : List ℕ) (from to end : ℕ) : Type 0 where
+  begun : from ≤ end
+  le : end ≤ to
+  goes : zeros-at from (end - from) s ≡ zeros-at from (to - from) s
 
 abbrev Inv-loop : tie.InvT-loop
-Inv-loop s from to i₀ i = Going s from to i
+Inv-loop s from to end₀ end = Going s from to end
 
 abbrev μ-loop : tie.MeasureT-loop
-μ-loop s from to i₀ i = to - i
+μ-loop s from to end₀ end = end
 
 loop-holds : tie.Need-loop-holds Inv-loop μ-loop
-loop-holds c = record { le = omega arith; goes = refl }
+loop-holds c = record { begun = omega arith; le = omega arith; goes = refl }
 
 sub-loop : tie.Need-sub-loop Inv-loop μ-loop
 sub-loop c = omega arith
+
+sub-end : tie.Need-sub-end Inv-loop μ-loop
+sub-end c = omega arith
 
 add-is-zero : tie.Need-add-is-zero Inv-loop μ-loop
 add-is-zero c = omega arith
@@ -59,10 +64,7 @@ returns : tie.Need-returns Inv-loop μ-loop
 returns c =
     let l = c .before .before .before .loop in
     let a = c .before .before .before .before .before .args in
-    misses (now (a .s)) (a .to) (l .i) (omega arith) (answers-false (c .before .is-zero .ensures) (c .if1 .taken)) ∙ l .inv .goes
-
-add-i : tie.Need-add-i Inv-loop μ-loop
-add-i c = omega arith
+    misses (now (a .s)) (a .from) (l .end) (omega arith) (answers-false (c .before .is-zero .ensures) (c .if1 .taken)) ∙ l .inv .goes
 
 loop-less : tie.Need-loop-less Inv-loop μ-loop
 loop-less c = omega arith
@@ -72,8 +74,9 @@ loop-again c =
     let l = c .before .before .before .loop in
     let a = c .before .before .before .before .before .args in
     record {
+      begun = omega arith;
       le = omega arith;
-      goes = goes-on (now (a .s)) (a .to) (l .i) (omega arith) (answers-true (c .before .is-zero .ensures) (c .if1 .left)) ∙ l .inv .goes;
+      goes = goes-on (now (a .s)) (a .from) (l .end) (omega arith) (answers-true (c .before .is-zero .ensures) (c .if1 .left)) ∙ l .inv .goes;
     }
 
 is-zero-requires-2 : tie.Need-is-zero-requires-2 Inv-loop μ-loop
@@ -90,10 +93,10 @@ is-zero-in-blocks-spec =
     μ-loop
     loop-holds
     sub-loop
+    sub-end
     add-is-zero
     is-zero-requires
     returns
-    add-i
     loop-less
     loop-again
     is-zero-requires-2
