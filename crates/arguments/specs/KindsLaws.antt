@@ -64,7 +64,7 @@ unfolding plain-mode _>>=_
 no-plain-mode t e = rw (← e)
 
 -- a text has a form that has no number where the code reads 0
-formed : (b : Bool) (n : ℕ) → some n ≡ zero-if b → b ≡ true
+pub formed : (b : Bool) (n : ℕ) → some n ≡ zero-if b → b ≡ true
 unfolding zero-if check _>>_
 formed true n e = refl
 formed false n e = no-answer (sym e)

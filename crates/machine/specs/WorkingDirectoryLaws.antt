@@ -1,11 +1,10 @@
 -- Only a done `cd` moves a working directory, and that of its caller alone.
 use mathlib.Core.Path.{_≡_, refl, ap}
-use mathlib.Core.Logic.{_⊎_, inl, inr}
+use mathlib.Core.Logic.{inl, inr}
 use borrow.Author.Tests.{eqb-true, eqb-false}
 use lib.Dec.{eqb}
 use Rattle.buffers.specs.Cases.{case}
 use Rattle.accounts.specs.declared.Caller.{Caller}
-use Rattle.accounts.specs.declared.Uid.{Uid}
 use Rattle.syntax.specs.Path.{Path}
 use Rattle.commands.specs.Command.{Account-command, login, logout, cd, Command, shell, account, entry}
 use Rattle.setup.specs.Setup.{Setup}
@@ -18,7 +17,7 @@ use Rattle.store.specs.RegistryLaws.{session-keeps-working-directory, directory
 use Rattle.machine.specs.Machine.{run-login, run-logout, run-cd, run-account, run}
 use Rattle.machine.specs.StoreMachine.{store}
 use Rattle.machine.specs.ActingLaws.{entry-registry}
-use Rattle.machine.specs.WorkingDirectory.{Set-by-cd, Moved-by-cd}
+use Rattle.machine.specs.WorkingDirectory.{Moved-by-cd}
 
 module _ (u : Setup) (s : Store) (c : Caller) where
   abbrev Moves : Command → Outcome Store → Type 0

@@ -14,11 +14,11 @@ use Rattle.accounts.specs.Dominance.{Bounded-role}
 use Rattle.accounts.specs.Service.{service}
 use Rattle.commands.specs.Command.{Entry-command, add, co, commit, up, del}
 use Rattle.tree.specs.declared.Cause.the-variants.{NoSession}
-use Rattle.tree.specs.Result.{refused, done, Outcome}
+use Rattle.tree.specs.Result.{refused, done}
 use Rattle.tree.specs.ResultLaws.{present-of, present-none, refused-bind}
 use Rattle.shell.specs.declared.Answer.{Answer}
 use Rattle.shell.specs.declared.Answer.the-variants.{Refused}
-use Rattle.store.specs.State.{Store, State}
+use Rattle.store.specs.State.{State}
 use Rattle.tree.specs.TreeBytes.{Encodes}
 use Rattle.header.specs.HeaderBytes.{session-held}
 use Rattle.machine.specs.Machine.{session, run-add, run-co, run-commit, run-up, run-del, run-entry}

@@ -11,7 +11,7 @@ use Rattle.buffers.specs.Text.{Text}
 use Rattle.accounts.specs.declared.Caller.{Caller}
 use Rattle.accounts.specs.Dominance.{Bounded-role}
 use Rattle.accounts.specs.declared.Uid.{Uid}
-use Rattle.syntax.specs.Path.{Path, path, path-text}
+use Rattle.syntax.specs.Path.{Path, path}
 use Rattle.syntax.specs.PathLaws.{path-is-path}
 use Rattle.syntax.specs.ParentLaws.{text-of-path}
 use Rattle.setup.specs.Setup.{Setup}

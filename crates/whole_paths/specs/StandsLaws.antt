@@ -2,7 +2,6 @@
 use mathlib.Core.Path.{_≡_, refl, sym, ap, _∙_}
 use mathlib.Core.List.{List, _∷_, _++_}
 use mathlib.Core.Option.{some}
-use mathlib.Core.Bool.{Bool, true}
 use Prim.Native.Nat.{ℕ, _+_, _-_, _≤_}
 use native.Mathlib.Omega.{arith}
 use lib.ListN.{length, take, drop, length-drop, take-append-drop}
@@ -12,7 +11,7 @@ use Rattle.buffers.specs.Over.{over}
 use Rattle.buffers.specs.OverLaws.{over-paste}
 use Rattle.syntax.specs.declared.Span.{Span}
 use Rattle.syntax.specs.Form.{is-some}
-use Rattle.syntax.specs.FormLaws.{checked, the-some}
+use Rattle.syntax.specs.FormLaws.{the-some}
 use Rattle.syntax.specs.Path.{Path, Typed-path, whole, short, is-name, entry-location, path, typed-path, entry-path}
 use Rattle.syntax.specs.PathLaws.{name-length, path-is-path, entry-reads, path-text-fits}
 use Rattle.syntax.specs.ParentLaws.{text-of-path}
@@ -22,7 +21,8 @@ use Rattle.syntax.specs.FieldLaws.{content-fits}
 use Rattle.syntax.specs.Parts.{part, span-text}
 use Rattle.arguments.specs.declared.ArgumentKind.{ArgumentKind}
 use Rattle.arguments.specs.declared.ArgumentKind.the-variants as a
-use Rattle.arguments.specs.Kinds.{zero-if, number-in}
+use Rattle.arguments.specs.Kinds.{number-in}
+use Rattle.arguments.specs.KindsLaws.{formed}
 use Rattle.commands.specs.declared.Typed.{Typed}
 use Rattle.commands.specs.Parsed.{Typed-read}
 use Rattle.tree.specs.TreeBytes.{Path-text}
@@ -31,11 +31,6 @@ use Rattle.whole_paths.specs.WholeText.{is-path-kind, has-text, is-short
 use Rattle.whole_paths.specs.WrittenLaws.{front-fits, joined-length}
 
 -- ---- one argument fits
-
--- a form that has no number was found where the code reads 0
-pub formed : (b : Bool) (n : ℕ) → some n ≡ zero-if b → b ≡ true
-unfolding zero-if
-formed b n e = checked b (some 0) n (sym e) .0
 
 path-fits : (t : Text) (p : Path) → path t ≡ some p → length t ≤ directory-width
 path-fits t p e = omega (arith, ap length (text-of-path t p e), path-text-fits p (path-is-path t p e) .0)

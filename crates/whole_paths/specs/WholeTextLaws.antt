@@ -22,6 +22,7 @@ use Rattle.syntax.specs.Parts.{span-text}
 use Rattle.arguments.specs.declared.ArgumentKind.{ArgumentKind}
 use Rattle.arguments.specs.declared.ArgumentKind.the-variants as a
 use Rattle.arguments.specs.Kinds.{number-in, Argument, Argument-read}
+use Rattle.arguments.specs.KindsLaws.{formed}
 use Rattle.commands.specs.declared.Typed.{Typed}
 use Rattle.commands.specs.Command.{Command, Typed-command, listed}
 use Rattle.commands.specs.Words.{shape-of}
@@ -35,7 +36,7 @@ use Rattle.shell.specs.WholePathsLaws.{whole-only-too-deep}
 use Rattle.whole_paths.specs.declared.Whole.the-variants as answer
 use Rattle.whole_paths.specs.WholeText.{is-path-kind, is-short, is-deep, front-length, joined-text, argument-text, any-argument, any-short, any-deep, text-width, first-text, second-text, third-text, whole-typed, whole-text, whole-or-deep, made}
 use Rattle.whole_paths.specs.WrittenLaws.{short-written, text-written}
-use Rattle.whole_paths.specs.StandsLaws.{formed, whole-inside, first-stands, second-stands, third-stands}
+use Rattle.whole_paths.specs.StandsLaws.{whole-inside, first-stands, second-stands, third-stands}
 use Rattle.whole_paths.specs.CarriedLaws.{Moved, Argument-moved, some-deep, Each-moved, word-carried}
 
 -- ---- three arguments, of which those behind the kinds are absent
