@@ -12,8 +12,9 @@
  * it is not sound, so patterns_listing of line 0 tells whether it is. docs/FORMAT.md has its bytes.
  *
  * The library has no globals and allocates nothing. Calls on different stores may run at once in several threads; a store is lent
- * to one call at a time. A call takes up to 64 KiB of stack. Link with libexports.a (rt staticlib exports), for x86-64; it needs
- * memcpy, memmove and memset and nothing else.
+ * to one call at a time. A call takes up to 64 KiB of stack, one that is refused before its command's own checks (20, 18, 1, 2, 19
+ * of a short path) up to 8. Link with libexports.a (rt staticlib exports), for x86-64; it needs memcpy, memmove and memset and
+ * nothing else.
  */
 #ifndef PATTERNS_H
 #define PATTERNS_H

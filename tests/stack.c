@@ -11,7 +11,7 @@
 
 #include "patterns.h"
 
-enum { SAID = 64 * 1024, ROOM = 1024 * 1024, FILL = 0xa5 };
+enum { SAID = 64 * 1024, SAID_REFUSED = 8 * 1024, ROOM = 1024 * 1024, FILL = 0xa5 };
 
 static uint8_t store[PATTERNS_STORE], answer[PATTERNS_ANSWER], *stack;
 static const char *text;
@@ -75,6 +75,20 @@ static size_t lines(size_t most, const char *const *given)
     return most;
 }
 
+/* The most of these lines, each of which must be refused by one of the numbers before a command's own checks. */
+static size_t refused(const char *const *given)
+{
+    size_t most = 0;
+    for (; *given; given++) {
+        size_t n = taken(run, *given);
+        if (number != PATTERNS_NO_FORM && number != PATTERNS_UNKNOWN_CALLER && number != PATTERNS_TOO_DEEP)
+            printf("%s: %u\n", *given, (unsigned)number), exit(2);
+        if (n > most)
+            most = n;
+    }
+    return most;
+}
+
 /* The most of a line filled in with each of these numbers. */
 static size_t series(size_t most, const char *form, int from, int to)
 {
@@ -89,13 +103,16 @@ static size_t series(size_t most, const char *form, int from, int to)
 
 static const char *const first[] = {"1,login,0,oak", "1,mkdir,/u1/d,0700", "1,add,/u1/d,/rep/d,1", "1,create,/u1/f,0600",
                                     "1,write,/u1/f,51 32", NULL};
-static const char *const then[] = {"1,co,/rep/d,/u1/w", "1,mv,/u1/w,/u1/d/w", "1,read,/u1/d/w", "1,commit,/u1/f", "1,up,/u1/f",
-                                   "1,chmod,/u1/f,0640", "1,chgrp,/u1/f,1", "0,chown,/u1/f,2", "1,rm,/u1/f", "1,mkdir,/u1/e,0700",
-                                   "1,rmdir,/u1/e", "1,del,/rep/d/f100", "1,logout", NULL};
+static const char *const then[] = {"1,co,/rep/d,/u1/w", "1,mv,/u1/w,/u1/d/w", "1,read,/u1/d/w", "1,cd,/u1/d", "1,mv,w,v",
+                                   "1,cd,/u1", "1,commit,f", "1,up,/u1/f", "1,chmod,/u1/f,0640", "1,chgrp,/u1/f,1",
+                                   "0,chown,/u1/f,2", "1,rm,/u1/f", "1,mkdir,/u1/e,0700", "1,rmdir,/u1/e", "1,del,/rep/d/f100",
+                                   "1,logout", NULL};
+
+static const char *const before[] = {"x", "1,nothing", "9,logout", "1,read,a/b/c/d/e/f", NULL};
 
 int main(void)
 {
-    size_t most[3];
+    size_t most[4];
     stack = aligned_alloc(4096, ROOM);
     taken(nothing, "");
     most[0] = taken(setup, "p,1,1\nr,0,1\nl,1,0,oak\nend\n");
@@ -103,6 +120,7 @@ int main(void)
     most[1] = series(most[1], "1,add,/u1/f,/rep/d/f%d,1", 100, 220);
     most[1] = lines(most[1], then);
     most[2] = taken(listing, "");
-    printf("stack: setup %zu, run %zu, listing %zu bytes\n", most[0], most[1], most[2]);
-    return most[0] > SAID || most[1] > SAID || most[2] > SAID;
+    most[3] = refused(before);
+    printf("stack: setup %zu, run %zu, listing %zu bytes; a line refused before its command %zu\n", most[0], most[1], most[2], most[3]);
+    return most[0] > SAID || most[1] > SAID || most[2] > SAID || most[3] > SAID_REFUSED;
 }
