@@ -17,6 +17,8 @@ use Rattle.arguments.specs.declared.ArgumentKind.the-variants as a
 use Rattle.commands.specs.declared.Typed.{Typed}
 use Rattle.tree.specs.Result.{Result, refused, done}
 use Rattle.store.specs.HeaderLayout.{directory-width}
+use Rattle.whole_paths.specs.declared.Sought.{Sought}
+use Rattle.whole_paths.specs.declared.Sought.the-variants.{Short, Deep}
 use Rattle.whole_paths.specs.declared.Whole.{Whole}
 use Rattle.whole_paths.specs.declared.Whole.the-variants.{In, TooDeep}
 
@@ -55,6 +57,11 @@ is-short k x = is-path-kind k && not (begins-with-slash x)
 -- a path that does not read as one: behind the directory it has too many names
 unfoldable pub is-deep : ArgumentKind → Text → Bool
 is-deep k x = is-path-kind k && not (is-some (path x))
+
+-- what is sought among paths
+unfoldable pub found : Sought → ArgumentKind → Text → Bool
+found Short = is-short
+found Deep = is-deep
 
 -- how much of a directory's text stands in front of a `/`: all, or nothing of `/` itself
 unfoldable pub front-length : Text → ℕ

@@ -2,7 +2,8 @@
 ghost use mathlib.Core.Path.{_≡_};
 ghost use Rattle.syntax.specs.Path.{begins-with-slash};
 ghost use Rattle.commands.specs.Parsed.{Typed-read};
-ghost use Rattle.whole_paths.specs.WholeText.{is-path-kind, has-text, is-short, is-deep, any-short, any-deep, Arguments-inside};
+ghost use Rattle.whole_paths.specs.WholeText.{is-path-kind, has-text, is-short, is-deep, found, any-argument, any-short, Arguments-inside};
+use crate::Sought;
 use arguments::ArgumentKind;
 use commands::Typed;
 use commands::part;
@@ -59,40 +60,39 @@ fn is_deep(kind: ArgumentKind, s: &[u8]) -> bool
     false
 }
 
+// Whether an argument is what is sought.
+fn is_found(sought: Sought, kind: ArgumentKind, s: &[u8]) -> bool
+    ensures { λ r. ⌜ r ≡ found sought kind (now (s .entry)) ⌝ }
+{
+    match sought {
+        Sought::Short => is_short(kind, s),
+        Sought::Deep => is_deep(kind, s),
+    }
+}
+
+// Whether one of a command's arguments is.
+pub fn any_found(sought: Sought, text: &[u8], typed: Typed) -> bool
+    requires { ⌜ Arguments-inside (now text) typed ⌝ }
+    ensures { λ r. ⌜ r ≡ any-argument (found sought) (now (text .entry)) typed ⌝ }
+{
+    let shape = typed.shape;
+    let f = typed.fields;
+    let first = shape.first;
+    if is_found(sought, first, part(text, f.first)) {
+        return true;
+    }
+    let second = shape.second;
+    if is_found(sought, second, part(text, f.second)) {
+        return true;
+    }
+    let third = shape.third;
+    is_found(sought, third, part(text, f.third))
+}
+
 // Whether an argument of a command is a short path.
 pub fn any_short(line: &[u8], typed: Typed) -> bool
     requires { ⌜ Typed-read (now line) typed ⌝ }
     ensures { λ r. ⌜ r ≡ any-short (now (line .entry)) typed ⌝ }
 {
-    let shape = typed.shape;
-    let f = typed.fields;
-    let first = shape.first;
-    if is_short(first, part(line, f.first)) {
-        return true;
-    }
-    let second = shape.second;
-    if is_short(second, part(line, f.second)) {
-        return true;
-    }
-    let third = shape.third;
-    is_short(third, part(line, f.third))
-}
-
-// Whether one is a path with too many names.
-pub fn any_deep(text: &[u8], typed: Typed) -> bool
-    requires { ⌜ Arguments-inside (now text) typed ⌝ }
-    ensures { λ r. ⌜ r ≡ any-deep (now (text .entry)) typed ⌝ }
-{
-    let shape = typed.shape;
-    let f = typed.fields;
-    let first = shape.first;
-    if is_deep(first, part(text, f.first)) {
-        return true;
-    }
-    let second = shape.second;
-    if is_deep(second, part(text, f.second)) {
-        return true;
-    }
-    let third = shape.third;
-    is_deep(third, part(text, f.third))
+    any_found(Sought::Short, line, typed)
 }

@@ -20,3 +20,9 @@ pub enum Whole {
     In(Typed),
     TooDeep,
 }
+
+// What is sought among a command's paths: one that is short, or one with too many names.
+pub enum Sought {
+    Short,
+    Deep,
+}

@@ -5,8 +5,9 @@ ghost use Rattle.commands.specs.Parsed.{Typed-read};
 ghost use Rattle.tree.specs.TreeBytes.{Path-text};
 ghost use Rattle.whole_paths.specs.WholeText.{text-width, whole-typed, whole-text, whole-or-deep};
 use crate::PART;
+use crate::Sought;
 use crate::Whole;
-use crate::kinds::any_deep;
+use crate::kinds::any_found;
 use crate::writing::place;
 use commands::Typed;
 use line_fields::Fields;
@@ -56,7 +57,7 @@ pub fn make_whole(directory: &[u8], line: &[u8], typed: Typed, text: &mut [u8]) 
     ensures { λ _. ⌜ now (text .exit) ≡ whole-text (now (directory .entry)) (now (line .entry)) typed (now (text .entry)) ⌝ }
 {
     let moved = write_arguments(directory, line, typed, text);
-    if any_deep(text, moved) {
+    if any_found(Sought::Deep, text, moved) {
         return Whole::TooDeep;
     }
     Whole::In(moved)
