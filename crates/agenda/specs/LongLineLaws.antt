@@ -1,10 +1,10 @@
--- A line of a listed form has at most 324 bytes. So what `run` answers and leaves is the same for all longer lines, and the first
+-- A line of a listed form has at most `longest-line` bytes. So what `run` answers and leaves is the same for all longer lines, and the first
 -- bytes of such a line stand for the whole.
 use mathlib.Core.Path.{_≡_, refl, sym, _∙_, ap}
 use mathlib.Core.List.{List, [], _∷_, map}
 use mathlib.Core.Option.{Option, none, some}
 use mathlib.Core.Bool.{Bool, true, false, _&&_, not}
-use Prim.Native.Nat.{ℕ, suc, _≤_, _<_}
+use Prim.Native.Nat.{ℕ, suc, _+_, _*_, _≤_, _<_}
 use native.Mathlib.Omega.{arith}
 use borrow.Author.Tests.{le-leb, leb-true, ltb-true}
 use lib.Dec.{leb, ltb}
@@ -22,7 +22,7 @@ use Rattle.syntax.specs.NumberLaws.{decimal-only, decimal-length, mode-only, mo
 use Rattle.syntax.specs.Path.{Path, root, is-name, most-names, extended, names-from-top, path, Typed-path, whole, short, typed-path, entry-path, entry-at}
 use Rattle.syntax.specs.FollowsLaws.{whole-reads, short-reads}
 use Rattle.syntax.specs.PathLaws.{name-length}
-use Rattle.syntax.specs.Field.{uid, gid, bounded-by, bounded, role, plain-mode, password, is-content, content}
+use Rattle.syntax.specs.Field.{uid, gid, bounded-by, bounded, role, plain-mode, password, content-limit, is-content, content}
 use Rattle.syntax.specs.FieldLaws.{between-gives, content-length}
 use Rattle.accounts.specs.Dominance.{Bounded-role}
 use Rattle.arguments.specs.declared.ArgumentKind.{ArgumentKind}
@@ -37,13 +37,16 @@ use Rattle.store.specs.State.{State}
 use Rattle.machine.specs.Runs.{perform}
 use Rattle.calls.specs.Calls.{called, on-state, line-on, run-result, run-call}
 
--- at most 64 bytes
+-- five parts, none longer than a content may be, and the commas between them: 404 bytes
+abbrev pub longest-line : ℕ
+longest-line = 5 * content-limit + 4
+
 abbrev few : Text → Bool
-few t = leb (length t) 64
+few t = leb (length t) content-limit
 
 -- ---- the arguments
 
-top-short : (ps : List Text) (p : Path) → names-from-top ps ≡ some p → suc (length (joined 47 ps)) ≤ 63
+top-short : (ps : List Text) (p : Path) → names-from-top ps ≡ some p → length (joined 47 ps) ≤ content-limit
 unfolding names-from-top most-names every
 top-short [] p e = no-answer e
 top-short ((b ∷ t) ∷ ns) p e = no-answer e
@@ -54,17 +57,17 @@ top-short ([] ∷ ns) p e =
     let names = every-implies is-name (λ t. leb (length t) 8) (λ n h. le-leb (length n) 8 (name-length n h .1)) ns (j .0) in
     omega (arith, joined-length 47 8 [] ns names, leb-true (length ns) 6 (k .1))
 
-path-short : (t : Text) (p : Path) → path t ≡ some p → length t ≤ 64
+path-short : (t : Text) (p : Path) → path t ≡ some p → length t ≤ content-limit
 unfolding path bytes
 path-short t p e = case (same-text t (bytes "/"))
     (λ s. omega (arith, ap length (same-text-sound t (bytes "/") s)))
     (λ s. omega (arith, ap length (joined-pieces 47 t), top-short (pieces 47 t) p (rw s at e)))
 
-typed-short : (t : Text) (p : Typed-path) → typed-path t ≡ some p → length t ≤ 64
+typed-short : (t : Text) (p : Typed-path) → typed-path t ≡ some p → length t ≤ content-limit
 typed-short t (whole p) e = path-short t p (whole-reads t p e .1)
 typed-short t (short p) e = omega (arith, path-short (47 ∷ t) p (short-reads t p e .1))
 
-number-short : (low high : ℕ) (t : Text) (n : ℕ) → high < 100 → between low high t ≡ some n → length t ≤ 64
+number-short : (low high : ℕ) (t : Text) (n : ℕ) → high < 100 → between low high t ≡ some n → length t ≤ content-limit
 unfolding between
 number-short low high t n h e =
     let g = and-both (leb low n) (leb n high) (between-gives low high t n e) in
@@ -77,7 +80,7 @@ unfolding bounded-by
 bounded-small n true e r q = refl
 bounded-small n false e r q = no-answer q
 
-mode-short : (t : Text) (m : ℕ) → mode t ≡ some m → length t ≤ 64
+mode-short : (t : Text) (m : ℕ) → mode t ≡ some m → length t ≤ content-limit
 mode-short t m e = omega (arith, ap length (mode-only t m e), mode-length m)
 
 -- a kind that is read from a text
@@ -93,7 +96,7 @@ present a.Password = true
 present a.Content = true
 present a.Absent = false
 
-reader-short : (k : ArgumentKind) (t : Text) (v : Value Typed-path k) → present k ≡ true → reader typed-path k t ≡ some v → length t ≤ 64
+reader-short : (k : ArgumentKind) (t : Text) (v : Value Typed-path k) → present k ≡ true → reader typed-path k t ≡ some v → length t ≤ content-limit
 unfolding reader present entry-path plain-mode uid gid role password content bounded
 reader-short a.Path t v h e = typed-short t v e
 reader-short a.Entry t v h e = let i = both-read (path t) entry-at v e in path-short t (i .0) (i .1)
@@ -119,7 +122,7 @@ arguments-short (k ∷ ks) x (s ∷ more) c h e =
     let p = and-both (present k) (every present ks) h in
     let i = both-read (reader typed-path k s) (λ v. arguments-of typed-path ks (x v) more) c e in
     let r = arguments-short ks (x (i .0)) more c (p .1) (i .2) in
-    (both (le-leb (length s) 64 (reader-short k s (i .0) (p .0) (i .1))) (r .0), omega (arith, r .1))
+    (both (le-leb (length s) content-limit (reader-short k s (i .0) (p .0) (i .1))) (r .0), omega (arith, r .1))
 
 -- ---- the line
 
@@ -147,7 +150,7 @@ form-short (v ∷ ws) h w ss c e =
     ))
     (λ s. form-short ws (p .1) w ss c (rw s at e))
 
-line-of-short : (ps : List Text) (l : Line) → line-of ps ≡ some l → suc (length (joined comma ps)) ≤ 325
+line-of-short : (ps : List Text) (l : Line) → line-of ps ≡ some l → length (joined comma ps) ≤ longest-line
 unfolding line-of every forms uid
 line-of-short [] l e = no-answer e
 line-of-short (u ∷ []) l e = no-answer e
@@ -156,25 +159,25 @@ line-of-short (u ∷ (w ∷ ss)) l e =
     let j = both-read (by-form forms w ss) (λ k. some (record { caller = i .0; command = k })) l (i .2) in
     let f = form-short words words-short w ss (j .0) (j .1) in
     let n = both-read (between 0 23 u) (λ n. some (record { 0 = n })) (i .0) (i .1) in
-    let s = le-leb (length u) 64 (number-short 0 23 u (n .0) (omega arith) (n .1)) in
-    omega (arith, joined-length comma 64 u (w ∷ ss) (both s (f .0)), f .1)
+    let s = le-leb (length u) content-limit (number-short 0 23 u (n .0) (omega arith) (n .1)) in
+    omega (arith, joined-length comma content-limit u (w ∷ ss) (both s (f .0)), f .1)
 
--- a line with a form has at most 324 bytes
-pub line-short : (t : Text) (l : Line) → line t ≡ some l → length t ≤ 324
+-- a line with a form is not longer
+pub line-short : (t : Text) (l : Line) → line t ≡ some l → length t ≤ longest-line
 unfolding line
 line-short t l e = omega (arith, ap length (joined-pieces comma t), line-of-short (pieces comma t) l e)
 
-long-line : (t : Text) (o : Option Line) → line t ≡ o → 324 < length t → o ≡ none
+long-line : (t : Text) (o : Option Line) → line t ≡ o → longest-line < length t → o ≡ none
 long-line t none e h = refl
 long-line t (some l) e h = let z : ⊥ = omega (arith, line-short t l e) in absurd z
 
 -- so a longer one is refused by 1, on every state
-long-line-on : (t : Text) → 324 < length t → (s : State) → line-on t s ≡ refused NoForm
+long-line-on : (t : Text) → longest-line < length t → (s : State) → line-on t s ≡ refused NoForm
 unfolding line-on perform
 long-line-on t h s = rw (long-line t (line t) refl h, present-none, refused-bind, refused-bind)
 
 -- and what `run` does with it is what it does with any other
-pub long-lines-are-alike : (b answer : List ℕ) (t t′ : Text) → 324 < length t → 324 < length t′ → run-call b t answer ≡ run-call b t′ answer
+pub long-lines-are-alike : (b answer : List ℕ) (t t′ : Text) → longest-line < length t → longest-line < length t′ → run-call b t answer ≡ run-call b t′ answer
 unfolding run-call run-result
 long-lines-are-alike b answer t t′ h h′ =
     let same : (s : State) → line-on t s ≡ line-on t′ s = λ s. long-line-on t h s ∙ sym (long-line-on t′ h′ s) in

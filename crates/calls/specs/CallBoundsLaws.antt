@@ -90,12 +90,11 @@ listing-bounded b n room = on-state-ensures (listing-on b n) b room λ s d l.
     then-do (present (getElem? lines n) Missing) λ t i.
     let f = every-found (λ x. leb (length x) longest-listing-line) lines n t (lines-fit (s .store .tree) (parts s (encode-decode b s d .1) .tree))
     (present-some (getElem? lines n) Missing i) in
-    gives (record { stays = refl; short = λ x e. let q : x ≡ t = cc in rw q (leb-true (length t) 192 f); roomy = omega (arith, l) })
+    gives (record { stays = refl; short = λ x e. let q : x ≡ t = cc in rw q (leb-true (length t) longest-listing-line f); roomy = omega (arith, l) })
 
--- a line has at most 192 bytes
+-- no line is longer than the longest
 pub listing-text-fits : (b : List ℕ) (n room : ℕ) (o : Outcome (List ℕ)) → listing-result b n room ≡ done o
-    → (t : Text) → o .text ≡ some t → length t ≤ 192
-unfolding longest-listing-line
+    → (t : Text) → o .text ≡ some t → length t ≤ longest-listing-line
 listing-text-fits b n room o e t i = done-with (listing-bounded b n room) e .short t i
 
 -- a listing keeps the lengths too

@@ -19,7 +19,7 @@ use Rattle.store.specs.StoreBytes.{encode}
 use Rattle.store.specs.SoundStore.{Sound}
 use Rattle.store.specs.SoundStoreLaws
 use Rattle.shell.specs.declared.Answer.the-variants.{Done, Refused}
-use Rattle.listing.specs.Listing.{listing}
+use Rattle.listing.specs.Listing.{longest-listing-line, listing}
 use Rattle.calls.specs.Transcript.{transcript}
 use Rattle.calls.specs.Calls.{setup-call, only-tells, line-on, run-result, run-call, listing-on, listing-result, listing-call}
 use Rattle.calls.specs.CallsLaws
@@ -100,9 +100,9 @@ pub text-fits : (b : List ℕ) (line : Text) (room : ℕ) (o : Outcome (List ℕ
     (t : Text) → o .text ≡ some t → length t ≤ 2294
 text-fits = CallBoundsLaws.run-text-fits
 
--- a listing's line at most 192,
+-- a listing's line at most `longest-listing-line`,
 pub listing-line-fits : (b : List ℕ) (n room : ℕ) (o : Outcome (List ℕ)) → listing-result b n room ≡ done o →
-    (t : Text) → o .text ≡ some t → length t ≤ 192
+    (t : Text) → o .text ≡ some t → length t ≤ longest-listing-line
 listing-line-fits = CallBoundsLaws.listing-text-fits
 
 -- and every call on buffers of any bytes keeps the lengths of both.

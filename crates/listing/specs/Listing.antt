@@ -4,12 +4,13 @@
 use mathlib.Core.Path.{_≡_}
 use mathlib.Core.List.{List, [], _∷_, _++_}
 use mathlib.Core.Option.{Option, none, some}
-use Prim.Native.Nat.{ℕ}
+use Prim.Native.Nat.{ℕ, _+_}
 use lib.ListN.{length, drop}
 use Rattle.buffers.specs.Text.{Text}
 use Rattle.syntax.specs.Pieces.{bytes, comma, joined}
 use Rattle.syntax.specs.Number.{decimal-text, mode-text}
-use Rattle.syntax.specs.Path.{Path, root, _▹_, path-text, entry-text}
+use Rattle.syntax.specs.Path.{Path, root, _▹_, path-text, entry-text, longest-entry-text}
+use Rattle.syntax.specs.Field.{content-limit}
 use Rattle.tree.specs.declared.Kind.{Kind}
 use Rattle.tree.specs.declared.Kind.the-variants.{File, Directory}
 use Rattle.tree.specs.Forest.{Forest, nil, node, Place}
@@ -31,9 +32,9 @@ node-line p n =
     ((path-text p ∷ kind-text (n .kind) ∷ decimal-text (n .owner .0) ∷ decimal-text (n .group .0) ∷ mode-text (n .mode) ∷ decimal-text (n .revision) ∷ [])
     ++ (tag-fields (n .tag) ++ (n .content ∷ [])))
 
--- fields of 54, 1, 2, 2, 4, 4, 49, 4 and 64 bytes, and the 8 commas between them; a tag's path begins with `/rep`
+-- the longest texts of the nine fields, and the commas between them: 208 bytes
 unfoldable pub longest-listing-line : ℕ
-longest-listing-line = 192
+longest-listing-line = 54 + 1 + 2 + 2 + 4 + 4 + longest-entry-text + 4 + content-limit + 8
 
 unfoldable pub forest-lines : Path → Forest Node → List Text
 forest-lines p nil = []

@@ -14,7 +14,7 @@ use Rattle.accounts.specs.declared.Pair.{Pair}
 use Rattle.accounts.specs.Dominance.{Bounded-role, Listed, Dominates, self, down, Falling, all-fall-is, dominates-is, dominates-self, dominates-trans}
 use Rattle.syntax.specs.Pieces.{bytes}
 use Rattle.syntax.specs.Path.{Path, Entry-path, root, _▹_, depth, rep, in-rep, name-byte, is-name}
-use Rattle.syntax.specs.Field.{content-limit, is-content}
+use Rattle.syntax.specs.Field.{is-content}
 use Rattle.setup.specs.Setup.{Setup, is-setup}
 use Rattle.setup.specs.SetupLaws.{pairs-fall}
 use Rattle.tree.specs.declared.Kind.{Kind}
@@ -179,7 +179,7 @@ module _ (u : Setup) (b : Bounded-role) where
 
   -- its store is well-formed
   witness-formed : is-setup u ≡ true → well-formed (state-of u (embed witness)) ≡ true
-  unfolding in-rep depth is-name name-byte every bytes is-content content-limit rep-node directory-of initial-abstract initial-store embed
+  unfolding in-rep depth is-name name-byte every bytes is-content rep-node directory-of initial-abstract initial-store embed
   witness-formed s =
       let h = initial-abstract u in
       let t = initial-tie u in

@@ -14,13 +14,13 @@ use Rattle.buffers.specs.FieldsLaws.{part-of-take}
 use Rattle.syntax.specs.Number.{is-mode}
 use Rattle.syntax.specs.Path.{entry-path}
 use Rattle.syntax.specs.Form.{is-some}
-use Rattle.tree.specs.Layout.{row-width, row-start, kind-offset, owner-offset, group-offset, name-offset, name-width, tag-offset, tag-revision-offset, content-offset, tag-width}
+use Rattle.tree.specs.Layout.{row-width, row-start, kind-offset, owner-offset, group-offset, name-offset, name-width, tag-offset, tag-revision-offset, content-offset, content-width, tag-width}
 use Rattle.tree.specs.WellFormed.{last-revision, fits-kind}
 use Rattle.tree.specs.Encoding.{read-row}
 use Rattle.tree.specs.RowAt.{row-bytes-at, row-at, tag-text-at, tag-number-at}
 use Rattle.tree.specs.RowAtLaws.{byte-in-row}
 use Rattle.soundness.specs.Sound.{is-row}
-use Rattle.soundness.specs.Tests.{is-kind-byte, has-numbers, has-tag, has-content, may-fill, may-stand, neighbours-pass, row-test}
+use Rattle.soundness.specs.Tests.{is-kind-byte, has-numbers, has-tag, has-content, may-fill, may-stand, neighbours-pass, content-stands, row-test}
 use Rattle.soundness.specs.RowTestLaws.{length-text-at, row-test-is}
 use Rattle.soundness.specs.NeighbourLaws.{pass-alike}
 use Rattle.soundness.specs.FilledLaws.{filled-by-bytes, empty-by-first, content-by-bytes}
@@ -83,7 +83,7 @@ module _ (b : List ℕ) (i : ℕ) where
   -- a content is empty if its field begins with a zero
   pub content-empty : eqb (getD b (row-start i + content-offset) 0) 0 ≡ eqb (length (row-at b i .here .content)) 0
   unfolding row-at read-row
-  content-empty = ap (λ (k : ℕ). eqb k 0) (sym (byte-in-row b i content-offset (omega arith))) ∙ sym (empty-by-first content-offset 79 (row-bytes-at b i))
+  content-empty = ap (λ (k : ℕ). eqb k 0) (sym (byte-in-row b i content-offset (omega arith))) ∙ sym (empty-by-first content-offset (content-width - 1) (row-bytes-at b i))
 
   module _ (room : row-start i + row-width ≤ length b) where
     length-row : length (row-bytes-at b i) ≡ row-width
@@ -125,17 +125,19 @@ module _ (b : List ℕ) (i : ℕ) where
 
     -- the content: its bytes, what the kind allows, and the zeros behind
     pub content-in-row : has-content (row-bytes-at b i)
-        ≡ ((neighbours-pass may-stand (row-start i + content-offset) 64 b && fits-kind (row-at b i .here .kind) (row-at b i .here .mode) (row-at b i .here .content))
-        && zeros-at (row-start i + content-offset + 64) (row-start i + row-width - (row-start i + content-offset + 64)) b)
-    unfolding row-at read-row
+        ≡ ((content-stands (row-start i + content-offset) b && fits-kind (row-at b i .here .kind) (row-at b i .here .mode) (row-at b i .here .content))
+        && zeros-at (row-start i + content-offset + content-width) (row-start i + row-width - (row-start i + content-offset + content-width)) b)
+    unfolding row-at read-row content-stands
     content-in-row =
         let x = row-bytes-at b i in
-        let stand : neighbours-pass may-stand content-offset 64 x ≡ neighbours-pass may-stand (row-start i + content-offset) 64 b =
-        pass-alike may-stand 64 content-offset (row-start i + content-offset) x b (λ k j.
+        let w = content-width - 1 in
+        let same : (k : ℕ) → k ≤ w → getD x (content-offset + k) 0 ≡ getD b (row-start i + content-offset + k) 0 = λ k j.
         let q : row-start i + (content-offset + k) ≡ row-start i + content-offset + k = omega arith in
-        byte-in-row b i (content-offset + k) (omega arith) ∙ ap (λ (n : ℕ). getD b n 0) q) in
+        byte-in-row b i (content-offset + k) (omega arith) ∙ ap (λ (n : ℕ). getD b n 0) q in
+        let stands : content-stands content-offset x ≡ content-stands (row-start i + content-offset) b =
+        ap₂ _&&_ (pass-alike may-stand w content-offset (row-start i + content-offset) x b same) (ap (λ (c : ℕ). may-stand c 0) (same w (omega arith))) in
         content-by-bytes x length-row
-        ∙ ap₂ (λ (s z : Bool). (s && fits-kind (row-at b i .here .kind) (row-at b i .here .mode) (row-at b i .here .content)) && z) stand (zeros-behind content-offset row-width 64 (omega arith) (omega arith))
+        ∙ ap₂ (λ (s z : Bool). (s && fits-kind (row-at b i .here .kind) (row-at b i .here .mode) (row-at b i .here .content)) && z) stands (zeros-behind content-offset row-width content-width (omega arith) (omega arith))
 
     -- the fields together are the row
     pub fields-are-row : ((k : ℕ) → getD b k 0 < 256) → row-test (row-bytes-at b i) ≡ is-row (row-bytes-at b i)

@@ -1,24 +1,24 @@
 -- A name and a content filled up with zeros, by tests of neighbouring bytes: what the code does in place of looking for the text's end.
-use mathlib.Core.Path.{_≡_, refl, sym, _∙_, ap}
+use mathlib.Core.Path.{_≡_, refl, sym, _∙_, ap, ap₂}
 use mathlib.Core.List.{List, [], _∷_}
-use mathlib.Core.Bool.{Bool, true, false, _&&_, and-true, and-false, and-assoc}
-use Prim.Native.Nat.{ℕ, zero, suc, _+_, _-_, _≤_}
+use mathlib.Core.Bool.{Bool, true, false, _&&_, and-true, and-false}
+use Prim.Native.Nat.{ℕ, suc, _+_, _-_, _≤_, _<_}
 use native.Mathlib.Omega.{arith}
 use lib.Dec.{eqb, leb}
-use lib.ListN.{length, getD, take, drop, length-drop}
-use lib.Seq.{drop-drop, getD-drop, getD-take, take-all, length-take-le}
-use borrow.Author.Tests.{leb-true, leb-false, le-leb, lt-leb, ne-eqb}
+use lib.ListN.{length, getD, take, drop, length-drop, List·getD-eq-default}
+use lib.Seq.{drop-drop, getD-drop, getD-take, length-take-le}
+use borrow.Author.Tests.{le-leb, ne-eqb}
 use Rattle.buffers.specs.Cases.{case}
 use Rattle.buffers.specs.Text.{every}
 use Rattle.buffers.specs.Fields.{number-at, unpadded, text-at, all-zero, zeros-at, is-filled}
 use Rattle.buffers.specs.FieldsLaws.{field-text-fits}
 use Rattle.syntax.specs.Field.{content-byte, is-content, content-limit}
-use Rattle.tree.specs.Layout.{row-width, mode-offset, content-offset, content-width, tail-width}
+use Rattle.tree.specs.Layout.{row-width, mode-offset, content-offset, content-width, base-offset, base-width}
 use Rattle.tree.specs.WellFormed.{fits-kind}
 use Rattle.tree.specs.Encoding.{kind-of}
-use Rattle.soundness.specs.Tests.{has-content, may-fill, may-stand, neighbours-pass}
+use Rattle.soundness.specs.Tests.{has-content, may-fill, may-stand, neighbours-pass, content-stands}
 use Rattle.soundness.specs.RowTestLaws.{drop-take}
-use Rattle.soundness.specs.NeighbourLaws.{pass-alike, pass-behind}
+use Rattle.soundness.specs.NeighbourLaws.{pass-alike, pass-behind, pass-apart}
 
 -- ---- a name
 
@@ -40,62 +40,65 @@ text-in-field : (n : ℕ) (l : List ℕ) → length l ≡ suc n → all-zero (dr
 text-in-field n [] h = let z : ⊥ = omega arith in absurd z
 text-in-field n (b ∷ l) h = let q : length l ≡ n = omega arith in rw (← q) (text-then-zeros b l)
 
+-- a field is filled up if its bytes behind the text are zeros
+filled-in-field : (i w : ℕ) (x : List ℕ) → (let l = take w (drop i x) in is-filled i w x ≡ all-zero (drop (length (unpadded l)) l))
+unfolding is-filled text-at zeros-at
+filled-in-field i w x =
+    let m = length (unpadded (take w (drop i x))) in
+    ap all-zero (sym (drop-take m w (drop i x) ∙ ap (take (w - m)) (drop-drop m i x)))
+
+-- the bytes of a field
+in-field : (i w : ℕ) (x : List ℕ) (k : ℕ) → k < w → getD (take w (drop i x)) (0 + k) 0 ≡ getD x (i + k) 0
+in-field i w x k h = let q : 0 + k ≡ k = omega arith in rw q (getD-take w (drop i x) k 0 h ∙ getD-drop i x k 0)
+
 -- a field is filled up with zeros
 pub filled-by-bytes : (i n : ℕ) (x : List ℕ) → i + suc n ≤ length x → is-filled i (suc n) x ≡ neighbours-pass may-fill i n x
-unfolding is-filled text-at zeros-at
 filled-by-bytes i n x h =
     let l = take (suc n) (drop i x) in
-    let m = length (unpadded l) in
-    ap all-zero (sym (drop-take m (suc n) (drop i x) ∙ ap (take (suc n - m)) (drop-drop m i x)))
+    filled-in-field i (suc n) x
     ∙ text-in-field n l (length-take-le (suc n) (drop i x) (omega (arith, length-drop i x)))
-    ∙ pass-alike may-fill n 0 i l x (λ k j.
-    let q : 0 + k ≡ k = omega arith in
-    rw q (getD-take (suc n) (drop i x) k 0 (omega arith) ∙ getD-drop i x k 0))
+    ∙ pass-alike may-fill n 0 i l x (λ k j. in-field i (suc n) x k (omega arith))
 
 -- ---- a content
 
--- where there are none
-stand-none : (i n : ℕ) → neighbours-pass may-stand i n [] ≡ true
-unfolding neighbours-pass may-stand
-stand-none i zero = refl
-stand-none i (suc n) = stand-none (suc i) n
-
 -- behind a zero only zeros may stand
-zeros-stand : (n : ℕ) (l : List ℕ) → (eqb (getD l 0 0) 0 && (neighbours-pass may-stand 0 n l && all-zero (drop n l))) ≡ all-zero l
+zeros-stand : (l : List ℕ) → (eqb (getD l 0 0) 0 && neighbours-pass may-stand 0 (length l) l) ≡ all-zero l
 unfolding neighbours-pass may-stand all-zero every
-zeros-stand zero [] = refl
-zeros-stand zero (b ∷ l) = case (eqb b 0) (λ e. rw e) (λ e. rw e)
-zeros-stand (suc n) [] = rw (stand-none 1 n)
-zeros-stand (suc n) (b ∷ l) =
-    case (eqb b 0)
-    (λ e. rw (e, pass-behind may-stand n b l, and-assoc (eqb (getD l 0 0) 0) (neighbours-pass may-stand 0 n l) (all-zero (drop n l))) (zeros-stand n l))
-    (λ e. rw e)
+zeros-stand [] = refl
+zeros-stand (b ∷ l) = case (eqb b 0) (λ e. rw (e, pass-behind may-stand (length l) b l) (zeros-stand l)) (λ e. rw e)
 
-leb-suc : (a b : ℕ) → leb (suc a) (suc b) ≡ leb a b
-leb-suc a b = case (leb a b)
-    (λ e. le-leb (suc a) (suc b) (omega (arith, leb-true a b e)) ∙ sym e)
-    (λ e. lt-leb (suc a) (suc b) (omega (arith, leb-false a b e)) ∙ sym e)
-
-middle-last : (a b c : Bool) → ((a && b) && c) ≡ ((a && c) && b)
-middle-last true true c = sym (and-true c)
-middle-last true false c = sym (and-false c)
-middle-last false b c = refl
-
--- a text of at most n bytes of a content, with zeros behind it, in a field that is at least as wide
-filled-up : (n w : ℕ) (l : List ℕ) → n ≤ w
-    → (let u = unpadded (take w l) in ((every content-byte u && leb (length u) n) && all-zero (drop (length u) l)) ≡ (neighbours-pass may-stand 0 n l && all-zero (drop n l)))
+-- a text of a content's bytes, and zeros behind it
+text-stands : (l : List ℕ) → (every content-byte (unpadded l) && all-zero (drop (length (unpadded l)) l)) ≡ neighbours-pass may-stand 0 (length l) l
 unfolding unpadded every all-zero neighbours-pass may-stand
-filled-up zero zero l h = refl
-filled-up zero (suc w) [] h = refl
-filled-up zero (suc w) (b ∷ l) h = case (eqb b 0)
-    (λ e. rw e (rw e))
-    (λ e. rw (e, lt-leb (suc (length (unpadded (take w l)))) 0 (omega arith), and-false (every content-byte (b ∷ unpadded (take w l)))))
-filled-up (suc n) zero l h = let z : ⊥ = omega arith in absurd z
-filled-up (suc n) (suc w) [] h = rw (stand-none 1 n, le-leb 0 (suc n) (omega arith))
-filled-up (suc n) (suc w) (b ∷ l) h =
-    case (eqb b 0)
-    (λ e. rw (e, le-leb 0 (suc n) (omega arith)) (rw (e, pass-behind may-stand n b l, and-assoc (eqb (getD l 0 0) 0) (neighbours-pass may-stand 0 n l) (all-zero (drop n l))) (sym (zeros-stand n l))))
-    (λ e. rw (e, pass-behind may-stand n b l, leb-suc (length (unpadded (take w l))) n) (case (content-byte b) (λ c. rw c (filled-up n w l (omega arith))) (λ c. rw c)))
+text-stands [] = refl
+text-stands (b ∷ l) = case (eqb b 0)
+    (λ e. rw e (rw (e, pass-behind may-stand (length l) b l) (sym (zeros-stand l))))
+    (λ e. rw (e, pass-behind may-stand (length l) b l) (case (content-byte b) (λ c. rw c (text-stands l)) (λ c. rw c)))
+
+-- the last byte of a field is judged as if a zero stood behind it
+last-stands : (w i : ℕ) (x : List ℕ) → i + suc w ≤ length x
+    → neighbours-pass may-stand (0 + w) 1 (take (suc w) (drop i x)) ≡ may-stand (getD x (i + w) 0) 0
+unfolding neighbours-pass
+last-stands w i x h =
+    let l = take (suc w) (drop i x) in
+    let none : getD l (suc (0 + w)) 0 ≡ 0 = List·getD-eq-default l 0 {n = suc (0 + w)} (omega (arith, length-take-le (suc w) (drop i x) (omega (arith, length-drop i x)))) in
+    and-true (may-stand (getD l (0 + w) 0) (getD l (suc (0 + w)) 0)) ∙ ap₂ may-stand (in-field i (suc w) x w (omega arith)) none
+
+-- a content that fills up its field with zeros, by the field's bytes
+pub content-in-field : (i : ℕ) (x : List ℕ) → i + content-width ≤ length x
+    → (is-content (text-at i content-width x) && is-filled i content-width x) ≡ content-stands i x
+unfolding is-content text-at content-stands
+content-in-field i x h =
+    let w = content-width - 1 in
+    let l = take content-width (drop i x) in
+    let u = unpadded l in
+    let short : leb (length u) content-limit ≡ true = le-leb (length u) content-limit (unfold text-at in field-text-fits x i content-width) in
+    let long : length l ≡ w + 1 = length-take-le content-width (drop i x) (omega (arith, length-drop i x)) in
+    rw (filled-in-field i content-width x, short, and-true (every content-byte u))
+    (text-stands l
+    ∙ ap (λ (n : ℕ). neighbours-pass may-stand 0 n l) long
+    ∙ pass-apart may-stand w 1 0 l
+    ∙ ap₂ _&&_ (pass-alike may-stand w 0 i l x (λ k j. in-field i content-width x k (omega arith))) (last-stands w i x h))
 
 first-is-none : (w : ℕ) (l : List ℕ) → eqb (length (unpadded (take (suc w) l))) 0 ≡ eqb (getD l 0 0) 0
 unfolding unpadded
@@ -109,23 +112,18 @@ empty-by-first i w x =
     let q : i + 0 ≡ i = omega arith in
     first-is-none w (drop i x) ∙ ap (λ (b : ℕ). eqb b 0) (getD-drop i x 0 0 ∙ ap (λ (k : ℕ). getD x k 0) q)
 
--- a row's content, by the first 64 bytes of its field and the others
+swapped : (a b c d : Bool) → ((a && b) && (c && d)) ≡ (((a && c) && b) && d)
+swapped true true c d = ap (λ (x : Bool). x && d) (sym (and-true c))
+swapped true false c d = ap (λ (x : Bool). x && d) (sym (and-false c))
+swapped false b c d = refl
+
+-- a row's content, by the bytes of its field, what the kind allows, and the bytes behind
 pub content-by-bytes : (x : List ℕ) → length x ≡ row-width
-    → has-content x ≡ ((neighbours-pass may-stand content-offset 64 x && fits-kind (kind-of (getD x 1 0)) (number-at mode-offset x) (text-at content-offset content-width x)) && zeros-at (content-offset + 64) (tail-width - 64) x)
-unfolding has-content is-content text-at zeros-at content-limit
+    → has-content x ≡ ((content-stands content-offset x && fits-kind (kind-of (getD x 1 0)) (number-at mode-offset x) (text-at content-offset content-width x)) && zeros-at base-offset base-width x)
+unfolding has-content
 content-by-bytes x h =
-    let l = drop content-offset x in
-    let u = unpadded (take content-width l) in
-    let n = length u in
-    let f : n ≤ content-width = unfold text-at in field-text-fits x content-offset content-width in
-    let behind : all-zero (take (tail-width - n) (drop (content-offset + n) x)) ≡ all-zero (drop n l) =
-    ap all-zero (take-all (tail-width - n) (drop (content-offset + n) x) (omega (arith, length-drop (content-offset + n) x)) ∙ sym (drop-drop n content-offset x)) in
-    let rest : all-zero (take (tail-width - 64) (drop (content-offset + 64) x)) ≡ all-zero (drop 64 l) =
-    ap all-zero (take-all (tail-width - 64) (drop (content-offset + 64) x) (omega (arith, length-drop (content-offset + 64) x)) ∙ sym (drop-drop 64 content-offset x)) in
-    let stand : neighbours-pass may-stand content-offset 64 x ≡ neighbours-pass may-stand 0 64 l =
-    pass-alike may-stand 64 content-offset 0 x l (λ k h. let q : 0 + k ≡ k = omega arith in rw q (sym (getD-drop content-offset x k 0))) in
-    let fits = fits-kind (kind-of (getD x 1 0)) (number-at mode-offset x) u in
-    rw (behind, rest, stand)
-    (middle-last (every content-byte u && leb n 64) fits (all-zero (drop n l))
-    ∙ ap (λ (b : Bool). b && fits) (filled-up 64 content-width l (omega arith))
-    ∙ sym (middle-last (neighbours-pass may-stand 0 64 l) fits (all-zero (drop 64 l))))
+    let c = text-at content-offset content-width x in
+    let fits = fits-kind (kind-of (getD x 1 0)) (number-at mode-offset x) c in
+    let zeros = zeros-at base-offset base-width x in
+    swapped (is-content c) fits (is-filled content-offset content-width x) zeros
+    ∙ ap (λ (b : Bool). (b && fits) && zeros) (content-in-field content-offset x (omega arith))

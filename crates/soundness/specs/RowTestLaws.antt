@@ -22,7 +22,7 @@ use Rattle.syntax.specs.Field.{is-content}
 use Rattle.syntax.specs.Form.{is-some}
 use Rattle.syntax.specs.Path.{Entry-path, entry-path}
 use Rattle.syntax.specs.PathLaws.{entry-is-entry}
-use Rattle.tree.specs.Layout.{row-width, mode-offset, revision-offset, name-offset, name-width, tag-offset, tag-width, tag-revision-offset, whole-tag-width, content-offset, content-width, base-offset, base-width, tail-width}
+use Rattle.tree.specs.Layout.{row-width, mode-offset, revision-offset, name-offset, name-width, tag-offset, tag-width, tag-revision-offset, whole-tag-width, content-offset, content-width, base-offset, base-width}
 use Rattle.tree.specs.WellFormed.{last-revision, is-tag, fits-kind, is-node}
 use Rattle.syntax.specs.ParentLaws.{text-of-entry}
 use Rattle.tree.specs.Encoding.{kind-byte, kind-of, tag-bytes, tag-of, row-bytes, read-row}
@@ -164,20 +164,6 @@ module _ (x : List ℕ) (h : length x ≡ row-width) (small : (k : ℕ) → getD
         ap (λ (b : Bool). leb n last-revision && b) same ∙ and-swap (leb n last-revision) (is-filled tag-offset tag-width x),
       )
 
-  -- zeros behind the content: those of its field and those of the last
-  content-zeros : zeros-at (content-offset + length (text-at content-offset content-width x)) (tail-width - length (text-at content-offset content-width x)) x ≡ (is-filled content-offset content-width x && zeros-at base-offset base-width x)
-  unfolding zeros-at is-filled all-zero
-  content-zeros =
-      let n = length (text-at content-offset content-width x) in
-      let l = length-text-at content-offset content-width x (omega arith) in
-      let q : tail-width - n ≡ content-width - n + base-width = omega arith in
-      let p : content-offset + n + (content-width - n) ≡ base-offset = omega arith in
-      let y = drop (content-offset + n) x in
-      ap (λ (k : ℕ). all-zero (take k y)) q
-      ∙ ap all-zero (take-add (content-width - n) base-width y)
-      ∙ every-append (λ b. eqb b 0) (take (content-width - n) y) (take base-width (drop (content-width - n) y))
-      ∙ ap (λ (z : List ℕ). all-zero (take (content-width - n) y) && all-zero (take base-width z)) (drop-drop (content-width - n) (content-offset + n) x ∙ ap (λ (k : ℕ). drop k x) p)
-
   -- the whole row, part by part
   same-row : same-text (row-bytes (read-row x)) x
       ≡ (is-kind-byte (getD x 1 0)
@@ -219,6 +205,6 @@ module _ (x : List ℕ) (h : length x ≡ row-width) (small : (k : ℕ) → getD
       let s = same-text (tag-bytes T) (take whole-tag-width (drop tag-offset x)) in
       let c = is-content (text-at content-offset content-width x) && fits-kind (kind-of (getD x 1 0)) (number-at mode-offset x) (text-at content-offset content-width x) in
       let z = is-filled content-offset content-width x && zeros-at base-offset base-width x in
-      ap₂ (λ (t z : Bool). ((k && a) && f) && (t && (c && z))) (sym (tag-part (entry-path (text-at tag-offset tag-width x)) refl .1)) content-zeros
+      ap (λ (t : Bool). ((k && a) && f) && (t && (c && z))) (sym (tag-part (entry-path (text-at tag-offset tag-width x)) refl .1))
       ∙ shuffled k a f t s c z
       ∙ ap (λ (b : Bool). (a && (t && c)) && b) (sym same-row)

@@ -10,7 +10,7 @@ use Rattle.syntax.specs.Number.{is-mode}
 use Rattle.syntax.specs.Path.{Name, entry-path}
 use Rattle.syntax.specs.Field.{content-byte, is-content}
 use Rattle.syntax.specs.Form.{is-some}
-use Rattle.tree.specs.Layout.{mode-offset, revision-offset, name-offset, name-width, tag-offset, tag-width, tag-revision-offset, whole-tag-width, content-offset, content-width, tail-width}
+use Rattle.tree.specs.Layout.{mode-offset, revision-offset, name-offset, name-width, tag-offset, tag-width, tag-revision-offset, whole-tag-width, content-offset, content-width, base-offset, base-width}
 use Rattle.tree.specs.WellFormed.{last-revision, fits-kind}
 use Rattle.tree.specs.Encoding.{kind-byte, kind-of}
 use Rattle.tree.specs.declared.Kind.{Kind}
@@ -32,11 +32,12 @@ has-numbers x =
 unfoldable pub has-tag : List ℕ → Bool
 has-tag x = cond (is-some (entry-path (text-at tag-offset tag-width x))) (is-filled tag-offset tag-width x && leb (number-at tag-revision-offset x) last-revision) (zeros-at tag-offset whole-tag-width x)
 
--- the content is one that the kind allows, and zeros fill up the row
+-- the content is one that the kind allows, zeros fill up its field, and the bytes kept for a merge base are zero
 unfoldable pub has-content : List ℕ → Bool
 has-content x =
     let c = text-at content-offset content-width x in
-    (is-content c && fits-kind (kind-of (getD x 1 0)) (number-at mode-offset x) c) && zeros-at (content-offset + length c) (tail-width - length c) x
+    (is-content c && fits-kind (kind-of (getD x 1 0)) (number-at mode-offset x) c)
+    && (is-filled content-offset content-width x && zeros-at base-offset base-width x)
 
 -- so many bytes from a place each pass a test with the next
 unfoldable pub neighbours-pass : (ℕ → ℕ → Bool) → ℕ → ℕ → List ℕ → Bool
@@ -50,6 +51,11 @@ may-fill b next = not (eqb b 0) || eqb next 0
 -- in a content filled up, a byte of a content may stand before any, a zero before a zero
 unfoldable pub may-stand : ℕ → ℕ → Bool
 may-stand b next = cond (eqb b 0) (eqb next 0) (content-byte b)
+
+-- a content filled up stands in the field at a place: each byte may stand before the next, and the last before a zero, whatever
+-- the next field begins with
+unfoldable pub content-stands : ℕ → List ℕ → Bool
+content-stands at x = neighbours-pass may-stand at (content-width - 1) x && may-stand (getD x (at + (content-width - 1)) 0) 0
 
 unfoldable pub row-test : List ℕ → Bool
 row-test x = (has-numbers x && is-filled name-offset name-width x) && (has-tag x && has-content x)

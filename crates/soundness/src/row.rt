@@ -3,20 +3,21 @@
 // judges every row, and nearly all are sound.
 ghost use mathlib.Core.Path.{_≡_};
 ghost use mathlib.Core.List.{List};
-ghost use Prim.Native.Nat.{ℕ, _+_, _-_, _<_};
+ghost use Prim.Native.Nat.{ℕ, _+_, _-_, _≤_, _<_};
 ghost use lib.Dec.{eqb};
 ghost use lib.ListN.{length};
 ghost use Rattle.buffers.specs.Fields.{is-filled};
 ghost use Rattle.syntax.specs.Number.{is-mode};
-ghost use Rattle.tree.specs.Layout.{name-offset, name-width};
+ghost use Rattle.tree.specs.Layout.{name-offset, name-width, content-width};
 ghost use Rattle.tree.specs.WellFormed.{fits-kind};
 ghost use Rattle.tree.specs.RowAt.{row-bytes-at};
 ghost use Rattle.tree.specs.TreeBytes.{Has-row};
 ghost use Rattle.soundness.specs.Sound.{is-row};
-ghost use Rattle.soundness.specs.Tests.{is-kind-byte, has-numbers, has-tag, has-content, may-stand, neighbours-pass};
+ghost use Rattle.soundness.specs.Tests.{is-kind-byte, has-numbers, has-tag, has-content, may-stand, neighbours-pass, content-stands};
 use buffers::is_zero;
 use syntax::has_set_gid;
 use tree::CONTENT;
+use tree::CONTENT_WIDTH;
 use tree::DIRECTORY;
 use tree::FILE;
 use tree::FIRST;
@@ -31,8 +32,8 @@ use tree::ROW;
 use tree::TAG;
 use tree::TAG_REVISION;
 
-// The bytes of the longest content.
-const LONGEST: usize = 64;
+// How many bytes of a content's field are judged at once at its end; those before are a multiple of it.
+const AT_ONCE: usize = 16;
 
 // Whether a byte says what a node is.
 fn is_kind(b: u8) -> bool
@@ -124,27 +125,43 @@ fn may_stand(b: u8, next: u8) -> bool
     ((b == 0) & (next == 0)) | ((32 <= b) & (b <= 126) & (b != 44))
 }
 
-// Whether the longest content's bytes from a place may each stand before the next.
-fn all_stand(s: &[u8], at: usize) -> bool
-    requires { ⌜ at + 64 < length (now s) ⌝ }
-    ensures { λ r. ⌜ r ≡ neighbours-pass may-stand at 64 (now (s .entry)) ⌝ }
+// Whether n bytes from a place may each stand before the next.
+fn all_stand(s: &[u8], at: usize, n: usize) -> bool
+    requires { ⌜ at + n < length (now s) ⌝ }
+    ensures { λ r. ⌜ r ≡ neighbours-pass may-stand at n (now (s .entry)) ⌝ }
 {
     let mut all = true;
     let mut i: usize = 0;
-    while i < LONGEST {
+    while i < n {
         all = all & may_stand(s[at + i], s[at + i + 1]);
         i += 1;
     }
     all
 }
 
-// Whether the content is one that the kind allows, and zeros fill up the row.
+// Whether a content filled up stands in the field at a place. Its last byte is judged alone, since another field begins behind it;
+// the others in two stretches that share a byte, since they are one too few to be tested many at once.
+fn content_stands(s: &[u8], at: usize) -> bool
+    requires { ⌜ at + content-width ≤ length (now s) ⌝ }
+    ensures { λ r. ⌜ r ≡ content-stands at (now (s .entry)) ⌝ }
+{
+    let last = at + CONTENT_WIDTH - 1;
+    if !all_stand(s, at, CONTENT_WIDTH - AT_ONCE) {
+        return false;
+    }
+    if !all_stand(s, last - AT_ONCE, AT_ONCE) {
+        return false;
+    }
+    may_stand(s[last], 0)
+}
+
+// Whether the content is one that the kind allows, zeros fill up its field, and the bytes kept for a merge base are zero.
 fn has_content(tree: &[u8], i: usize) -> bool
     requires { ⌜ Has-row (now tree) i ⌝ }
     ensures { λ r. ⌜ r ≡ has-content (row-bytes-at (now (tree .entry)) i) ⌝ }
 {
     let at = FIRST + ROW * i;
-    if !all_stand(tree, at + CONTENT) {
+    if !content_stands(tree, at + CONTENT) {
         return false;
     }
     if !fits_kind(
@@ -154,7 +171,7 @@ fn has_content(tree: &[u8], i: usize) -> bool
     ) {
         return false;
     }
-    is_zero(tree, at + CONTENT + LONGEST, at + ROW)
+    is_zero(tree, at + CONTENT + CONTENT_WIDTH, at + ROW)
 }
 
 // Whether the bytes of a row are those of a node in range.

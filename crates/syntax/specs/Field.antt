@@ -48,9 +48,9 @@ password t = do
   check (is-name t)
   some t
 
--- content is 0 to 64 bytes of 32 to 126 without comma
-unfoldable pub content-limit : ℕ
-content-limit = 64
+-- content is 0 to 80 bytes of 32 to 126 without comma
+abbrev pub content-limit : ℕ
+content-limit = 80
 
 unfoldable pub content-byte : ℕ → Bool
 content-byte b = (leb 32 b && leb b 126) && not (eqb b 44)

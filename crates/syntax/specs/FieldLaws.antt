@@ -112,16 +112,16 @@ content-byte-from : (b : ℕ) → content-byte b ≡ true → 32 ≤ b
 unfolding content-byte
 content-byte-from b h = leb-true 32 b (and-both (leb 32 b) (leb b 126) (and-both _ (not (eqb b 44)) h .0) .0)
 
--- content is at most 64 bytes
-pub content-length : (c : Text) → is-content c ≡ true → length c ≤ 64
-unfolding is-content content-limit
-content-length c h = leb-true (length c) 64 (and-both (every content-byte c) (leb (length c) 64) h .1)
+-- content is not longer than its limit
+pub content-length : (c : Text) → is-content c ≡ true → length c ≤ content-limit
+unfolding is-content
+content-length c h = leb-true (length c) content-limit (and-both (every content-byte c) (leb (length c) content-limit) h .1)
 
--- content fits the 80 bytes of a node and has no zero byte
-pub content-fits : (c : Text) → is-content c ≡ true → (length c ≤ 80) × (lacks 0 c ≡ true)
+-- so zeros fill it up to a field of that width: it has no zero byte
+pub content-fits : (c : Text) → is-content c ≡ true → (length c ≤ content-limit) × (lacks 0 c ≡ true)
 unfolding is-content lacks
 content-fits c h = (
-  omega (arith, content-length c h),
+  content-length c h,
   every-implies content-byte (λ b. not (eqb b 0)) (λ b t. rw (ne-eqb b 0 (λ e. omega (arith, content-byte-from b t)))) c (and-both (every content-byte c) _ h .0),
 )
 

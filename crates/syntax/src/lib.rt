@@ -26,6 +26,9 @@ pub use text::piece_end;
 // A path has at most so many names.
 pub const MOST_NAMES: usize = 6;
 
+// A content has at most so many bytes.
+pub const CONTENT_LIMIT: usize = 80;
+
 // A part of a text: the bytes from start up to end.
 pub struct Span {
     pub start: usize,

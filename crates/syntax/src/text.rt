@@ -9,6 +9,7 @@ ghost use Rattle.syntax.specs.Pieces.{piece-length};
 ghost use Rattle.syntax.specs.Path.{name-byte, is-name};
 ghost use Rattle.syntax.specs.Field.{content-byte, is-content};
 ghost use Rattle.syntax.specs.Parts.{of-class, field-at};
+use crate::CONTENT_LIMIT;
 use crate::Class;
 use crate::Field;
 use crate::Span;
@@ -118,11 +119,11 @@ pub fn is_name(s: &[u8]) -> bool
     all_of(s, Class::Name)
 }
 
-// Whether a text is a content: 0 to 64 bytes of 32 to 126 without comma.
+// Whether a text is a content: no more bytes than its limit, of 32 to 126 without comma.
 pub fn is_content(s: &[u8]) -> bool
     ensures { λ r. ⌜ r ≡ is-content (now (s .entry)) ⌝ }
 {
-    if 64 < s.len() {
+    if CONTENT_LIMIT < s.len() {
         return false;
     }
     all_of(s, Class::Content)

@@ -9,6 +9,7 @@ use Rattle.syntax.specs.Pieces.{comma, joined}
 use Rattle.syntax.specs.Compute.{compute as compute-syntax}
 use Rattle.syntax.specs.Number.{octal, is-mode}
 use Rattle.syntax.specs.Path.{Name, root, _▹_, has-names, is-path, is-entry-path}
+use Rattle.syntax.specs.Field.{content-limit}
 use Rattle.tree.specs.Compute.{compute}
 use Rattle.tree.specs.declared.Kind.{Kind}
 use Rattle.tree.specs.declared.Kind.the-variants.{File, Directory}
@@ -52,7 +53,7 @@ deep =
       mode = octal 0 7 7 7;
       revision = 9999;
       tag = some (record { path = record { folder = root ▹ a ▹ a ▹ a ▹ a; name = a }; revision = 9999 });
-      content = replicate 64 97;
+      content = replicate content-limit 97;
     } in
     record { here = d; below = node a d (node a d (node a d (node a d (node a d (node a f nil nil) nil) nil) nil) nil) nil }
 

@@ -9,6 +9,7 @@
 -- | kept for a merge base | 147 | 80 |
 use Prim.Native.Nat.{ℕ, _+_, _*_}
 use Rattle.syntax.specs.Path.{longest-entry-text}
+use Rattle.syntax.specs.Field.{content-limit}
 
 abbrev pub row-width : ℕ
 row-width = 227
@@ -87,15 +88,12 @@ whole-tag-width = 51
 abbrev pub content-offset : ℕ
 content-offset = 67
 
+-- the longest content
 abbrev pub content-width : ℕ
-content-width = 80
+content-width = content-limit
 
 abbrev pub base-offset : ℕ
 base-offset = 147
 
 abbrev pub base-width : ℕ
-base-width = 80
-
--- content and merge base
-abbrev pub tail-width : ℕ
-tail-width = 160
+base-width = content-limit

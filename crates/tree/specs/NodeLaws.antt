@@ -16,7 +16,7 @@ use Rattle.accounts.specs.declared.Caller.{Caller}
 use Rattle.accounts.specs.Caller.{is-caller}
 use Rattle.syntax.specs.Number.{set-gid, is-mode}
 use Rattle.syntax.specs.Path.{is-entry-path}
-use Rattle.syntax.specs.Field.{content-limit, is-content}
+use Rattle.syntax.specs.Field.{is-content}
 use Rattle.syntax.specs.FormLaws.{no-answer, answered, both}
 use Rattle.tree.specs.declared.Kind.{Kind}
 use Rattle.tree.specs.declared.Kind.the-variants.{File, Directory}
@@ -113,7 +113,7 @@ pub plain-node : (kind : Kind) (owner : Uid) (group : Gid) (mode : ℕ) → ltb 
 unfolding last-revision
 plain-node kind owner group mode a b c d =
     node-of-ranges (record { kind = kind; owner = owner; group = group; mode = mode; revision = 0; tag = none; content = [] })
-    (record { owner = a; group = b; mode = c; gid = d; revision = refl; tag = λ t e. no-answer e; content = unfold is-content content-limit every in refl; bare = λ _. refl })
+    (record { owner = a; group = b; mode = c; gid = d; revision = refl; tag = λ t e. no-answer e; content = unfold is-content every in refl; bare = λ _. refl })
 
 -- ---- a node in range with one attribute set to a value in range is in range
 

@@ -51,7 +51,7 @@ pub record In-range (n : Node) : Type 0 where
   pub revision : n .revision ≤ last-revision
   -- "a tag: an entry path with a revision, or none"
   pub tag : (t : Tag) → n .tag ≡ some t → Tag-in-range t
-  -- "Content is 0 to 64 bytes of 32 to 126 without comma"
+  -- up to `content-limit` bytes "of 32 to 126 without comma"
   pub content : is-content (n .content) ≡ true
 
 pub record Sound-tree (t : Place Node) : Type 0 where

@@ -10,6 +10,7 @@
 // | kept for a merge base | 147 | 80 |
 //
 // The specification's offsets are in specs/Layout.antt; a proof fails where the two differ.
+use syntax::CONTENT_LIMIT;
 
 // Where the first row begins, behind the number of rows.
 pub const FIRST: usize = 2;
@@ -60,7 +61,7 @@ pub const NAME_WIDTH: usize = 8;
 
 pub const TAG_WIDTH: usize = 49;
 
-pub const CONTENT_WIDTH: usize = 80;
+pub const CONTENT_WIDTH: usize = CONTENT_LIMIT;
 
 // The letters of the kinds.
 pub const FILE: u8 = b'f';

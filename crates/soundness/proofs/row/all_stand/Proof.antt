@@ -8,13 +8,13 @@ use Rattle.soundness.proofs.row.all_stand.Statement.{statement}
 use Rattle.soundness.proofs.row.all_stand.Tie as tie
 
 abbrev Inv-loop : tie.InvT-loop
-Inv-loop s at all₀ i₀ all i = Passed-up-to may-stand s at 64 all i
+Inv-loop s at n all₀ i₀ all i = Passed-up-to may-stand s at n all i
 
 abbrev μ-loop : tie.MeasureT-loop
-μ-loop s at all₀ i₀ all i = 64 - i
+μ-loop s at n all₀ i₀ all i = n - i
 
 loop-holds : tie.Need-loop-holds Inv-loop μ-loop
-loop-holds c = let a = c .before .args in begins may-stand (now (a .s)) (a .at) 64
+loop-holds c = let a = c .before .args in begins may-stand (now (a .s)) (a .at) (a .n)
 
 add-may-stand : tie.Need-add-may-stand Inv-loop μ-loop
 add-may-stand c = omega arith
@@ -44,12 +44,12 @@ loop-again : tie.Need-loop-again Inv-loop μ-loop
 loop-again c =
     let l = c .before .before .before .before in
     let a = l .before .before .args in
-    one-more may-stand (now (a .s)) (a .at) 64 (c .may-stand .result) (l .loop .inv) (omega arith) (c .may-stand .ensures)
+    one-more may-stand (now (a .s)) (a .at) (a .n) (c .may-stand .result) (l .loop .inv) (omega arith) (c .may-stand .ensures)
 
 returns : tie.Need-returns Inv-loop μ-loop
 returns c =
     let a = c .before .before .before .args in
-    ends may-stand (now (a .s)) (a .at) 64 (c .before .loop .inv) (omega arith)
+    ends may-stand (now (a .s)) (a .at) (a .n) (c .before .loop .inv) (omega arith)
 
 pub all-stand-spec : {M : Type 1} → statement M
 all-stand-spec =

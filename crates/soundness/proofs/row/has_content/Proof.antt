@@ -16,16 +16,16 @@ mul-at c = search needs
 add-at : tie.Need-add-at
 add-at c = search needs
 
-add-all-stand : tie.Need-add-all-stand
-add-all-stand c = search needs
+add-content-stands : tie.Need-add-content-stands
+add-content-stands c = search needs
 
-all-stand-requires : tie.Need-all-stand-requires
-all-stand-requires c κs = search needs
+content-stands-requires : tie.Need-content-stands-requires
+content-stands-requires c κs = search needs
 
 returns : tie.Need-returns
 returns c =
     let a = c .before .before .before .args in
-    let e = answers-false (c .before .all-stand .ensures) (c .if1 .taken) in
+    let e = answers-false (c .before .content-stands .ensures) (c .if1 .taken) in
     sym (content-in-row (now (a .tree)) (a .i) (omega arith) ∙ rw e)
 
 kind-at-requires : tie.Need-kind-at-requires
@@ -67,7 +67,7 @@ returns-3 : tie.Need-returns-3
 returns-3 c =
     let a = c .before .before .before .before .before .before .before .before .before .args in
     let t = now (a .tree) in
-    let s = answers-true (c .before .before .before .before .before .before .before .all-stand .ensures) (c .before .before .before .before .before .before .if1 .left) in
+    let s = answers-true (c .before .before .before .before .before .before .before .content-stands .ensures) (c .before .before .before .before .before .before .if1 .left) in
     let f = answers-true (c .before .before .fits-kind .ensures (row-at t (a .i) .here .content) (content-empty t (a .i))) (c .before .if2 .left) in
     let e = rw (c .before .before .before .before .before .kind-at .ensures, c .before .before .before .before .mode-at .ensures) at f in
     c .is-zero .ensures ∙ sym (content-in-row t (a .i) (omega arith) ∙ rw (s, e))
@@ -78,8 +78,8 @@ has-content-spec =
     (tie.spec
     mul-at
     add-at
-    add-all-stand
-    all-stand-requires
+    add-content-stands
+    content-stands-requires
     returns
     kind-at-requires
     mode-at-requires
