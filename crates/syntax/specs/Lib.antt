@@ -18,3 +18,4 @@ pub mod FollowsLaws
 pub mod PathTextLaws
 pub mod FieldPartsLaws
 pub mod Compute
+pub mod Cases

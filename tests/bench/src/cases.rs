@@ -20,6 +20,7 @@ pub struct Case {
 
 const SETUP: &[u8] = b"p,1,1\nr,0,1\nl,1,0,oak\nend\n";
 const FILE: &[&str] = &["1,create,/u1/m,0600", "1,write,/u1/m,oak plank 51 by 32"];
+const LONG_WRITE: &str = "1,write,/u1/m,elm plank 40 by 20 sanded; larch 51 by 32; 22 22 22 35 35; 4 kerf; best side out";
 const DIRECTORY: &[&str] = &["1,mkdir,/u1/m,0700"];
 const ENTRY: &[&str] = &["1,create,/u1/m,0600", "1,write,/u1/m,oak plank 51 by 32", "1,add,/u1/m,/rep/m,1"];
 const ENTRIES: &[&str] = &["1,mkdir,/u1/m,0700", "1,add,/u1/m,/rep/m,1"];
@@ -33,6 +34,7 @@ pub fn cases() -> Vec<Case> {
         run("read, file", "1,read,/u1/m", FILE, 0),
         run("read, directory", "1,read,/u1", FILE, 0),
         run("write", "1,write,/u1/m,elm plank 40 by 20 sanded", FILE, 0),
+        run("write, 80 bytes", LONG_WRITE, FILE, 0),
         run("rm", "1,rm,/u1/m", FILE, 0),
         run("rmdir", "1,rmdir,/u1/m", DIRECTORY, 0),
         run("mv, file", "1,mv,/u1/m,/u1/z", FILE, 0),

@@ -1,6 +1,6 @@
 //! A moderate generator of setups and lines: few names and numbers, so that most lines meet something.
 
-use crate::plain::{self, ANSWER};
+use crate::plain::{self, ANSWER, CONTENT_LIMIT};
 
 const NAMES: [&str; 14] = ["rep", "u1", "u2", "u3", "a", "b", "c", "d", "e", "f", "aa", "0", "_", "long_one"];
 const PASSWORDS: [&str; 3] = ["oak", "elm", "ash"];
@@ -150,7 +150,7 @@ impl Random {
     }
 
     fn content(&mut self) -> String {
-        let length = if self.once_in(10) { 60 + self.below(6) } else { self.below(30) };
+        let length = if self.once_in(10) { CONTENT_LIMIT - 4 + self.below(6) } else { self.below(30) };
         (0..length).map(|_| b" 09azAZ~/_-"[self.below(11)] as char).collect()
     }
 

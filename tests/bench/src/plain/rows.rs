@@ -4,6 +4,7 @@ use super::STORE;
 
 pub const MOST_NODES: usize = 256;
 pub const MOST_NAMES: usize = 6;
+pub const CONTENT_LIMIT: usize = 80;
 pub const LAST_REVISION: u16 = 9999;
 pub const SET_GID: u16 = 0o2000;
 
@@ -61,8 +62,8 @@ pub trait Fields {
     fn name(&self) -> u64;
     fn tag_path(&self) -> &[u8; 49];
     fn tag_revision(&self) -> u16;
-    fn content(&self) -> &[u8; 80];
-    fn spare(&self) -> &[u8; 80];
+    fn content(&self) -> &[u8; CONTENT_LIMIT];
+    fn spare(&self) -> &[u8; CONTENT_LIMIT];
     fn set_depth(&mut self, depth: usize);
     fn set_owner(&mut self, uid: u8);
     fn set_group(&mut self, gid: u8);
@@ -116,10 +117,10 @@ impl Fields for Row {
     fn tag_revision(&self) -> u16 {
         u16::from_le_bytes(*part(self, 65))
     }
-    fn content(&self) -> &[u8; 80] {
+    fn content(&self) -> &[u8; CONTENT_LIMIT] {
         part(self, 67)
     }
-    fn spare(&self) -> &[u8; 80] {
+    fn spare(&self) -> &[u8; CONTENT_LIMIT] {
         part(self, 147)
     }
     fn set_depth(&mut self, depth: usize) {

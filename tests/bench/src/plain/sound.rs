@@ -2,7 +2,7 @@
 
 use super::header::{directories, grants, is_caller, pairs, primary};
 use super::header::{DIRECTORIES, DIRECTORY, GRANTS, MOST_GRANTS, MOST_PAIRS, PAIRS, SESSIONS, SPARE, SPARE_END};
-use super::rows::{count, unpadded, Fields, Header, Row, LAST_REVISION, MOST_NAMES, MOST_NODES, SET_GID};
+use super::rows::{count, unpadded, Fields, Header, Row, CONTENT_LIMIT, LAST_REVISION, MOST_NAMES, MOST_NODES, SET_GID};
 use super::text::{is_content_byte, is_name, Path};
 
 pub fn is_sound(header: &Header, rows: &[Row]) -> bool {
@@ -91,15 +91,15 @@ fn is_node(row: &Row) -> bool {
     kind && row.owner() < 24 && row.group() < 25 && row.revision() <= LAST_REVISION && is_tag(row) && is_zero(row.spare())
 }
 
-/// Text of at most 64 bytes, then zeros. Without early ends, so that it compiles to wide operations.
-fn is_content(field: &[u8; 80]) -> bool {
+/// Text, then zeros. Without early ends, so that it compiles to wide operations.
+fn is_content(field: &[u8; CONTENT_LIMIT]) -> bool {
     if field[0] == 0 {
         return is_zero(field);
     }
     let wrong = |b: u8| b != 0 && !is_content_byte(b);
     let bytes = field.iter().fold(false, |bad, &b| bad | wrong(b));
     let gaps = field.iter().zip(&field[1..]).fold(false, |bad, (&a, &b)| bad | (a == 0 && b != 0));
-    !bytes && !gaps && field[64] == 0
+    !bytes && !gaps
 }
 
 /// No tag, or an entry path and a revision.

@@ -1,6 +1,6 @@
 //! Names, paths, numbers, modes and contents as texts, and writing into the answer buffer.
 
-use super::rows::MOST_NAMES;
+use super::rows::{CONTENT_LIMIT, MOST_NAMES};
 
 fn is_name_byte(b: u8) -> bool {
     matches!(b, b'a'..=b'z' | b'0'..=b'9' | b'_')
@@ -133,7 +133,7 @@ pub fn mode(text: &[u8]) -> Option<u16> {
 }
 
 pub fn content(text: &[u8]) -> Option<&[u8]> {
-    (text.len() <= 64 && text.iter().all(|&b| is_content_byte(b))).then_some(text)
+    (text.len() <= CONTENT_LIMIT && text.iter().all(|&b| is_content_byte(b))).then_some(text)
 }
 
 /// Writes from a buffer's first byte on.
