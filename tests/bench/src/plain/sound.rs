@@ -91,15 +91,18 @@ fn is_node(row: &Row) -> bool {
     kind && row.owner() < 24 && row.group() < 25 && row.revision() <= LAST_REVISION && is_tag(row) && is_zero(row.spare())
 }
 
-/// Text, then zeros. Without early ends, so that it compiles to wide operations.
+/// Text, then zeros. Without early ends, so that it compiles to wide operations; for the same reason gaps are sought in two parts,
+/// of multiples of 16 bytes, that have one in common.
 fn is_content(field: &[u8; CONTENT_LIMIT]) -> bool {
     if field[0] == 0 {
         return is_zero(field);
     }
     let wrong = |b: u8| b != 0 && !is_content_byte(b);
     let bytes = field.iter().fold(false, |bad, &b| bad | wrong(b));
-    let gaps = field.iter().zip(&field[1..]).fold(false, |bad, (&a, &b)| bad | (a == 0 && b != 0));
-    !bytes && !gaps
+    let gap = |from: usize, to: usize| {
+        field[from..to].iter().zip(&field[from + 1..]).fold(false, |bad, (&a, &b)| bad | (a == 0 && b != 0))
+    };
+    !bytes && !gap(0, CONTENT_LIMIT - 16) && !gap(CONTENT_LIMIT - 17, CONTENT_LIMIT - 1)
 }
 
 /// No tag, or an entry path and a revision.
