@@ -1,13 +1,14 @@
 //! The cases that documents 01 and 02 name, both sides of each edge. What is expected is written by hand, and the model and
-//! the library are each held against it. Those of working directories stand in `edges_cd`.
+//! the library are each held against it. Those of contents stand in `edges_content`, those of working directories in
+//! `edges_cd`.
 
-use crate::edges_cd;
 use crate::layout::STORE;
 use crate::model::setup::read_setup;
 use crate::model::state::State;
 use crate::tally::Tally;
 use crate::trial::Trial;
 use crate::twin::Bench;
+use crate::{edges_cd, edges_content};
 
 pub const EXAMPLE_SETUP: &str = "p,1,1\np,2,2\nr,0,1\nl,1,0,oak\nl,2,1,elm\nend\n";
 
@@ -54,11 +55,10 @@ pub type Test = (&'static str, fn(&mut Trial));
 
 pub fn edges(seed: u64) -> Tally {
     let mut bench = Bench::new(seed);
-    let tests: [Test; 18] = [
+    let tests: [Test; 17] = [
         ("worked example", example),
         ("name 8 / 9 bytes", names),
         ("path 6 / 7 names", paths),
-        ("content 64 / 65", contents),
         ("node 256 / 257", nodes),
         ("revision 9999 / next", revisions),
         ("wrong turn: falling through to group bits", owner_bits),
@@ -74,7 +74,7 @@ pub fn edges(seed: u64) -> Tally {
         ("setup r,0,7 / r,3,3", role_pairs),
         ("setup lines", setup_lines),
     ];
-    for (name, test) in tests.into_iter().chain(edges_cd::TESTS) {
+    for (name, test) in tests.into_iter().chain(edges_content::TESTS).chain(edges_cd::TESTS) {
         let mut trial = Trial::new(&mut bench, name, EXAMPLE_SETUP);
         test(&mut trial);
         println!("{name}: {}", if trial.failed() { "failed" } else { "passed" });
@@ -125,21 +125,6 @@ fn paths(trial: &mut Trial) {
     trial.say("0,chmod,/rep/p/q,0000", "ok");
     trial.say("1,co,/rep/p,/u1/b/c/d/e/p", "ok");
     trial.say("1,read,/u1/b/c/d/e/p", "ok,");
-}
-
-fn contents(trial: &mut Trial) {
-    let (good, long) = ("x".repeat(64), "x".repeat(65));
-    trial.say("1,create,/u1/a,0600", "ok");
-    trial.say(&format!("1,write,/u1/a,{good}"), "ok");
-    trial.say(&format!("1,write,/u1/a,{long}"), "no,1");
-    trial.say("1,read,/u1/a", &format!("ok,{good}"));
-    trial.say("1,write,/u1/a, ~", "ok");
-    trial.say("1,read,/u1/a", "ok, ~");
-    trial.say("1,write,/u1/a,\x7f", "no,1");
-    trial.say("1,write,/u1/a,\x1f", "no,1");
-    trial.say("1,write,/u1/a,", "ok");
-    trial.say("1,read,/u1/a", "ok,");
-    trial.say("1,write,/u1/a", "no,1");
 }
 
 fn nodes(trial: &mut Trial) {

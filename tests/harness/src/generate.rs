@@ -1,7 +1,7 @@
 //! Random command lines that look at the state, so that most of them meet something.
 
 use crate::model::line::WORDS;
-use crate::model::state::{text, Node, Path, State};
+use crate::model::state::{text, Node, Path, State, MOST_CONTENT};
 use crate::rng::Rng;
 use crate::setups::PASSWORDS;
 
@@ -277,13 +277,13 @@ impl<'a> Lines<'a> {
         format!("{first}{bits:03o}").into_bytes()
     }
 
+    /// A content, seldom one byte too long.
     fn content(&mut self) -> Vec<u8> {
-        let length = *self.rng.pick(&[0, 1, 2, 5, 63, 64]);
-        let byte = |rng: &mut Rng| match rng.within(32, 126) as u8 {
-            b',' => b'.',
-            byte => byte,
-        };
-        (0..length).map(|_| byte(self.rng)).collect()
+        let mut content = any_content(self.rng);
+        if self.rng.percent(2) {
+            content.resize(MOST_CONTENT + 1, b'x');
+        }
+        content
     }
 
     /// A number, mostly below a bound.
@@ -303,6 +303,16 @@ impl<'a> Lines<'a> {
         let grant = *self.rng.pick(&own);
         vec![grant.role.to_string().into_bytes(), grant.password.clone()]
     }
+}
+
+/// A content: short, at either side of document 01's 64 bytes, or as long as may be.
+pub fn any_content(rng: &mut Rng) -> Vec<u8> {
+    let length = *rng.pick(&[0, 1, 2, 5, 63, 64, 65, MOST_CONTENT - 1, MOST_CONTENT]);
+    let byte = |rng: &mut Rng| match rng.within(32, 126) as u8 {
+        b',' => b'.',
+        byte => byte,
+    };
+    (0..length).map(|_| byte(rng)).collect()
 }
 
 /// Keeps the nodes for which something holds, if there are any.

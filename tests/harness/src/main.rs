@@ -4,6 +4,7 @@ mod damage;
 mod damage_cd;
 mod edges;
 mod edges_cd;
+mod edges_content;
 mod generate;
 mod layout;
 #[path = "../../library.rs"]

@@ -1,5 +1,6 @@
 //! Malformed lines: good ones with something done to them.
 
+use crate::model::state::MOST_CONTENT;
 use crate::rng::Rng;
 
 /// A line that mostly has no listed form.
@@ -46,7 +47,8 @@ fn mutate_field(rng: &mut Rng, line: &[u8]) -> Vec<u8> {
         3 => field.push(b'/'),
         4 => field.extend_from_slice(b"/a"),
         5 => field.extend_from_slice(b"123456789"),
-        6 => field.extend_from_slice(&[b'x'; 65]),
+        // Too long for anything; for a content often by one byte.
+        6 => field.resize(MOST_CONTENT + *rng.pick(&[1, 1, 2, 200]), b'x'),
         7 => field.make_ascii_uppercase(),
         8 => field.push(*rng.pick(&[127, 128, 195, 255, 31, 9])),
         9 => field.insert(0, *rng.pick(b" +-")),

@@ -1,6 +1,6 @@
-//! Random sound states that no short list of lines reaches: any modes, owners, tags and revisions.
+//! Random sound states that no short list of lines reaches: any modes, owners, tags, revisions and contents.
 
-use crate::generate::NAMES;
+use crate::generate::{any_content, NAMES};
 use crate::model::state::{Kind, Node, Path, State, Tag, LAST_REVISION, MOST_NAMES, MOST_NODES, SET_GID};
 use crate::rng::Rng;
 
@@ -85,7 +85,7 @@ fn attributes(rng: &mut Rng, state: &mut State, path: &Path) {
     node.revision = any_revision(rng);
     node.tag = tag;
     if !node.is_directory() && rng.percent(70) {
-        node.content = format!("content {}", rng.below(1000)).into_bytes();
+        node.content = any_content(rng);
     }
 }
 

@@ -54,7 +54,7 @@ pub fn is_name(field: &[u8]) -> bool {
     (1..=8).contains(&field.len()) && field.iter().all(good)
 }
 
-/// Content: 0 to 64 bytes of 32 to 126 without comma.
+/// Content: 0 to `MOST_CONTENT` bytes of 32 to 126 without comma.
 pub fn is_content(field: &[u8]) -> bool {
     field.len() <= MOST_CONTENT && field.iter().all(|byte| (32..=126).contains(byte) && *byte != b',')
 }

@@ -7,7 +7,7 @@ pub const MOST_NODES: usize = 256;
 /// The most names in a path.
 pub const MOST_NAMES: usize = 6;
 /// The most bytes of a content.
-pub const MOST_CONTENT: usize = 64;
+pub const MOST_CONTENT: usize = 80;
 /// The last revision.
 pub const LAST_REVISION: u16 = 9999;
 /// The group that holds all service accounts.
