@@ -1,17 +1,17 @@
 //! Damaged stores: the library answers 18 exactly where the layout says unsound, and else as the model does.
 
-use crate::damage_cd;
 use crate::generate::{Lines, Theme};
 use crate::layout::*;
 use crate::library::{self, Answer, NO_VALUE};
 use crate::model::run::LEAST_ANSWER;
 use crate::model::setup::read_setup;
-use crate::model::state::{Grant, Kind, Node, Person, State, Tag};
+use crate::model::state::{Grant, Kind, Node, Person, State, Tag, MOST_CONTENT};
 use crate::rng::Rng;
 use crate::setups::good_setup;
 use crate::states::scramble;
 use crate::tally::Tally;
 use crate::twin::{differ, unlike, Bench, Twin};
+use crate::{damage_cd, damage_content};
 
 /// How many of the sound stores are full; they come last.
 const FULL: usize = 3;
@@ -40,6 +40,7 @@ pub fn damage(seed: u64) -> Tally {
     lengths(&mut bench, &stores);
     odd_states(&mut bench);
     damage_cd::directories(&mut bench, &stores);
+    damage_content::contents(&mut bench);
     bench.tally
 }
 
@@ -147,7 +148,7 @@ fn damage_value(rng: &mut Rng, store: &mut [u8]) -> &'static str {
         return damage_header(rng, store);
     }
     let at = row(rng.below(two(store, ROWS)));
-    match rng.below(14) {
+    match rng.below(15) {
         0 => set(store, at + OWNER, *rng.pick(&[0, 15, 16, 23, 24, 255]), "owner"),
         1 => set(store, at + GROUP, *rng.pick(&[0, 15, 16, 24, 25, 255]), "group"),
         2 => set_two(store, at + MODE, *rng.pick(&[0, 0o777, 0o1000, 0o1777, 0o2000, 0o2777, 0o3000, 0o4000, 0o6755]), "mode"),
@@ -163,11 +164,16 @@ fn damage_value(rng: &mut Rng, store: &mut [u8]) -> &'static str {
             "name",
         ),
         8 | 9 => set_text(store, at + TAG_PATH, TAG_REVISION - TAG_PATH, tag_text(rng), "tag path"),
-        10 => set_text(store, at + CONTENT, 80, &"x".repeat(*rng.pick(&[0, 1, 63, 64, 65, 79, 80])), "content's length"),
-        11 => {
-            set_text(store, at + CONTENT, 80, rng.pick::<&str>(&[" ", "~", "a,b", "\x1f", "\x7f", "a\0b", "/", "\n"]), "content")
-        }
-        12 => set(store, at + ROW_SPARE + rng.below(80), 1, "kept bytes of a row"),
+        10 => set_text(store, at + CONTENT, MOST_CONTENT, &"x".repeat(rng.below(MOST_CONTENT + 1)), "content's length"),
+        11 => set_text(
+            store,
+            at + CONTENT,
+            MOST_CONTENT,
+            rng.pick::<&str>(&[" ", "~", "a,b", "\x1f", "\x7f", "a\0b", "/", "\n"]),
+            "content",
+        ),
+        12 => set(store, at + ROW_SPARE - 1, *rng.pick(b"x ~,\x1f\x7f\x80\xff\0"), "last byte of a content's field"),
+        13 => set(store, at + ROW_SPARE + rng.below(ROW - ROW_SPARE), 1, "kept bytes of a row"),
         _ => set(store, at + NAME + rng.below(8), *rng.pick(b"\0az_09{`:/^"), "byte of a name"),
     }
 }

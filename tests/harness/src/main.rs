@@ -2,6 +2,7 @@
 
 mod damage;
 mod damage_cd;
+mod damage_content;
 mod edges;
 mod edges_cd;
 mod edges_content;
