@@ -1,29 +1,40 @@
 -- What the code goes by where it tests one row: each test by the bytes at the row's place among all.
-use mathlib.Core.Path.{_≡_, sym, _∙_, ap, ap₂}
-use mathlib.Core.List.{List}
-use mathlib.Core.Bool.{Bool, true, false, _&&_, and-false}
+use mathlib.Core.Path.{_≡_, refl, sym, _∙_, ap, ap₂}
+use mathlib.Core.List.{List, [], _∷_}
+use mathlib.Core.Bool.{Bool, true, false, _&&_, cond, and-false}
 use Prim.Native.Nat.{ℕ, _+_, _-_, _≤_, _<_}
 use native.Mathlib.Omega.{arith}
 use lib.Dec.{eqb, leb, ltb}
 use lib.ListN.{length, getD, take, drop, length-drop, List·getD-eq-default}
 use lib.Seq.{length-take-le, drop-drop}
-use borrow.Author.Tests.{lt-ltb, le-ltb, ltb-true, ltb-false}
+use borrow.Author.Tests.{lt-ltb, le-ltb, ltb-true, ltb-false, eqb-true, eq-eqb, ne-eqb}
 use Rattle.buffers.specs.Cases.{case}
-use Rattle.buffers.specs.Fields.{text-at, all-zero, zeros-at, is-filled}
+use Rattle.buffers.specs.Text.{Text}
+use Rattle.buffers.specs.Fields.{number-at, text-at, all-zero, zeros-at, is-filled}
 use Rattle.buffers.specs.FieldsLaws.{part-of-take}
 use Rattle.syntax.specs.Number.{is-mode}
 use Rattle.syntax.specs.Path.{entry-path}
 use Rattle.syntax.specs.Form.{is-some}
-use Rattle.tree.specs.Layout.{row-width, row-start, kind-offset, owner-offset, group-offset, name-offset, name-width, tag-offset, tag-revision-offset, content-offset, content-width, tag-width}
+use Rattle.syntax.specs.Compute.{compute}
+use Rattle.tree.specs.Layout.{row-width, row-start, kind-offset, owner-offset, group-offset, name-offset, name-width, tag-offset, tag-width, tag-revision-offset, whole-tag-width, content-offset, content-width}
 use Rattle.tree.specs.WellFormed.{last-revision, fits-kind}
 use Rattle.tree.specs.Encoding.{read-row}
 use Rattle.tree.specs.RowAt.{row-bytes-at, row-at, tag-text-at, tag-number-at}
-use Rattle.tree.specs.RowAtLaws.{byte-in-row}
+use Rattle.tree.specs.RowAtLaws.{byte-in-row, text-in-row}
 use Rattle.soundness.specs.Sound.{is-row}
-use Rattle.soundness.specs.Tests.{is-kind-byte, has-numbers, has-tag, has-content, may-fill, may-stand, neighbours-pass, content-stands, row-test}
+use Rattle.soundness.specs.Tests.{is-kind-byte, has-numbers, has-tag, has-content, may-stand, content-stands, row-test}
 use Rattle.soundness.specs.RowTestLaws.{length-text-at, row-test-is}
 use Rattle.soundness.specs.NeighbourLaws.{pass-alike}
-use Rattle.soundness.specs.FilledLaws.{filled-by-bytes, empty-by-first, content-by-bytes}
+use Rattle.soundness.specs.FilledLaws.{zeros-by-parts, empty-by-first, content-by-bytes}
+
+alike : (a : Bool) → cond a false false ≡ false
+alike true = refl
+alike false = refl
+
+-- a text of no bytes is no entry path
+none-is-no-entry : (t : Text) → length t ≡ 0 → is-some (entry-path t) ≡ false
+none-is-no-entry [] h = unfold compute in refl
+none-is-no-entry (c ∷ t) h = let z : ⊥ = omega arith in absurd z
 
 module _ (b : List ℕ) (i : ℕ) where
   -- zeros of a row
@@ -75,10 +86,10 @@ module _ (b : List ℕ) (i : ℕ) where
         m,
       )
 
-  -- a tag that is no entry path
-  pub tag-none : is-some (entry-path (tag-text-at b i)) ≡ false → has-tag (row-bytes-at b i) ≡ zeros-at (row-start i + tag-offset) (row-start i + content-offset - (row-start i + tag-offset)) b
+  -- where the tag's text is no entry path it must be zeros
+  not-entry : is-some (entry-path (tag-text-at b i)) ≡ false → has-tag (row-bytes-at b i) ≡ zeros-at tag-offset whole-tag-width (row-bytes-at b i)
   unfolding has-tag tag-text-at
-  tag-none e = rw e (zeros-between tag-offset content-offset (omega arith) (omega arith))
+  not-entry e = rw e
 
   -- a content is empty if its field begins with a zero
   pub content-empty : eqb (getD b (row-start i + content-offset) 0) 0 ≡ eqb (length (row-at b i .here .content)) 0
@@ -94,34 +105,53 @@ module _ (b : List ℕ) (i : ℕ) where
     pub text-within : (k w : ℕ) → k + w ≤ row-width → length (text-at k w (row-bytes-at b i)) ≤ w
     text-within k w j = length-text-at k w (row-bytes-at b i) (omega (arith, length-row))
 
-    -- a field is filled up with zeros
-    pub filled-in-row : (k w n : ℕ) → k + w ≤ row-width → n ≡ length (text-at k w (row-bytes-at b i))
-        → is-filled k w (row-bytes-at b i) ≡ zeros-at (row-start i + k + n) (row-start i + (k + w) - (row-start i + k + n)) b
+    -- a field is filled up in its row as among all bytes
+    pub filled-in-row : (k w : ℕ) → k + w ≤ row-width → is-filled k w (row-bytes-at b i) ≡ is-filled (row-start i + k) w b
     unfolding is-filled
-    filled-in-row k w n j e =
+    filled-in-row k w j =
+        let n = length (text-at k w (row-bytes-at b i)) in
         let f = text-within k w j in
-        let q : w - n ≡ k + w - (k + n) = omega arith in
-        rw (← e) (ap (λ (m : ℕ). zeros-at (k + n) m (row-bytes-at b i)) q ∙ zeros-behind k (k + w) n (omega arith) j)
+        let q : row-start i + (k + n) ≡ row-start i + k + n = omega arith in
+        zeros-in-row (k + n) (w - n) (omega arith)
+        ∙ ap (λ (m : ℕ). zeros-at m (w - n) b) q
+        ∙ ap (λ (t : Text). zeros-at (row-start i + k + length t) (w - length t) b) (text-in-row b i k w j)
 
-    -- so the name, byte by byte
-    pub name-in-row : is-filled name-offset name-width (row-bytes-at b i) ≡ neighbours-pass may-fill (row-start i + name-offset) 7 b
-    name-in-row =
-        filled-by-bytes 8 7 (row-bytes-at b i) (omega (arith, length-row))
-        ∙ pass-alike may-fill 7 8 (row-start i + 8) (row-bytes-at b i) b (λ k j.
-        let q : row-start i + (8 + k) ≡ row-start i + 8 + k = omega arith in
-        byte-in-row b i (8 + k) (omega arith) ∙ ap (λ (n : ℕ). getD b n 0) q)
+    -- a tag of zeros alone
+    tag-zeros : zeros-at tag-offset whole-tag-width (row-bytes-at b i)
+        ≡ ((eqb (length (tag-text-at b i)) 0 && is-filled (row-start i + tag-offset) tag-width b) && eqb (tag-number-at b i) 0)
+    unfolding tag-text-at tag-number-at
+    tag-zeros =
+        let t = text-at tag-offset tag-width (row-bytes-at b i) in
+        let n = number-at tag-revision-offset (row-bytes-at b i) in
+        zeros-by-parts tag-offset tag-width (row-bytes-at b i) (omega (arith, length-row))
+        ∙ ap (λ (f : Bool). (eqb (length t) 0 && f) && eqb n 0) (filled-in-row tag-offset tag-width (omega arith))
 
-    -- an entry path that is not filled up
-    pub tag-unfilled : (n : ℕ) → is-some (entry-path (tag-text-at b i)) ≡ true → n ≡ length (tag-text-at b i)
-        → zeros-at (row-start i + tag-offset + n) (row-start i + tag-revision-offset - (row-start i + tag-offset + n)) b ≡ false → has-tag (row-bytes-at b i) ≡ false
-    unfolding has-tag tag-text-at
-    tag-unfilled n s e z = rw s (rw (filled-in-row tag-offset tag-width n (omega arith) e ∙ z))
+    -- a tag whose path is not filled up
+    pub tag-unfilled : is-filled (row-start i + tag-offset) tag-width b ≡ false → has-tag (row-bytes-at b i) ≡ false
+    unfolding has-tag
+    tag-unfilled e =
+        let z : zeros-at tag-offset whole-tag-width (row-bytes-at b i) ≡ false = tag-zeros ∙ simp (e, and-false) in
+        rw (filled-in-row tag-offset tag-width (omega arith) ∙ e, z) (alike (is-some (entry-path (text-at tag-offset tag-width (row-bytes-at b i)))))
 
-    -- and one that is
-    pub tag-filled : (n : ℕ) → is-some (entry-path (tag-text-at b i)) ≡ true → n ≡ length (tag-text-at b i)
-        → zeros-at (row-start i + tag-offset + n) (row-start i + tag-revision-offset - (row-start i + tag-offset + n)) b ≡ true → has-tag (row-bytes-at b i) ≡ leb (tag-number-at b i) last-revision
+    -- the path's field begins with a zero if it has no text
+    tag-first : eqb (length (tag-text-at b i)) 0 ≡ eqb (getD b (row-start i + tag-offset) 0) 0
+    unfolding tag-text-at
+    tag-first = empty-by-first tag-offset (tag-width - 1) (row-bytes-at b i) ∙ ap (λ (k : ℕ). eqb k 0) (byte-in-row b i tag-offset (omega arith))
+
+    -- no tag
+    pub tag-none : is-filled (row-start i + tag-offset) tag-width b ≡ true → getD b (row-start i + tag-offset) 0 ≡ 0 → has-tag (row-bytes-at b i) ≡ eqb (tag-number-at b i) 0
+    tag-none f h =
+        let e : eqb (length (tag-text-at b i)) 0 ≡ true = tag-first ∙ eq-eqb (getD b (row-start i + tag-offset) 0) 0 h in
+        not-entry (none-is-no-entry (tag-text-at b i) (eqb-true (length (tag-text-at b i)) 0 e)) ∙ tag-zeros ∙ rw (e, f)
+
+    -- a text that is no entry path
+    pub tag-wrong : ¬ (getD b (row-start i + tag-offset) 0 ≡ 0) → is-some (entry-path (tag-text-at b i)) ≡ false → has-tag (row-bytes-at b i) ≡ false
+    tag-wrong h e = not-entry e ∙ tag-zeros ∙ rw (tag-first ∙ ne-eqb (getD b (row-start i + tag-offset) 0) 0 h)
+
+    -- an entry path, filled up
+    pub tag-right : is-filled (row-start i + tag-offset) tag-width b ≡ true → is-some (entry-path (tag-text-at b i)) ≡ true → has-tag (row-bytes-at b i) ≡ leb (tag-number-at b i) last-revision
     unfolding has-tag tag-text-at tag-number-at
-    tag-filled n s e z = rw s (rw (filled-in-row tag-offset tag-width n (omega arith) e ∙ z))
+    tag-right f e = rw (e, filled-in-row tag-offset tag-width (omega arith) ∙ f)
 
     -- the content: its bytes, what the kind allows, and the zeros behind
     pub content-in-row : has-content (row-bytes-at b i)

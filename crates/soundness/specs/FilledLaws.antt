@@ -2,14 +2,15 @@
 use mathlib.Core.Path.{_≡_, refl, sym, _∙_, ap, ap₂}
 use mathlib.Core.List.{List, [], _∷_}
 use mathlib.Core.Bool.{Bool, true, false, _&&_, and-true, and-false}
-use Prim.Native.Nat.{ℕ, suc, _+_, _-_, _≤_, _<_}
+use Prim.Native.Nat.{ℕ, suc, _+_, _-_, _*_, _≤_, _<_}
 use native.Mathlib.Omega.{arith}
 use lib.Dec.{eqb, leb}
 use lib.ListN.{length, getD, take, drop, length-drop, List·getD-eq-default}
-use lib.Seq.{drop-drop, getD-drop, getD-take, length-take-le}
-use borrow.Author.Tests.{le-leb, ne-eqb}
+use lib.Seq.{take-add, drop-drop, drop-cons, getD-drop, getD-take, length-take-le}
+use borrow.Author.Tests.{le-leb, eqb-true, eqb-false, eq-eqb, ne-eqb}
 use Rattle.buffers.specs.Cases.{case}
 use Rattle.buffers.specs.Text.{every}
+use Rattle.buffers.specs.TextLaws.{every-append}
 use Rattle.buffers.specs.Fields.{number-at, unpadded, text-at, all-zero, zeros-at, is-filled}
 use Rattle.buffers.specs.FieldsLaws.{field-text-fits}
 use Rattle.syntax.specs.Field.{content-byte, is-content, content-limit}
@@ -58,6 +59,43 @@ filled-by-bytes i n x h =
     filled-in-field i (suc n) x
     ∙ text-in-field n l (length-take-le (suc n) (drop i x) (omega (arith, length-drop i x)))
     ∙ pass-alike may-fill n 0 i l x (λ k j. in-field i (suc n) x k (omega arith))
+
+-- ---- zeros alone
+
+zeros-alone : (l : List ℕ) → all-zero l ≡ (eqb (length (unpadded l)) 0 && all-zero (drop (length (unpadded l)) l))
+unfolding unpadded all-zero every
+zeros-alone [] = refl
+zeros-alone (b ∷ l) = case (eqb b 0) (λ e. rw e (rw e)) (λ e. rw (e, ne-eqb (suc (length (unpadded l))) 0 (λ z. omega arith)))
+
+-- a field of zeros is one without a text, filled up
+zeros-by-text : (i w : ℕ) (x : List ℕ) → zeros-at i w x ≡ (eqb (length (text-at i w x)) 0 && is-filled i w x)
+unfolding zeros-at text-at
+zeros-by-text i w x =
+    zeros-alone (take w (drop i x)) ∙ ap (λ (b : Bool). eqb (length (unpadded (take w (drop i x)))) 0 && b) (sym (filled-in-field i w x))
+
+-- two zeros are the number 0
+zeros-by-number : (i : ℕ) (x : List ℕ) → suc i < length x → zeros-at i 2 x ≡ eqb (number-at i x) 0
+unfolding zeros-at all-zero every number-at
+zeros-by-number i x h =
+    let q : take 2 (drop i x) ≡ getD x i 0 ∷ (getD x (suc i) 0 ∷ []) = rw (drop-cons x i 0 (omega arith), drop-cons x (suc i) 0 h) in
+    let low = getD x i 0 in
+    let high = getD x (suc i) 0 in
+    let n = low + 256 * high in
+    rw q (case (eqb low 0)
+    (λ a. case (eqb high 0)
+    (λ b. rw (a, b, eq-eqb n 0 (omega (arith, eqb-true low 0 a, eqb-true high 0 b))))
+    (λ b. rw (a, b, ne-eqb n 0 (λ z. eqb-false high 0 b (omega arith)))))
+    (λ a. rw (a, ne-eqb n 0 (λ z. eqb-false low 0 a (omega arith)))))
+
+-- so of a text with a number behind it
+pub zeros-by-parts : (i w : ℕ) (x : List ℕ) → i + w + 2 ≤ length x
+    → zeros-at i (w + 2) x ≡ ((eqb (length (text-at i w x)) 0 && is-filled i w x) && eqb (number-at (i + w) x) 0)
+zeros-by-parts i w x h =
+    let apart : zeros-at i (w + 2) x ≡ (zeros-at i w x && zeros-at (i + w) 2 x) = unfold zeros-at all-zero in
+    ap all-zero (take-add w 2 (drop i x))
+    ∙ every-append (λ b. eqb b 0) (take w (drop i x)) (take 2 (drop w (drop i x)))
+    ∙ ap (λ (l : List ℕ). all-zero (take w (drop i x)) && all-zero (take 2 l)) (drop-drop w i x) in
+    apart ∙ ap₂ _&&_ (zeros-by-text i w x) (zeros-by-number (i + w) x (omega arith))
 
 -- ---- a content
 

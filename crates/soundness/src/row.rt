@@ -30,7 +30,7 @@ use tree::NAME_WIDTH;
 use tree::OWNER;
 use tree::ROW;
 use tree::TAG;
-use tree::TAG_REVISION;
+use tree::TAG_WIDTH;
 
 // How many bytes of a content's field are judged at once at its end; those before are a multiple of it.
 const AT_ONCE: usize = 16;
@@ -86,36 +86,47 @@ fn has_numbers(tree: &[u8], i: usize) -> bool
     tree::revision_at(tree, i) <= LAST_REVISION
 }
 
-// Whether zeros fill up the name: behind a zero stands none but a zero.
-fn name_is_filled(tree: &[u8], i: usize) -> bool
-    requires { ⌜ Has-row (now tree) i ⌝ }
-    ensures { λ r. ⌜ r ≡ is-filled name-offset name-width (row-bytes-at (now (tree .entry)) i) ⌝ }
+// Whether zeros fill up a field: behind a zero stands none but a zero.
+fn is_filled(s: &[u8], at: usize, width: usize) -> bool
+    requires { ⌜ 1 ≤ width ⌝ }
+    requires { ⌜ at + width ≤ length (now s) ⌝ }
+    ensures { λ r. ⌜ r ≡ is-filled at width (now (s .entry)) ⌝ }
 {
-    let at = FIRST + ROW * i + NAME;
     let mut all = true;
     let mut k: usize = 0;
-    while k < NAME_WIDTH - 1 {
-        all = all & ((tree[at + k] != 0) | (tree[at + k + 1] == 0));
+    while k < width - 1 {
+        all = all & ((s[at + k] != 0) | (s[at + k + 1] == 0));
         k += 1;
     }
     all
 }
 
-// Whether the tag is zeros, or an entry path filled up and a revision.
+// Whether zeros fill up the name.
+fn name_is_filled(tree: &[u8], i: usize) -> bool
+    requires { ⌜ Has-row (now tree) i ⌝ }
+    ensures { λ r. ⌜ r ≡ is-filled name-offset name-width (row-bytes-at (now (tree .entry)) i) ⌝ }
+{
+    is_filled(tree, FIRST + ROW * i + NAME, NAME_WIDTH)
+}
+
+// Whether the tag is zeros, or an entry path filled up and a revision. The field is tested first, whether or not it has a text:
+// its length is fixed, that of the zeros behind a path is not.
 fn has_tag(tree: &[u8], i: usize) -> bool
     requires { ⌜ Has-row (now tree) i ⌝ }
     ensures { λ r. ⌜ r ≡ has-tag (row-bytes-at (now (tree .entry)) i) ⌝ }
 {
-    let at = FIRST + ROW * i;
-    let path = tree::tag_path_at(tree, i);
-    if !syntax::is_entry_path(path) {
-        return is_zero(tree, at + TAG, at + CONTENT);
-    }
-    let n = path.len();
-    if !is_zero(tree, at + TAG + n, at + TAG_REVISION) {
+    let at = FIRST + ROW * i + TAG;
+    if !is_filled(tree, at, TAG_WIDTH) {
         return false;
     }
-    tree::tag_revision_at(tree, i) <= LAST_REVISION
+    let revision = tree::tag_revision_at(tree, i);
+    if tree[at] == 0 {
+        return revision == 0;
+    }
+    if !syntax::is_entry_path(tree::tag_path_at(tree, i)) {
+        return false;
+    }
+    revision <= LAST_REVISION
 }
 
 // Whether a byte may stand before the next in a content filled up: a byte of a content before any, a zero before a zero.

@@ -1,87 +1,29 @@
--- `soundness::row::name_is_filled` meets its contract: what is left, with what was seen, is the whole.
-use mathlib.Core.Path.{refl, sym, _∙_}
-use Prim.Native.Nat.{_-_, _+_}
+-- `soundness::row::name_is_filled` meets its contract: a field is filled up in its row as among all bytes.
+use mathlib.Core.Path.{sym, _∙_}
 use native.Mathlib.Omega.{arith}
 use denote.Ref.{now}
-use Rattle.tree.specs.Layout.{row-start, name-offset}
-use Rattle.soundness.specs.Tests.{may-fill}
-use Rattle.soundness.specs.NeighbourLaws.{Passed-up-to, begins, one-more, ends}
-use Rattle.soundness.specs.FieldTestLaws.{name-in-row}
+use Rattle.tree.specs.Layout.{name-offset, name-width}
+use Rattle.soundness.specs.FieldTestLaws.{filled-in-row}
+use borrow.Author.Needs.{needs}
 use Rattle.soundness.proofs.row.name_is_filled.Statement.{statement}
 use Rattle.soundness.proofs.row.name_is_filled.Tie as tie
 
-abbrev Inv-loop : tie.InvT-loop
-Inv-loop tree i at all₀ k₀ all k = Passed-up-to may-fill tree at 7 all k
+mul-is-filled : tie.Need-mul-is-filled
+mul-is-filled c = search needs
 
-abbrev μ-loop : tie.MeasureT-loop
-μ-loop tree i at all₀ k₀ all k = 7 - k
+add-is-filled : tie.Need-add-is-filled
+add-is-filled c = search needs
 
-mul-at : tie.Need-mul-at Inv-loop μ-loop
-mul-at c = omega arith
+add-is-filled-2 : tie.Need-add-is-filled-2
+add-is-filled-2 c = search needs
 
-add-at : tie.Need-add-at Inv-loop μ-loop
-add-at c = omega arith
+is-filled-requires : tie.Need-is-filled-requires
+is-filled-requires c κs = search needs
 
-add-at-2 : tie.Need-add-at-2 Inv-loop μ-loop
-add-at-2 c = omega arith
-
-loop-holds : tie.Need-loop-holds Inv-loop μ-loop
-loop-holds c = let a = c .args in begins may-fill (now (a .tree)) (row-start (a .i) + name-offset) 7
-
-sub-loop : tie.Need-sub-loop Inv-loop μ-loop
-sub-loop c = omega arith
-
-add-all : tie.Need-add-all Inv-loop μ-loop
-add-all c = omega arith
-
-shared-slice-read-all : tie.Need-shared-slice-read-all Inv-loop μ-loop
-shared-slice-read-all c = omega arith
-
-add-all-2 : tie.Need-add-all-2 Inv-loop μ-loop
-add-all-2 c = omega arith
-
-add-all-3 : tie.Need-add-all-3 Inv-loop μ-loop
-add-all-3 c = omega arith
-
-shared-slice-read-all-2 : tie.Need-shared-slice-read-all-2 Inv-loop μ-loop
-shared-slice-read-all-2 c = omega arith
-
-add-k : tie.Need-add-k Inv-loop μ-loop
-add-k c = omega arith
-
-loop-less : tie.Need-loop-less Inv-loop μ-loop
-loop-less c = omega arith
-
-loop-again : tie.Need-loop-again Inv-loop μ-loop
-unfolding may-fill
-loop-again c =
-    let l = c .before .before .before in
-    let a = l .before .args in
-    one-more may-fill (now (a .tree)) (row-start (a .i) + name-offset) 7 _ (l .loop .inv) (omega arith) refl
-
-returns : tie.Need-returns Inv-loop μ-loop
+returns : tie.Need-returns
 returns c =
     let a = c .before .before .args in
-    ends may-fill (now (a .tree)) (row-start (a .i) + name-offset) 7 (c .before .loop .inv) (omega arith)
-    ∙ sym (name-in-row (now (a .tree)) (a .i) (omega arith))
+    c .is-filled .ensures ∙ sym (filled-in-row (now (a .tree)) (a .i) (omega arith) name-offset name-width (omega arith))
 
 pub name-is-filled-spec : {M : Type 1} → statement M
-name-is-filled-spec =
-    tie.close
-    (tie.spec
-    Inv-loop
-    μ-loop
-    mul-at
-    add-at
-    add-at-2
-    loop-holds
-    sub-loop
-    add-all
-    shared-slice-read-all
-    add-all-2
-    add-all-3
-    shared-slice-read-all-2
-    add-k
-    loop-less
-    loop-again
-    returns)
+name-is-filled-spec = tie.close (tie.spec mul-is-filled add-is-filled add-is-filled-2 is-filled-requires returns)
