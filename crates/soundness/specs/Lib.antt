@@ -7,4 +7,5 @@ pub mod NeighbourLaws
 pub mod FilledLaws
 pub mod FieldTestLaws
 pub mod OrderTestLaws
+pub mod NameOrderLaws
 pub mod SoundTestLaws

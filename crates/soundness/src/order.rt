@@ -2,13 +2,42 @@
 ghost use mathlib.Core.Path.{_≡_};
 ghost use mathlib.Core.List.{[]};
 ghost use Prim.Native.Nat.{_-_, _≤_, _<_};
+ghost use Rattle.buffers.specs.Text.{precedes};
 ghost use Rattle.tree.specs.RowAt.{row-count, row-at};
 ghost use Rattle.tree.specs.TreeBytes.{Has-row, Sized};
 ghost use Rattle.soundness.specs.Tests.{may-follow-at, rest-in-order};
 use crate::row::is_row;
-use buffers::Order;
 use syntax::MOST_NAMES;
+use tree::FIRST;
+use tree::NAME;
+use tree::NAME_WIDTH;
+use tree::ROW;
 use tree::is_directory;
+
+// Whether the name of a row comes before that of another in byte order. The fields are compared in place, and no end of a name
+// is looked for: a zero, which ends a name, is less than every byte of one, so the first bytes that differ tell; a zero in both ends
+// both names.
+fn comes_before(tree: &[u8], i: usize, j: usize) -> bool
+    requires { ⌜ Has-row (now tree) i ⌝ }
+    requires { ⌜ Has-row (now tree) j ⌝ }
+    ensures { λ r. ⌜ r ≡ precedes (row-at (now (tree .entry)) i .name) (row-at (now (tree .entry)) j .name) ⌝ }
+{
+    let a = FIRST + ROW * i + NAME;
+    let b = FIRST + ROW * j + NAME;
+    let mut k: usize = 0;
+    while k < NAME_WIDTH {
+        let x = tree[a + k];
+        let y = tree[b + k];
+        if x != y {
+            return x < y;
+        }
+        if x == 0 {
+            return false;
+        }
+        k += 1;
+    }
+    false
+}
 
 // Whether a row may follow the one before it, where the row at its depth last seen is given.
 fn may_follow(tree: &[u8], i: usize, beside: usize) -> bool
@@ -33,11 +62,7 @@ fn may_follow(tree: &[u8], i: usize, beside: usize) -> bool
         }
         return is_directory(tree::kind_at(tree, i - 1));
     }
-    match buffers::compare(tree::name_at(tree, beside), name) {
-        Order::Before => true,
-        Order::Same => false,
-        Order::After => false,
-    }
+    comes_before(tree, beside, i)
 }
 
 // Whether the rows behind `/` are sound each and stand in order.

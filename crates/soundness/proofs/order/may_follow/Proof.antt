@@ -4,11 +4,9 @@ use Prim.Native.Nat.{_-_}
 use native.Mathlib.Omega.{arith}
 use denote.Ref.{now}
 use Rattle.buffers.specs.Cases.{answers-false, answers-true}
-use Rattle.buffers.specs.TextLaws.{is-before, order-tells}
 use Rattle.syntax.specs.Path.{is-name}
 use Rattle.tree.specs.Node.{is-directory}
 use Rattle.tree.specs.RowAt.{row-at}
-use Rattle.soundness.specs.Sound.{may-follow}
 use Rattle.soundness.specs.OrderTestLaws.{follow-name, follow-top, follow-far, follow-below, follow-beside}
 use borrow.Author.Needs.{needs}
 use Rattle.soundness.proofs.order.may_follow.Statement.{statement}
@@ -70,52 +68,17 @@ returns-4 c =
     let name = ap is-name (sym (c .before .before .before .before .before .before .before .name-at .ensures)) ∙ answers-true (c .before .before .before .before .before .before .is-name .ensures) (c .before .before .before .before .before .if1 .left) in
     c .is-directory .ensures ∙ ap is-directory (c .before .kind-at .ensures) ∙ sym (follow-below (p .depth) (p .here .kind) (row-at t (a .beside) .name) (row-at t (a .i)) name (omega arith) (omega arith) (omega arith))
 
-name-at-requires-2 : tie.Need-name-at-requires-2
-name-at-requires-2 c κs = search needs
-
-compare-requires : tie.Need-compare-requires
-compare-requires c κs = search needs
-
-enum-told : tie.Need-enum-told
-enum-told c = search needs
-
-enum-told-2 : tie.Need-enum-told-2
-enum-told-2 c = search needs
-
-enum-told-3 : tie.Need-enum-told-3
-enum-told-3 c = search needs
-
-abbrev start : tie.After-compare → tie.Start
-start m = m .before .before .before .before .before .before .before .before .before .before
-
--- beside another row it goes by the order of the names
-by-order : (m : tie.After-compare)
-    → (let a = start m .args in
-    let t = now (a .tree) in
-    let p = row-at t (a .i - 1) in
-    may-follow (p .depth) (p .here .kind) (row-at t (a .beside) .name) (row-at t (a .i))) ≡ is-before (m .compare .result)
-by-order m =
-    let a = start m .args in
-    let t = now (a .tree) in
-    let p = row-at t (a .i - 1) in
-    let r = row-at t (a .i) in
-    let s = row-at t (a .beside) .name in
-    let l = m .before .before .before .before in
-    let name = ap is-name (sym (l .before .before .name-at .ensures)) ∙ answers-true (l .before .is-name .ensures) (l .if1 .left) in
-    let order = rw (m .before .name-at2 .ensures, l .before .before .name-at .ensures) at (m .compare .ensures) in
-    follow-beside (p .depth) (p .here .kind) s r name (omega arith) (omega arith) (omega arith) ∙ order-tells s (r .name) ∙ ap is-before (sym order)
+comes-before-requires : tie.Need-comes-before-requires
+comes-before-requires c κs = search needs
 
 returns-5 : tie.Need-returns-5
-unfolding is-before
-returns-5 c = sym (by-order ((c .before .before)) ∙ ap is-before (c .enum-told .given .1))
-
-returns-6 : tie.Need-returns-6
-unfolding is-before
-returns-6 c = sym (by-order ((c .before .before)) ∙ ap is-before (c .enum-told2 .given .1))
-
-returns-7 : tie.Need-returns-7
-unfolding is-before
-returns-7 c = sym (by-order ((c .before .before)) ∙ ap is-before (c .enum-told3 .given .1))
+returns-5 c =
+    let l = c .before .before .before in
+    let a = l .before .before .before .before .before .before .args in
+    let t = now (a .tree) in
+    let p = row-at t (a .i - 1) in
+    let name = ap is-name (sym (l .before .before .name-at .ensures)) ∙ answers-true (l .before .is-name .ensures) (l .if1 .left) in
+    c .comes-before .ensures ∙ sym (follow-beside (p .depth) (p .here .kind) (row-at t (a .beside) .name) (row-at t (a .i)) name (omega arith) (omega arith) (omega arith))
 
 pub may-follow-spec : {M : Type 1} → statement M
 may-follow-spec =
@@ -134,11 +97,5 @@ may-follow-spec =
     kind-at-requires
     is-directory-requires
     returns-4
-    name-at-requires-2
-    compare-requires
-    enum-told
-    enum-told-2
-    enum-told-3
-    returns-5
-    returns-6
-    returns-7)
+    comes-before-requires
+    returns-5)
