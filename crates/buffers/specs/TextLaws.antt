@@ -9,7 +9,6 @@ use borrow.Author.Tests.{eqb-true, eqb-false, eq-eqb, ne-eqb, ltb-true, ltb-fals
 use lib.Dec.{eqb, ltb}
 use lib.ListN.{length, getD, set, drop, drop-of-length-le}
 use lib.Seq.{drop-cons}
-use Rattle.buffers.specs.declared.Order.{Order}
 use Rattle.buffers.specs.declared.Order.the-variants.{Before, Same, After}
 use Rattle.buffers.specs.Cases.{case, and-both, contra}
 use Rattle.buffers.specs.Text.{Text, same-text, precedes, every, order-of}
@@ -196,16 +195,3 @@ module _ (s t : Text) (i : ℕ) where
   pub order-same : length s ≤ i → length t ≤ i → order-of (drop i s) (drop i t) ≡ Same
   unfolding order-of same-text precedes
   order-same h k = rw (drop-of-length-le s h, drop-of-length-le t k)
-
--- whether an order is that of a text before another
-unfoldable pub is-before : Order → Bool
-is-before Before = true
-is-before Same = false
-is-before After = false
-
--- a text precedes another where the order says so
-pub order-tells : (s t : Text) → precedes s t ≡ is-before (order-of s t)
-unfolding order-of is-before
-order-tells s t = case (same-text s t)
-    (λ e. rw e (rw (same-text-sound s t e) (precedes-irrefl t)))
-    (λ e. rw e (case (precedes s t) (λ p. rw p) (λ p. rw p)))

@@ -4,7 +4,7 @@
 use mathlib.Core.Path.{_≡_, refl, sym, _∙_, ap, ap₂}
 use mathlib.Core.List.{List, [], _∷_, _++_}
 use mathlib.Core.Option.{Option, none, some}
-use mathlib.Core.Bool.{Bool, true, false, _&&_, _||_, and-false}
+use mathlib.Core.Bool.{Bool, true, false, _&&_, and-false}
 use Prim.Native.Nat.{ℕ, zero, suc, _+_, _-_, _*_, _/_, _%_, _≤_, _<_}
 use native.Mathlib.Omega.{arith}
 use lib.Dec.{eqb, leb, ltb}
@@ -13,7 +13,7 @@ use lib.Seq.{take-add, drop-drop, drop-cons, length-take-le, take-nil, take-all}
 use borrow.Author.Tests.{eqb-true, eq-eqb}
 use Rattle.buffers.specs.Cases.{case, eqb-flip}
 use Rattle.buffers.specs.Text.{Text, same-text, every}
-use Rattle.buffers.specs.TextLaws.{same-text-refl, every-append}
+use Rattle.buffers.specs.TextLaws.{same-text-refl}
 use Rattle.buffers.specs.Fields.{two-bytes, number-at, padded, unpadded, text-at, all-zero, zeros-at, is-filled}
 use Rattle.buffers.specs.FieldsLaws.{length-padded, length-two-bytes, field-text-fits}
 use Rattle.syntax.specs.Form.{_>>=_}

@@ -3,7 +3,7 @@ use mathlib.Core.List.{List}
 use mathlib.Core.Bool.{Bool, true, _&&_, _||_, not, cond}
 use Prim.Native.Nat.{ℕ, zero, suc, _+_, _-_}
 use lib.Dec.{eqb, leb, ltb}
-use lib.ListN.{length, getD, drop}
+use lib.ListN.{getD, drop}
 use Rattle.buffers.specs.Text.{every}
 use Rattle.buffers.specs.Fields.{number-at, text-at, is-filled, zeros-at}
 use Rattle.syntax.specs.Number.{is-mode}

@@ -1,5 +1,5 @@
 -- `soundness::order::may_follow` meets its contract: each return by the name, the depth, the kind of the row before, or the order of the names.
-use mathlib.Core.Path.{_≡_, sym, _∙_, ap}
+use mathlib.Core.Path.{sym, _∙_, ap}
 use Prim.Native.Nat.{_-_}
 use native.Mathlib.Omega.{arith}
 use denote.Ref.{now}

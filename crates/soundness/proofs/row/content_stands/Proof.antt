@@ -1,6 +1,5 @@
 -- `soundness::row::content_stands` meets its contract: each return by a stretch that fails, or by both that pass.
 use mathlib.Core.Path.{_≡_, sym, _∙_, ap}
-use mathlib.Core.Bool.{_&&_}
 use Prim.Native.Nat.{ℕ, _+_, _-_}
 use native.Mathlib.Omega.{arith}
 use lib.ListN.{getD}
@@ -8,7 +7,7 @@ use denote.Ref.{now}
 use borrow.Author.Needs.{needs}
 use Rattle.buffers.specs.Cases.{answers-false, answers-true}
 use Rattle.tree.specs.Layout.{content-width}
-use Rattle.soundness.specs.Tests.{may-stand, neighbours-pass, content-stands}
+use Rattle.soundness.specs.Tests.{may-stand, content-stands}
 use Rattle.soundness.specs.NeighbourLaws.{first-fails, last-fails, both-pass}
 use Rattle.soundness.proofs.row.content_stands.Statement.{statement}
 use Rattle.soundness.proofs.row.content_stands.Tie as tie

@@ -1,5 +1,5 @@
 -- `soundness::row::has_tag` meets its contract: each return by the path's field, its first byte, or whether its text is an entry path.
-use mathlib.Core.Path.{_≡_, sym, _∙_, ap}
+use mathlib.Core.Path.{sym, _∙_, ap}
 use Prim.Native.Nat.{ℕ}
 use native.Mathlib.Omega.{arith}
 use lib.Dec.{eqb, leb}
