@@ -1,19 +1,19 @@
 -- What the code goes by where it tests one row: each test by the bytes at the row's place among all.
 use mathlib.Core.Path.{_≡_, refl, sym, _∙_, ap, ap₂}
 use mathlib.Core.List.{List, [], _∷_}
-use mathlib.Core.Bool.{Bool, true, false, _&&_, cond, and-false}
+use mathlib.Core.Bool.{Bool, true, false, _&&_, not, cond, and-false}
 use Prim.Native.Nat.{ℕ, _+_, _-_, _≤_, _<_}
 use native.Mathlib.Omega.{arith}
 use lib.Dec.{eqb, leb, ltb}
 use lib.ListN.{length, getD, take, drop, length-drop, List·getD-eq-default}
 use lib.Seq.{length-take-le, drop-drop}
 use borrow.Author.Tests.{lt-ltb, le-ltb, ltb-true, ltb-false, eqb-true, eq-eqb, ne-eqb}
-use Rattle.buffers.specs.Cases.{case}
+use Rattle.buffers.specs.Cases.{case, and-both}
 use Rattle.buffers.specs.Text.{Text}
 use Rattle.buffers.specs.Fields.{number-at, text-at, all-zero, zeros-at, is-filled}
 use Rattle.buffers.specs.FieldsLaws.{part-of-take}
 use Rattle.syntax.specs.Number.{is-mode}
-use Rattle.syntax.specs.Path.{entry-path}
+use Rattle.syntax.specs.Path.{is-name, entry-path}
 use Rattle.syntax.specs.Form.{is-some}
 use Rattle.syntax.specs.Compute.{compute}
 use Rattle.tree.specs.Layout.{row-width, row-start, kind-offset, owner-offset, group-offset, name-offset, name-width, tag-offset, tag-width, tag-revision-offset, whole-tag-width, content-offset, content-width}
@@ -22,10 +22,10 @@ use Rattle.tree.specs.Encoding.{read-row}
 use Rattle.tree.specs.RowAt.{row-bytes-at, row-at, tag-text-at, tag-number-at}
 use Rattle.tree.specs.RowAtLaws.{byte-in-row, text-in-row}
 use Rattle.soundness.specs.Sound.{is-row}
-use Rattle.soundness.specs.Tests.{is-kind-byte, has-numbers, has-tag, has-content, may-stand, content-stands, row-test}
+use Rattle.soundness.specs.Tests.{is-kind-byte, has-numbers, has-tag, has-content, may-name, may-stand, neighbours-pass, content-stands, row-test}
 use Rattle.soundness.specs.RowTestLaws.{length-text-at, row-test-is}
 use Rattle.soundness.specs.NeighbourLaws.{pass-alike}
-use Rattle.soundness.specs.FilledLaws.{zeros-by-parts, empty-by-first, content-by-bytes}
+use Rattle.soundness.specs.FilledLaws.{empty-by-first, name-in-field, zeros-by-parts, content-by-bytes}
 
 alike : (a : Bool) → cond a false false ≡ false
 alike true = refl
@@ -116,6 +116,14 @@ module _ (b : List ℕ) (i : ℕ) where
         ∙ ap (λ (m : ℕ). zeros-at m (w - n) b) q
         ∙ ap (λ (t : Text). zeros-at (row-start i + k + length t) (w - length t) b) (text-in-row b i k w j)
 
+    -- the name, where zeros fill it up
+    pub name-in-row : is-filled name-offset name-width (row-bytes-at b i) ≡ true
+        → is-name (row-at b i .name) ≡ (neighbours-pass may-name (row-start i + name-offset) name-width b && not (eqb (getD b (row-start i + name-offset) 0) 0))
+    unfolding row-at read-row
+    name-in-row f =
+        ap is-name (text-in-row b i name-offset name-width (omega arith))
+        ∙ name-in-field (row-start i + name-offset) b (omega arith) (sym (filled-in-row name-offset name-width (omega arith)) ∙ f)
+
     -- a tag of zeros alone
     tag-zeros : zeros-at tag-offset whole-tag-width (row-bytes-at b i)
         ≡ ((eqb (length (tag-text-at b i)) 0 && is-filled (row-start i + tag-offset) tag-width b) && eqb (tag-number-at b i) 0)
@@ -174,6 +182,14 @@ module _ (b : List ℕ) (i : ℕ) where
     fields-are-row small = row-test-is (row-bytes-at b i) length-row (λ k. case (ltb k row-width)
         (λ t. omega (arith, byte-in-row b i k (ltb-true k row-width t), small (row-start i + k)))
         (λ t. omega (arith, List·getD-eq-default (row-bytes-at b i) 0 {n = k} (omega (arith, length-row, ltb-false k row-width t)))))
+
+    -- so its name is filled up
+    pub row-name-filled : ((k : ℕ) → getD b k 0 < 256) → is-row (row-bytes-at b i) ≡ true → is-filled name-offset name-width (row-bytes-at b i) ≡ true
+    unfolding row-test
+    row-name-filled small e =
+        let x = row-bytes-at b i in
+        let front = has-numbers x && is-filled name-offset name-width x in
+        and-both (has-numbers x) (is-filled name-offset name-width x) (and-both front (has-tag x && has-content x) (fields-are-row small ∙ e) .0) .1
 
 -- ---- the fields together
 

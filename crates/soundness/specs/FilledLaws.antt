@@ -1,25 +1,40 @@
 -- A name and a content filled up with zeros, by tests of neighbouring bytes: what the code does in place of looking for the text's end.
 use mathlib.Core.Path.{_≡_, refl, sym, _∙_, ap, ap₂}
 use mathlib.Core.List.{List, [], _∷_}
-use mathlib.Core.Bool.{Bool, true, false, _&&_, and-true, and-false}
-use Prim.Native.Nat.{ℕ, suc, _+_, _-_, _*_, _≤_, _<_}
+use mathlib.Core.Bool.{Bool, true, false, _&&_, _||_, not, and-true, and-false}
+use Prim.Native.Nat.{ℕ, zero, suc, _+_, _-_, _*_, _≤_, _<_}
 use native.Mathlib.Omega.{arith}
 use lib.Dec.{eqb, leb}
 use lib.ListN.{length, getD, take, drop, length-drop, List·getD-eq-default}
 use lib.Seq.{take-add, drop-drop, drop-cons, getD-drop, getD-take, length-take-le}
 use borrow.Author.Tests.{le-leb, eqb-true, eqb-false, eq-eqb, ne-eqb}
-use Rattle.buffers.specs.Cases.{case}
+use Rattle.buffers.specs.Cases.{case, and-both}
 use Rattle.buffers.specs.Text.{every}
 use Rattle.buffers.specs.TextLaws.{every-append}
 use Rattle.buffers.specs.Fields.{number-at, unpadded, text-at, all-zero, zeros-at, is-filled}
 use Rattle.buffers.specs.FieldsLaws.{field-text-fits}
+use Rattle.syntax.specs.Path.{name-byte, is-name}
 use Rattle.syntax.specs.Field.{content-byte, is-content, content-limit}
-use Rattle.tree.specs.Layout.{row-width, mode-offset, content-offset, content-width, base-offset, base-width}
+use Rattle.tree.specs.Layout.{row-width, mode-offset, name-width, content-offset, content-width, base-offset, base-width}
 use Rattle.tree.specs.WellFormed.{fits-kind}
 use Rattle.tree.specs.Encoding.{kind-of}
-use Rattle.soundness.specs.Tests.{has-content, may-fill, may-stand, neighbours-pass, content-stands}
+use Rattle.soundness.specs.Tests.{has-content, may-fill, may-name, may-stand, neighbours-pass, content-stands}
 use Rattle.soundness.specs.RowTestLaws.{drop-take}
 use Rattle.soundness.specs.NeighbourLaws.{pass-alike, pass-behind, pass-apart}
+
+-- ---- a text
+
+first-is-none : (w : ℕ) (l : List ℕ) → eqb (length (unpadded (take (suc w) l))) 0 ≡ eqb (getD l 0 0) 0
+unfolding unpadded
+first-is-none w [] = refl
+first-is-none w (b ∷ l) = case (eqb b 0) (λ e. rw e) (λ e. rw e (ne-eqb (suc (length (unpadded (take w l)))) 0 (λ z. omega arith)))
+
+-- a text is empty if its field begins with a zero
+pub empty-by-first : (i w : ℕ) (x : List ℕ) → eqb (length (text-at i (suc w) x)) 0 ≡ eqb (getD x i 0) 0
+unfolding text-at
+empty-by-first i w x =
+    let q : i + 0 ≡ i = omega arith in
+    first-is-none w (drop i x) ∙ ap (λ (b : ℕ). eqb b 0) (getD-drop i x 0 0 ∙ ap (λ (k : ℕ). getD x k 0) q)
 
 -- ---- a name
 
@@ -59,6 +74,53 @@ filled-by-bytes i n x h =
     filled-in-field i (suc n) x
     ∙ text-in-field n l (length-take-le (suc n) (drop i x) (omega (arith, length-drop i x)))
     ∙ pass-alike may-fill n 0 i l x (λ k j. in-field i (suc n) x k (omega arith))
+
+-- zeros may stand in a name's field
+zeros-name : (l : List ℕ) → all-zero l ≡ true → neighbours-pass may-name 0 (length l) l ≡ true
+unfolding neighbours-pass may-name all-zero every
+zeros-name [] h = refl
+zeros-name (b ∷ l) h =
+    let z = and-both (eqb b 0) (all-zero l) h in
+    rw (z .0, pass-behind may-name (length l) b l) (zeros-name l (z .1))
+
+-- a text of a name's bytes, where zeros stand behind it
+text-names : (l : List ℕ) → all-zero (drop (length (unpadded l)) l) ≡ true → neighbours-pass may-name 0 (length l) l ≡ every name-byte (unpadded l)
+unfolding neighbours-pass may-name unpadded all-zero every
+text-names [] h = refl
+text-names (b ∷ l) h = case (eqb b 0)
+    (λ e. let z : (eqb b 0 && all-zero l) ≡ true = rw e at h in rw e (pass-behind may-name (length l) b l ∙ zeros-name l (and-both (eqb b 0) (all-zero l) z .1)))
+    (λ e. let z : all-zero (drop (length (unpadded l)) l) ≡ true = rw e at h in rw (e, pass-behind may-name (length l) b l, text-names l z))
+
+-- among all bytes as in the field alone: the byte behind it is not looked at
+names-in-field : (i : ℕ) (x : List ℕ) → neighbours-pass may-name 0 name-width (take name-width (drop i x)) ≡ neighbours-pass may-name i name-width x
+names-in-field i x =
+    let w = name-width - 1 in
+    let l = take name-width (drop i x) in
+    let last : neighbours-pass may-name (0 + w) 1 l ≡ neighbours-pass may-name (i + w) 1 x = unfold neighbours-pass may-name in
+    ap (λ (b : ℕ). (eqb b 0 || name-byte b) && true) (in-field i name-width x w (omega arith)) in
+    pass-apart may-name w 1 0 l
+    ∙ ap₂ _&&_ (pass-alike may-name w 0 i l x (λ k j. in-field i name-width x k (omega arith))) last
+    ∙ sym (pass-apart may-name w 1 i x)
+
+one-or-more : (n : ℕ) → leb 1 n ≡ not (eqb n 0)
+one-or-more zero = refl
+one-or-more (suc n) = rw (le-leb 1 (suc n) (omega arith), ne-eqb (suc n) 0 (λ z. omega arith))
+
+-- a name that fills up its field with zeros, by the field's bytes
+pub name-in-field : (i : ℕ) (x : List ℕ) → i + name-width ≤ length x → is-filled i name-width x ≡ true
+    → is-name (text-at i name-width x) ≡ (neighbours-pass may-name i name-width x && not (eqb (getD x i 0) 0))
+unfolding is-name text-at
+name-in-field i x h f =
+    let l = take name-width (drop i x) in
+    let u = unpadded l in
+    let long : length l ≡ name-width = length-take-le name-width (drop i x) (omega (arith, length-drop i x)) in
+    let short : leb (length u) name-width ≡ true = le-leb (length u) name-width (unfold text-at in field-text-fits x i name-width) in
+    let some : leb 1 (length u) ≡ not (eqb (getD x i 0) 0) = one-or-more (length u) ∙ ap not (unfold text-at in empty-by-first i (name-width - 1) x) in
+    let bytes : every name-byte u ≡ neighbours-pass may-name i name-width x =
+    sym (text-names l (sym (filled-in-field i name-width x) ∙ f))
+    ∙ ap (λ (n : ℕ). neighbours-pass may-name 0 n l) long
+    ∙ names-in-field i x in
+    rw (bytes, some, short, and-true (not (eqb (getD x i 0) 0)))
 
 -- ---- zeros alone
 
@@ -137,18 +199,6 @@ content-in-field i x h =
     ∙ ap (λ (n : ℕ). neighbours-pass may-stand 0 n l) long
     ∙ pass-apart may-stand w 1 0 l
     ∙ ap₂ _&&_ (pass-alike may-stand w 0 i l x (λ k j. in-field i content-width x k (omega arith))) (last-stands w i x h))
-
-first-is-none : (w : ℕ) (l : List ℕ) → eqb (length (unpadded (take (suc w) l))) 0 ≡ eqb (getD l 0 0) 0
-unfolding unpadded
-first-is-none w [] = refl
-first-is-none w (b ∷ l) = case (eqb b 0) (λ e. rw e) (λ e. rw e (ne-eqb (suc (length (unpadded (take w l)))) 0 (λ z. omega arith)))
-
--- a text is empty if its field begins with a zero
-pub empty-by-first : (i w : ℕ) (x : List ℕ) → eqb (length (text-at i (suc w) x)) 0 ≡ eqb (getD x i 0) 0
-unfolding text-at
-empty-by-first i w x =
-    let q : i + 0 ≡ i = omega arith in
-    first-is-none w (drop i x) ∙ ap (λ (b : ℕ). eqb b 0) (getD-drop i x 0 0 ∙ ap (λ (k : ℕ). getD x k 0) q)
 
 swapped : (a b c d : Bool) → ((a && b) && (c && d)) ≡ (((a && c) && b) && d)
 swapped true true c d = ap (λ (x : Bool). x && d) (sym (and-true c))

@@ -7,7 +7,7 @@ use lib.ListN.{getD, drop}
 use Rattle.buffers.specs.Text.{every}
 use Rattle.buffers.specs.Fields.{number-at, text-at, is-filled, zeros-at}
 use Rattle.syntax.specs.Number.{is-mode}
-use Rattle.syntax.specs.Path.{Name, entry-path}
+use Rattle.syntax.specs.Path.{Name, name-byte, entry-path}
 use Rattle.syntax.specs.Field.{content-byte, is-content}
 use Rattle.syntax.specs.Form.{is-some}
 use Rattle.tree.specs.Layout.{mode-offset, revision-offset, name-offset, name-width, tag-offset, tag-width, tag-revision-offset, whole-tag-width, content-offset, content-width, base-offset, base-width}
@@ -47,6 +47,10 @@ neighbours-pass f i (suc n) x = f (getD x i 0) (getD x (suc i) 0) && neighbours-
 -- in a field filled up, behind a zero stands a zero
 unfoldable pub may-fill : ℕ → ℕ → Bool
 may-fill b next = not (eqb b 0) || eqb next 0
+
+-- in a name filled up, a byte is one of a name or zero, whatever is next
+unfoldable pub may-name : ℕ → ℕ → Bool
+may-name b next = eqb b 0 || name-byte b
 
 -- in a content filled up, a byte of a content may stand before any, a zero before a zero
 unfoldable pub may-stand : ℕ → ℕ → Bool

@@ -1,11 +1,15 @@
 // The order of the rows.
 ghost use mathlib.Core.Path.{_≡_};
 ghost use mathlib.Core.List.{[]};
+ghost use mathlib.Core.Bool.{true};
 ghost use Prim.Native.Nat.{_-_, _≤_, _<_};
 ghost use Rattle.buffers.specs.Text.{precedes};
-ghost use Rattle.tree.specs.RowAt.{row-count, row-at};
+ghost use Rattle.buffers.specs.Fields.{is-filled};
+ghost use Rattle.tree.specs.Layout.{name-offset, name-width};
+ghost use Rattle.tree.specs.RowAt.{row-count, row-bytes-at, row-at};
 ghost use Rattle.tree.specs.TreeBytes.{Has-row, Sized};
 ghost use Rattle.soundness.specs.Tests.{may-follow-at, rest-in-order};
+use crate::row::has_name;
 use crate::row::is_row;
 use syntax::MOST_NAMES;
 use tree::FIRST;
@@ -45,12 +49,12 @@ fn may_follow(tree: &[u8], i: usize, beside: usize) -> bool
     requires { ⌜ Has-row (now tree) beside ⌝ }
     requires { ⌜ 1 ≤ i ⌝ }
     requires { ⌜ row-at (now tree) i .depth ≤ 6 ⌝ }
+    requires { ⌜ is-filled name-offset name-width (row-bytes-at (now tree) i) ≡ true ⌝ }
     ensures { λ r. ⌜ r ≡ may-follow-at (now (tree .entry)) i beside ⌝ }
 {
     let depth = tree::depth_at(tree, i);
     let before = tree::depth_at(tree, i - 1);
-    let name = tree::name_at(tree, i);
-    if !syntax::is_name(name) {
+    if !has_name(tree, i) {
         return false;
     }
     if depth == 0 {

@@ -1,19 +1,21 @@
-// The bytes of one row, field by field. Name and content are judged by loops of fixed length without early exit, which put
-// together by `&` and `|` the tests of each byte with the next: so the compiler can test many bytes at once. Every call
-// judges every row, and nearly all are sound.
+// The bytes of one row, field by field. Name, tag path and content are judged by loops without early exit over lengths that the
+// compiler knows, which put together by `&` and `|` the tests of each byte with the next: so it can test many bytes at once. Every
+// call judges every row, and nearly all are sound.
 ghost use mathlib.Core.Path.{_≡_};
 ghost use mathlib.Core.List.{List};
+ghost use mathlib.Core.Bool.{true};
 ghost use Prim.Native.Nat.{ℕ, _+_, _-_, _≤_, _<_};
 ghost use lib.Dec.{eqb};
 ghost use lib.ListN.{length};
 ghost use Rattle.buffers.specs.Fields.{is-filled};
 ghost use Rattle.syntax.specs.Number.{is-mode};
+ghost use Rattle.syntax.specs.Path.{is-name};
 ghost use Rattle.tree.specs.Layout.{name-offset, name-width, content-width};
 ghost use Rattle.tree.specs.WellFormed.{fits-kind};
-ghost use Rattle.tree.specs.RowAt.{row-bytes-at};
+ghost use Rattle.tree.specs.RowAt.{row-bytes-at, row-at};
 ghost use Rattle.tree.specs.TreeBytes.{Has-row};
 ghost use Rattle.soundness.specs.Sound.{is-row};
-ghost use Rattle.soundness.specs.Tests.{is-kind-byte, has-numbers, has-tag, has-content, may-stand, neighbours-pass, content-stands};
+ghost use Rattle.soundness.specs.Tests.{is-kind-byte, has-numbers, has-tag, has-content, may-name, may-stand, neighbours-pass, content-stands};
 use buffers::is_zero;
 use syntax::has_set_gid;
 use tree::CONTENT;
@@ -107,6 +109,29 @@ fn name_is_filled(tree: &[u8], i: usize) -> bool
     ensures { λ r. ⌜ r ≡ is-filled name-offset name-width (row-bytes-at (now (tree .entry)) i) ⌝ }
 {
     is_filled(tree, FIRST + ROW * i + NAME, NAME_WIDTH)
+}
+
+// Whether a byte may stand in a name filled up: one of a name, or a zero.
+fn may_name(b: u8) -> bool
+    ensures { λ r. ⌜ ((next : ℕ) → r ≡ may-name b next) ⌝ }
+{
+    (b == 0) | (((97 <= b) & (b <= 122)) | (((48 <= b) & (b <= 57)) | (b == 95)))
+}
+
+// Whether a row has a name, where zeros fill it up. All bytes of the field are looked at, so that no end has to be found first.
+pub fn has_name(tree: &[u8], i: usize) -> bool
+    requires { ⌜ Has-row (now tree) i ⌝ }
+    requires { ⌜ is-filled name-offset name-width (row-bytes-at (now tree) i) ≡ true ⌝ }
+    ensures { λ r. ⌜ r ≡ is-name (row-at (now (tree .entry)) i .name) ⌝ }
+{
+    let at = FIRST + ROW * i + NAME;
+    let mut all = true;
+    let mut n: usize = 0;
+    while n < NAME_WIDTH {
+        all = all & may_name(tree[at + n]);
+        n += 1;
+    }
+    all & (tree[at] != 0)
 }
 
 // Whether the tag is zeros, or an entry path filled up and a revision. The field is tested first, whether or not it has a text:

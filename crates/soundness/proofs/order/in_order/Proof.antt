@@ -19,6 +19,7 @@ use Rattle.tree.specs.TreeBytesLaws.{has-row}
 use Rattle.soundness.specs.Sound.{is-row, may-follow}
 use Rattle.soundness.specs.Tests.{rest-in-order}
 use Rattle.soundness.specs.OrderTestLaws.{names-to, follow-low, rest-row, rest-follow, rest-next, rest-end}
+use Rattle.soundness.specs.FieldTestLaws.{row-name-filled}
 use Rattle.soundness.proofs.order.in_order.Statement.{statement}
 use Rattle.soundness.proofs.order.in_order.Tie as tie
 
@@ -110,7 +111,12 @@ array-read-may-follow : tie.Need-array-read-may-follow Inv-loop μ-loop
 array-read-may-follow c = omega arith
 
 may-follow-requires : tie.Need-may-follow-requires Inv-loop μ-loop
-may-follow-requires c κs = let g = c .before .before .before .before .before .loop .inv in (omega arith, (has-row (omega arith) (seen g (c .before .depth-at .result)), (g .some, omega arith)))
+may-follow-requires c κs =
+    let l = c .before .before .before .before .before in
+    let g = l .loop .inv in
+    let row = answers-true (c .before .before .before .is-row .ensures) (c .before .before .if1 .left) in
+    let filled = row-name-filled (now (l .before .before .args .tree)) (l .loop .i) (omega arith) (λ j. omega (arith, l .before .shared-slice-known .given j)) row in
+    (omega arith, (has-row (omega arith) (seen g (c .before .depth-at .result)), (g .some, (omega arith, filled))))
 
 returns-3 : tie.Need-returns-3 Inv-loop μ-loop
 returns-3 c =

@@ -4,7 +4,6 @@ use Prim.Native.Nat.{_-_}
 use native.Mathlib.Omega.{arith}
 use denote.Ref.{now}
 use Rattle.buffers.specs.Cases.{answers-false, answers-true}
-use Rattle.syntax.specs.Path.{is-name}
 use Rattle.tree.specs.Node.{is-directory}
 use Rattle.tree.specs.RowAt.{row-at}
 use Rattle.soundness.specs.OrderTestLaws.{follow-name, follow-top, follow-far, follow-below, follow-beside}
@@ -21,22 +20,19 @@ sub-depth-at c = search needs
 depth-at-requires-2 : tie.Need-depth-at-requires-2
 depth-at-requires-2 c κs = search needs
 
-name-at-requires : tie.Need-name-at-requires
-name-at-requires c κs = search needs
-
-is-name-requires : tie.Need-is-name-requires
-is-name-requires c κs = search needs
+has-name-requires : tie.Need-has-name-requires
+has-name-requires c κs = search needs
 
 returns : tie.Need-returns
 returns c =
-    let a = c .before .before .before .before .before .before .args in
+    let a = c .before .before .before .before .before .args in
     let t = now (a .tree) in
     let p = row-at t (a .i - 1) in
-    sym (follow-name (p .depth) (p .here .kind) (row-at t (a .beside) .name) (row-at t (a .i)) (ap is-name (sym (c .before .before .name-at .ensures)) ∙ answers-false (c .before .is-name .ensures) (c .if1 .taken)))
+    sym (follow-name (p .depth) (p .here .kind) (row-at t (a .beside) .name) (row-at t (a .i)) (answers-false (c .before .has-name .ensures) (c .if1 .taken)))
 
 returns-2 : tie.Need-returns-2
 returns-2 c =
-    let a = c .before .before .before .before .before .before .before .args in
+    let a = c .before .before .before .before .before .before .args in
     let t = now (a .tree) in
     let p = row-at t (a .i - 1) in
     sym (follow-top (p .depth) (p .here .kind) (row-at t (a .beside) .name) (row-at t (a .i)) (omega arith))
@@ -46,7 +42,7 @@ sub-if4 c = search needs
 
 returns-3 : tie.Need-returns-3
 returns-3 c =
-    let a = c .before .before .before .before .before .before .before .before .before .args in
+    let a = c .before .before .before .before .before .before .before .before .args in
     let t = now (a .tree) in
     let p = row-at t (a .i - 1) in
     sym (follow-far (p .depth) (p .here .kind) (row-at t (a .beside) .name) (row-at t (a .i)) (omega arith))
@@ -62,10 +58,10 @@ is-directory-requires c κs = search needs
 
 returns-4 : tie.Need-returns-4
 returns-4 c =
-    let a = c .before .before .before .before .before .before .before .before .before .before .before .args in
+    let a = c .before .before .before .before .before .before .before .before .before .before .args in
     let t = now (a .tree) in
     let p = row-at t (a .i - 1) in
-    let name = ap is-name (sym (c .before .before .before .before .before .before .before .name-at .ensures)) ∙ answers-true (c .before .before .before .before .before .before .is-name .ensures) (c .before .before .before .before .before .if1 .left) in
+    let name = answers-true (c .before .before .before .before .before .before .has-name .ensures) (c .before .before .before .before .before .if1 .left) in
     c .is-directory .ensures ∙ ap is-directory (c .before .kind-at .ensures) ∙ sym (follow-below (p .depth) (p .here .kind) (row-at t (a .beside) .name) (row-at t (a .i)) name (omega arith) (omega arith) (omega arith))
 
 comes-before-requires : tie.Need-comes-before-requires
@@ -74,10 +70,10 @@ comes-before-requires c κs = search needs
 returns-5 : tie.Need-returns-5
 returns-5 c =
     let l = c .before .before .before in
-    let a = l .before .before .before .before .before .before .args in
+    let a = l .before .before .before .before .before .args in
     let t = now (a .tree) in
     let p = row-at t (a .i - 1) in
-    let name = ap is-name (sym (l .before .before .name-at .ensures)) ∙ answers-true (l .before .is-name .ensures) (l .if1 .left) in
+    let name = answers-true (l .before .has-name .ensures) (l .if1 .left) in
     c .comes-before .ensures ∙ sym (follow-beside (p .depth) (p .here .kind) (row-at t (a .beside) .name) (row-at t (a .i)) name (omega arith) (omega arith) (omega arith))
 
 pub may-follow-spec : {M : Type 1} → statement M
@@ -87,8 +83,7 @@ may-follow-spec =
     depth-at-requires
     sub-depth-at
     depth-at-requires-2
-    name-at-requires
-    is-name-requires
+    has-name-requires
     returns
     returns-2
     sub-if4
