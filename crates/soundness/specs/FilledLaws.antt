@@ -1,4 +1,5 @@
--- A name and a content filled up with zeros, by tests of neighbouring bytes: what the code does in place of looking for the text's end.
+-- Fields filled up with zeros, a name, a tag path, a content, by tests of neighbouring bytes: what the code does in place of looking for
+-- the end of a text.
 use mathlib.Core.Path.{_≡_, refl, sym, _∙_, ap, ap₂}
 use mathlib.Core.List.{List, [], _∷_}
 use mathlib.Core.Bool.{Bool, true, false, _&&_, _||_, not, and-true, and-false}
@@ -22,7 +23,7 @@ use Rattle.soundness.specs.Tests.{has-content, may-fill, may-name, may-s
 use Rattle.soundness.specs.RowTestLaws.{drop-take}
 use Rattle.soundness.specs.NeighbourLaws.{pass-alike, pass-behind, pass-apart}
 
--- ---- a text
+-- ---- an empty text
 
 first-is-none : (w : ℕ) (l : List ℕ) → eqb (length (unpadded (take (suc w) l))) 0 ≡ eqb (getD l 0 0) 0
 unfolding unpadded
@@ -36,7 +37,7 @@ empty-by-first i w x =
     let q : i + 0 ≡ i = omega arith in
     first-is-none w (drop i x) ∙ ap (λ (b : ℕ). eqb b 0) (getD-drop i x 0 0 ∙ ap (λ (k : ℕ). getD x k 0) q)
 
--- ---- a name
+-- ---- zeros behind a text
 
 -- a field that begins with a zero is all zeros
 zeros-fill : (b : ℕ) (l : List ℕ) → (eqb b 0 && neighbours-pass may-fill 0 (length l) (b ∷ l)) ≡ (eqb b 0 && all-zero l)
@@ -75,7 +76,9 @@ filled-by-bytes i n x h =
     ∙ text-in-field n l (length-take-le (suc n) (drop i x) (omega (arith, length-drop i x)))
     ∙ pass-alike may-fill n 0 i l x (λ k j. in-field i (suc n) x k (omega arith))
 
--- zeros may stand in a name's field
+-- ---- a name
+
+-- zeros may stand in its field
 zeros-name : (l : List ℕ) → all-zero l ≡ true → neighbours-pass may-name 0 (length l) l ≡ true
 unfolding neighbours-pass may-name all-zero every
 zeros-name [] h = refl
@@ -122,7 +125,7 @@ name-in-field i x h f =
     ∙ names-in-field i x in
     rw (bytes, some, short, and-true (not (eqb (getD x i 0) 0)))
 
--- ---- zeros alone
+-- ---- zeros alone, and no tag
 
 zeros-alone : (l : List ℕ) → all-zero l ≡ (eqb (length (unpadded l)) 0 && all-zero (drop (length (unpadded l)) l))
 unfolding unpadded all-zero every
