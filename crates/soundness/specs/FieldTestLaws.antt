@@ -14,6 +14,7 @@ use Rattle.buffers.specs.Fields.{number-at, text-at, all-zero, zeros-at, is-fil
 use Rattle.buffers.specs.FieldsLaws.{part-of-take}
 use Rattle.syntax.specs.Number.{is-mode}
 use Rattle.syntax.specs.Path.{is-name, entry-path}
+use Rattle.syntax.specs.Field.{content-byte}
 use Rattle.syntax.specs.Form.{is-some}
 use Rattle.syntax.specs.Compute.{compute}
 use Rattle.tree.specs.Layout.{row-width, row-start, kind-offset, owner-offset, group-offset, name-offset, name-width, tag-offset, tag-width, tag-revision-offset, whole-tag-width, content-offset, content-width}
@@ -173,7 +174,7 @@ module _ (b : List ℕ) (i : ℕ) where
         let q : row-start i + (content-offset + k) ≡ row-start i + content-offset + k = omega arith in
         byte-in-row b i (content-offset + k) (omega arith) ∙ ap (λ (n : ℕ). getD b n 0) q in
         let stands : content-stands content-offset x ≡ content-stands (row-start i + content-offset) b =
-        ap₂ _&&_ (pass-alike may-stand w content-offset (row-start i + content-offset) x b same) (ap (λ (c : ℕ). may-stand c 0) (same w (omega arith))) in
+        ap₂ _&&_ (pass-alike (may-stand content-byte) w content-offset (row-start i + content-offset) x b same) (ap (λ (c : ℕ). may-stand content-byte c 0) (same w (omega arith))) in
         content-by-bytes x length-row
         ∙ ap₂ (λ (s z : Bool). (s && fits-kind (row-at b i .here .kind) (row-at b i .here .mode) (row-at b i .here .content)) && z) stands (zeros-behind content-offset row-width content-width (omega arith) (omega arith))
 

@@ -19,7 +19,7 @@ use Rattle.syntax.specs.Field.{content-byte, is-content, content-limit}
 use Rattle.tree.specs.Layout.{row-width, mode-offset, name-width, content-offset, content-width, base-offset, base-width}
 use Rattle.tree.specs.WellFormed.{fits-kind}
 use Rattle.tree.specs.Encoding.{kind-of}
-use Rattle.soundness.specs.Tests.{has-content, may-fill, may-name, may-stand, neighbours-pass, content-stands}
+use Rattle.soundness.specs.Tests.{has-content, may-stand, any-byte, may-name, neighbours-pass, content-stands}
 use Rattle.soundness.specs.RowTestLaws.{drop-take}
 use Rattle.soundness.specs.NeighbourLaws.{pass-alike, pass-behind, pass-apart}
 
@@ -37,25 +37,7 @@ empty-by-first i w x =
     let q : i + 0 ≡ i = omega arith in
     first-is-none w (drop i x) ∙ ap (λ (b : ℕ). eqb b 0) (getD-drop i x 0 0 ∙ ap (λ (k : ℕ). getD x k 0) q)
 
--- ---- zeros behind a text
-
--- a field that begins with a zero is all zeros
-zeros-fill : (b : ℕ) (l : List ℕ) → (eqb b 0 && neighbours-pass may-fill 0 (length l) (b ∷ l)) ≡ (eqb b 0 && all-zero l)
-unfolding neighbours-pass may-fill all-zero every
-zeros-fill b [] = refl
-zeros-fill b (d ∷ l) = case (eqb b 0) (λ e. rw (e, pass-behind may-fill (length l) b (d ∷ l)) (zeros-fill d l)) (λ e. rw e)
-
--- behind the text stand zeros
-text-then-zeros : (b : ℕ) (l : List ℕ) → all-zero (drop (length (unpadded (b ∷ l))) (b ∷ l)) ≡ neighbours-pass may-fill 0 (length l) (b ∷ l)
-unfolding unpadded neighbours-pass may-fill all-zero every
-text-then-zeros b [] = case (eqb b 0) (λ e. rw e (rw e)) (λ e. rw e)
-text-then-zeros b (d ∷ l) = case (eqb b 0)
-    (λ e. rw e (rw (e, pass-behind may-fill (length l) b (d ∷ l)) (sym (zeros-fill d l))))
-    (λ e. rw (e, pass-behind may-fill (length l) b (d ∷ l)) (text-then-zeros d l))
-
-text-in-field : (n : ℕ) (l : List ℕ) → length l ≡ suc n → all-zero (drop (length (unpadded l)) l) ≡ neighbours-pass may-fill 0 n l
-text-in-field n [] h = let z : ⊥ = omega arith in absurd z
-text-in-field n (b ∷ l) h = let q : length l ≡ n = omega arith in rw (← q) (text-then-zeros b l)
+-- ---- a field by itself
 
 -- a field is filled up if its bytes behind the text are zeros
 filled-in-field : (i w : ℕ) (x : List ℕ) → (let l = take w (drop i x) in is-filled i w x ≡ all-zero (drop (length (unpadded l)) l))
@@ -68,13 +50,65 @@ filled-in-field i w x =
 in-field : (i w : ℕ) (x : List ℕ) (k : ℕ) → k < w → getD (take w (drop i x)) (0 + k) 0 ≡ getD x (i + k) 0
 in-field i w x k h = let q : 0 + k ≡ k = omega arith in rw q (getD-take w (drop i x) k 0 h ∙ getD-drop i x k 0)
 
--- a field is filled up with zeros
-pub filled-by-bytes : (i n : ℕ) (x : List ℕ) → i + suc n ≤ length x → is-filled i (suc n) x ≡ neighbours-pass may-fill i n x
-filled-by-bytes i n x h =
-    let l = take (suc n) (drop i x) in
-    filled-in-field i (suc n) x
-    ∙ text-in-field n l (length-take-le (suc n) (drop i x) (omega (arith, length-drop i x)))
-    ∙ pass-alike may-fill n 0 i l x (λ k j. in-field i (suc n) x k (omega arith))
+-- ---- a text of some class, and zeros behind it
+
+module _ (class : ℕ → Bool) where
+  -- behind a zero only zeros may stand
+  zeros-stand : (l : List ℕ) → (eqb (getD l 0 0) 0 && neighbours-pass (may-stand class) 0 (length l) l) ≡ all-zero l
+  unfolding neighbours-pass may-stand all-zero every
+  zeros-stand [] = refl
+  zeros-stand (b ∷ l) = case (eqb b 0) (λ e. rw (e, pass-behind (may-stand class) (length l) b l) (zeros-stand l)) (λ e. rw e)
+
+  text-stands : (l : List ℕ) → (every class (unpadded l) && all-zero (drop (length (unpadded l)) l)) ≡ neighbours-pass (may-stand class) 0 (length l) l
+  unfolding unpadded every all-zero neighbours-pass may-stand
+  text-stands [] = refl
+  text-stands (b ∷ l) = case (eqb b 0)
+      (λ e. rw e (rw (e, pass-behind (may-stand class) (length l) b l) (sym (zeros-stand l))))
+      (λ e. rw (e, pass-behind (may-stand class) (length l) b l) (case (class b) (λ c. rw c (text-stands l)) (λ c. rw c)))
+
+  module _ (w i : ℕ) (x : List ℕ) (h : i + suc w ≤ length x) where
+    long : length (take (suc w) (drop i x)) ≡ suc w
+    long = length-take-le (suc w) (drop i x) (omega (arith, length-drop i x))
+
+    -- the last byte of a field is judged as if a zero stood behind it
+    last-stands : neighbours-pass (may-stand class) (0 + w) 1 (take (suc w) (drop i x)) ≡ may-stand class (getD x (i + w) 0) 0
+    unfolding neighbours-pass
+    last-stands =
+        let l = take (suc w) (drop i x) in
+        let none : getD l (suc (0 + w)) 0 ≡ 0 = List·getD-eq-default l 0 {n = suc (0 + w)} (omega (arith, long)) in
+        and-true (may-stand class (getD l (0 + w) 0) (getD l (suc (0 + w)) 0)) ∙ ap₂ (may-stand class) (in-field i (suc w) x w (omega arith)) none
+
+    -- a field by its bytes
+    stands-in-field : (every class (text-at i (suc w) x) && is-filled i (suc w) x)
+        ≡ (neighbours-pass (may-stand class) i w x && may-stand class (getD x (i + w) 0) 0)
+    unfolding text-at
+    stands-in-field =
+        let l = take (suc w) (drop i x) in
+        let q : suc w ≡ w + 1 = omega arith in
+        rw (filled-in-field i (suc w) x)
+        (text-stands l
+        ∙ ap (λ (n : ℕ). neighbours-pass (may-stand class) 0 n l) (long ∙ q)
+        ∙ pass-apart (may-stand class) w 1 0 l
+        ∙ ap₂ _&&_ (pass-alike (may-stand class) w 0 i l x (λ k j. in-field i (suc w) x k (omega arith))) last-stands)
+
+any-text : (t : List ℕ) → every any-byte t ≡ true
+unfolding every any-byte
+any-text [] = refl
+any-text (b ∷ t) = any-text t
+
+any-last : (b : ℕ) → may-stand any-byte b 0 ≡ true
+unfolding may-stand any-byte
+any-last b = case (eqb b 0) (λ e. rw e) (λ e. rw e)
+
+-- a field is filled up with zeros, whatever its text
+pub filled-by-bytes : (i w : ℕ) (x : List ℕ) → i + suc w ≤ length x → is-filled i (suc w) x ≡ neighbours-pass (may-stand any-byte) i w x
+filled-by-bytes i w x h =
+    let any : every any-byte (text-at i (suc w) x) ≡ true = any-text (text-at i (suc w) x) in
+    let passes = neighbours-pass (may-stand any-byte) i w x in
+    sym (rw any)
+    ∙ stands-in-field any-byte w i x h
+    ∙ ap (λ (b : Bool). passes && b) (any-last (getD x (i + w) 0))
+    ∙ and-true passes
 
 -- ---- a name
 
@@ -164,44 +198,14 @@ zeros-by-parts i w x h =
 
 -- ---- a content
 
--- behind a zero only zeros may stand
-zeros-stand : (l : List ℕ) → (eqb (getD l 0 0) 0 && neighbours-pass may-stand 0 (length l) l) ≡ all-zero l
-unfolding neighbours-pass may-stand all-zero every
-zeros-stand [] = refl
-zeros-stand (b ∷ l) = case (eqb b 0) (λ e. rw (e, pass-behind may-stand (length l) b l) (zeros-stand l)) (λ e. rw e)
-
--- a text of a content's bytes, and zeros behind it
-text-stands : (l : List ℕ) → (every content-byte (unpadded l) && all-zero (drop (length (unpadded l)) l)) ≡ neighbours-pass may-stand 0 (length l) l
-unfolding unpadded every all-zero neighbours-pass may-stand
-text-stands [] = refl
-text-stands (b ∷ l) = case (eqb b 0)
-    (λ e. rw e (rw (e, pass-behind may-stand (length l) b l) (sym (zeros-stand l))))
-    (λ e. rw (e, pass-behind may-stand (length l) b l) (case (content-byte b) (λ c. rw c (text-stands l)) (λ c. rw c)))
-
--- the last byte of a field is judged as if a zero stood behind it
-last-stands : (w i : ℕ) (x : List ℕ) → i + suc w ≤ length x
-    → neighbours-pass may-stand (0 + w) 1 (take (suc w) (drop i x)) ≡ may-stand (getD x (i + w) 0) 0
-unfolding neighbours-pass
-last-stands w i x h =
-    let l = take (suc w) (drop i x) in
-    let none : getD l (suc (0 + w)) 0 ≡ 0 = List·getD-eq-default l 0 {n = suc (0 + w)} (omega (arith, length-take-le (suc w) (drop i x) (omega (arith, length-drop i x)))) in
-    and-true (may-stand (getD l (0 + w) 0) (getD l (suc (0 + w)) 0)) ∙ ap₂ may-stand (in-field i (suc w) x w (omega arith)) none
-
 -- a content that fills up its field with zeros, by the field's bytes
 pub content-in-field : (i : ℕ) (x : List ℕ) → i + content-width ≤ length x
     → (is-content (text-at i content-width x) && is-filled i content-width x) ≡ content-stands i x
-unfolding is-content text-at content-stands
+unfolding is-content content-stands
 content-in-field i x h =
-    let w = content-width - 1 in
-    let l = take content-width (drop i x) in
-    let u = unpadded l in
-    let short : leb (length u) content-limit ≡ true = le-leb (length u) content-limit (unfold text-at in field-text-fits x i content-width) in
-    let long : length l ≡ w + 1 = length-take-le content-width (drop i x) (omega (arith, length-drop i x)) in
-    rw (filled-in-field i content-width x, short, and-true (every content-byte u))
-    (text-stands l
-    ∙ ap (λ (n : ℕ). neighbours-pass may-stand 0 n l) long
-    ∙ pass-apart may-stand w 1 0 l
-    ∙ ap₂ _&&_ (pass-alike may-stand w 0 i l x (λ k j. in-field i content-width x k (omega arith))) (last-stands w i x h))
+    let u = text-at i content-width x in
+    let short : leb (length u) content-limit ≡ true = le-leb (length u) content-limit (field-text-fits x i content-width) in
+    rw (short, and-true (every content-byte u)) (stands-in-field content-byte (content-width - 1) i x h)
 
 swapped : (a b c d : Bool) → ((a && b) && (c && d)) ≡ (((a && c) && b) && d)
 swapped true true c d = ap (λ (x : Bool). x && d) (sym (and-true c))

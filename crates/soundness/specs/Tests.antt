@@ -1,6 +1,6 @@
 -- What the code tests: a row's bytes field by field, and the rows from one on.
 use mathlib.Core.List.{List}
-use mathlib.Core.Bool.{Bool, true, _&&_, _||_, not, cond}
+use mathlib.Core.Bool.{Bool, true, _&&_, _||_, cond}
 use Prim.Native.Nat.{ℕ, zero, suc, _+_, _-_}
 use lib.Dec.{eqb, leb, ltb}
 use lib.ListN.{getD, drop}
@@ -44,22 +44,22 @@ unfoldable pub neighbours-pass : (ℕ → ℕ → Bool) → ℕ → ℕ → List
 neighbours-pass f i zero x = true
 neighbours-pass f i (suc n) x = f (getD x i 0) (getD x (suc i) 0) && neighbours-pass f (suc i) n x
 
--- in a field filled up, behind a zero stands a zero
-unfoldable pub may-fill : ℕ → ℕ → Bool
-may-fill b next = not (eqb b 0) || eqb next 0
+-- in a field filled up, a byte of a class may stand before any, a zero before a zero
+unfoldable pub may-stand : (ℕ → Bool) → ℕ → ℕ → Bool
+may-stand class b next = cond (eqb b 0) (eqb next 0) (class b)
+
+-- the class of all bytes: then no more is asked than that zeros fill the field up
+unfoldable pub any-byte : ℕ → Bool
+any-byte b = true
 
 -- in a name filled up, a byte is one of a name or zero, whatever is next
 unfoldable pub may-name : ℕ → ℕ → Bool
 may-name b next = eqb b 0 || name-byte b
 
--- in a content filled up, a byte of a content may stand before any, a zero before a zero
-unfoldable pub may-stand : ℕ → ℕ → Bool
-may-stand b next = cond (eqb b 0) (eqb next 0) (content-byte b)
-
 -- a content filled up stands in the field at a place: each byte may stand before the next, and the last before a zero, whatever
 -- the next field begins with
 unfoldable pub content-stands : ℕ → List ℕ → Bool
-content-stands at x = neighbours-pass may-stand at (content-width - 1) x && may-stand (getD x (at + (content-width - 1)) 0) 0
+content-stands at x = neighbours-pass (may-stand content-byte) at (content-width - 1) x && may-stand content-byte (getD x (at + (content-width - 1)) 0) 0
 
 unfoldable pub row-test : List ℕ → Bool
 row-test x = (has-numbers x && is-filled name-offset name-width x) && (has-tag x && has-content x)

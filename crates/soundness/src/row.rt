@@ -10,6 +10,7 @@ ghost use lib.ListN.{length};
 ghost use Rattle.buffers.specs.Fields.{is-filled};
 ghost use Rattle.syntax.specs.Number.{is-mode};
 ghost use Rattle.syntax.specs.Path.{is-name};
+ghost use Rattle.syntax.specs.Field.{content-byte};
 ghost use Rattle.tree.specs.Layout.{name-offset, name-width, content-width};
 ghost use Rattle.tree.specs.WellFormed.{fits-kind};
 ghost use Rattle.tree.specs.RowAt.{row-bytes-at, row-at};
@@ -156,7 +157,7 @@ fn has_tag(tree: &[u8], i: usize) -> bool
 
 // Whether a byte may stand before the next in a content filled up: a byte of a content before any, a zero before a zero.
 fn may_stand(b: u8, next: u8) -> bool
-    ensures { λ r. ⌜ r ≡ may-stand b next ⌝ }
+    ensures { λ r. ⌜ r ≡ may-stand content-byte b next ⌝ }
 {
     ((b == 0) & (next == 0)) | ((32 <= b) & (b <= 126) & (b != 44))
 }
@@ -164,7 +165,7 @@ fn may_stand(b: u8, next: u8) -> bool
 // Whether n bytes from a place may each stand before the next.
 fn all_stand(s: &[u8], at: usize, n: usize) -> bool
     requires { ⌜ at + n < length (now s) ⌝ }
-    ensures { λ r. ⌜ r ≡ neighbours-pass may-stand at n (now (s .entry)) ⌝ }
+    ensures { λ r. ⌜ r ≡ neighbours-pass (may-stand content-byte) at n (now (s .entry)) ⌝ }
 {
     let mut all = true;
     let mut i: usize = 0;

@@ -2,19 +2,20 @@
 use Prim.Native.Nat.{_-_}
 use native.Mathlib.Omega.{arith}
 use denote.Ref.{now}
+use Rattle.syntax.specs.Field.{content-byte}
 use Rattle.soundness.specs.Tests.{may-stand}
 use Rattle.soundness.specs.NeighbourLaws.{Passed-up-to, begins, one-more, ends}
 use Rattle.soundness.proofs.row.all_stand.Statement.{statement}
 use Rattle.soundness.proofs.row.all_stand.Tie as tie
 
 abbrev Inv-loop : tie.InvT-loop
-Inv-loop s at n all₀ i₀ all i = Passed-up-to may-stand s at n all i
+Inv-loop s at n all₀ i₀ all i = Passed-up-to (may-stand content-byte) s at n all i
 
 abbrev μ-loop : tie.MeasureT-loop
 μ-loop s at n all₀ i₀ all i = n - i
 
 loop-holds : tie.Need-loop-holds Inv-loop μ-loop
-loop-holds c = let a = c .before .args in begins may-stand (now (a .s)) (a .at) (a .n)
+loop-holds c = let a = c .before .args in begins (may-stand content-byte) (now (a .s)) (a .at) (a .n)
 
 add-may-stand : tie.Need-add-may-stand Inv-loop μ-loop
 add-may-stand c = omega arith
@@ -44,12 +45,12 @@ loop-again : tie.Need-loop-again Inv-loop μ-loop
 loop-again c =
     let l = c .before .before .before .before in
     let a = l .before .before .args in
-    one-more may-stand (now (a .s)) (a .at) (a .n) (c .may-stand .result) (l .loop .inv) (omega arith) (c .may-stand .ensures)
+    one-more (may-stand content-byte) (now (a .s)) (a .at) (a .n) (c .may-stand .result) (l .loop .inv) (omega arith) (c .may-stand .ensures)
 
 returns : tie.Need-returns Inv-loop μ-loop
 returns c =
     let a = c .before .before .before .args in
-    ends may-stand (now (a .s)) (a .at) (a .n) (c .before .loop .inv) (omega arith)
+    ends (may-stand content-byte) (now (a .s)) (a .at) (a .n) (c .before .loop .inv) (omega arith)
 
 pub all-stand-spec : {M : Type 1} → statement M
 all-stand-spec =

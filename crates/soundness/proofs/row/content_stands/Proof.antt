@@ -6,6 +6,7 @@ use lib.ListN.{getD}
 use denote.Ref.{now}
 use borrow.Author.Needs.{needs}
 use Rattle.buffers.specs.Cases.{answers-false, answers-true}
+use Rattle.syntax.specs.Field.{content-byte}
 use Rattle.tree.specs.Layout.{content-width}
 use Rattle.soundness.specs.Tests.{may-stand, content-stands}
 use Rattle.soundness.specs.NeighbourLaws.{first-fails, last-fails, both-pass}
@@ -32,7 +33,7 @@ unfolding content-stands
 returns c =
     let a = c .before .before .before .args in
     let e = answers-false (c .before .all-stand .ensures) (c .if1 .taken) in
-    sym (rw (first-fails may-stand (content-width - 1) (a .at) (now (a .s)) (content-width - at-once) (omega arith) e))
+    sym (rw (first-fails (may-stand content-byte) (content-width - 1) (a .at) (now (a .s)) (content-width - at-once) (omega arith) e))
 
 sub-all-stand-2 : tie.Need-sub-all-stand-2
 sub-all-stand-2 c = search needs
@@ -46,7 +47,7 @@ returns-2 c =
     let a = c .before .before .before .before .before .args in
     let q : a .at + content-width - 1 - at-once ≡ a .at + (content-width - 1 - at-once) = omega arith in
     let e = rw q at (answers-false (c .before .all-stand2 .ensures) (c .if2 .taken)) in
-    sym (rw (last-fails may-stand (content-width - 1) (a .at) (now (a .s)) at-once (omega arith) e))
+    sym (rw (last-fails (may-stand content-byte) (content-width - 1) (a .at) (now (a .s)) at-once (omega arith) e))
 
 shared-slice-read-may-stand : tie.Need-shared-slice-read-may-stand
 shared-slice-read-may-stand c = search needs
@@ -63,8 +64,8 @@ returns-3 c =
     let p : a .at + content-width - 1 ≡ a .at + (content-width - 1) = omega arith in
     let e = answers-true (c .before .before .before .before .before .all-stand .ensures) (c .before .before .before .before .if1 .left) in
     let g = rw q at (answers-true (c .before .before .before .all-stand2 .ensures) (c .before .before .if2 .left)) in
-    c .may-stand .ensures ∙ ap (λ (k : ℕ). may-stand (getD s k 0) 0) p
-    ∙ sym (rw (both-pass may-stand (content-width - 1) (a .at) s (content-width - at-once) at-once (omega arith) (omega arith) (omega arith) e g))
+    c .may-stand .ensures ∙ ap (λ (k : ℕ). may-stand content-byte (getD s k 0) 0) p
+    ∙ sym (rw (both-pass (may-stand content-byte) (content-width - 1) (a .at) s (content-width - at-once) at-once (omega arith) (omega arith) (omega arith) e g))
 
 pub content-stands-spec : {M : Type 1} → statement M
 content-stands-spec =

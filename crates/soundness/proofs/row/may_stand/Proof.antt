@@ -11,7 +11,7 @@ use Rattle.soundness.specs.Tests.{may-stand}
 use Rattle.soundness.proofs.row.may_stand.Statement.{statement}
 use Rattle.soundness.proofs.row.may_stand.Tie as tie
 
-by-zero : (b next : ℕ) → ((eqb b 0 && eqb next 0) || ((leb 32 b && leb b 126) && not (eqb b 44))) ≡ may-stand b next
+by-zero : (b next : ℕ) → ((eqb b 0 && eqb next 0) || ((leb 32 b && leb b 126) && not (eqb b 44))) ≡ may-stand content-byte b next
 unfolding may-stand content-byte
 by-zero b next = case (eqb b 0) (λ e. rw (e, lt-leb 32 b (omega (arith, eqb-true b 0 e))) (or-false (eqb next 0))) (λ e. rw e)
 
