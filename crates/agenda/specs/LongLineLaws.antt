@@ -1,5 +1,5 @@
--- A line of a listed form has at most `longest-line` bytes. So what `run` answers and leaves is the same for all longer lines, and the first
--- bytes of such a line stand for the whole.
+-- A line of a listed form has at most `longest-line` bytes. So what `run` answers and leaves is the same for all longer lines, and
+-- the first bytes of such a line stand for the whole.
 use mathlib.Core.Path.{_≡_, refl, sym, _∙_, ap}
 use mathlib.Core.List.{List, [], _∷_, map}
 use mathlib.Core.Option.{Option, none, some}

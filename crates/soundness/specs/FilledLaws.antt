@@ -1,5 +1,5 @@
--- Fields filled up with zeros, a name, a tag path, a content, by tests of neighbouring bytes: what the code does in place of looking for
--- the end of a text.
+-- Fields filled up with zeros, a name, a tag path, a content, by tests of neighbouring bytes: what the code does in place of
+-- looking for the end of a text.
 use mathlib.Core.Path.{_≡_, refl, sym, _∙_, ap, ap₂}
 use mathlib.Core.List.{List, [], _∷_}
 use mathlib.Core.Bool.{Bool, true, false, _&&_, _||_, not, and-true, and-false}
@@ -7,7 +7,7 @@ use Prim.Native.Nat.{ℕ, zero, suc, _+_, _-_, _*_, _≤_, _<_}
 use native.Mathlib.Omega.{arith}
 use lib.Dec.{eqb, leb}
 use lib.ListN.{length, getD, take, drop, length-drop, List·getD-eq-default}
-use lib.Seq.{take-add, drop-drop, drop-cons, getD-drop, getD-take, length-take-le}
+use lib.Seq.{take-add, drop-drop, getD-drop, getD-take, length-take-le}
 use borrow.Author.Tests.{le-leb, eqb-true, eqb-false, eq-eqb, ne-eqb}
 use Rattle.buffers.specs.Cases.{case, and-both}
 use Rattle.buffers.specs.Text.{every}
@@ -20,10 +20,10 @@ use Rattle.tree.specs.Layout.{row-width, mode-offset, name-width, content-offse
 use Rattle.tree.specs.WellFormed.{fits-kind}
 use Rattle.tree.specs.Encoding.{kind-of}
 use Rattle.soundness.specs.Tests.{has-content, may-stand, any-byte, may-name, neighbours-pass, content-stands}
-use Rattle.soundness.specs.RowTestLaws.{drop-take}
+use Rattle.soundness.specs.RowTestLaws.{filled-in-field, two-at}
 use Rattle.soundness.specs.NeighbourLaws.{pass-alike, pass-behind, pass-apart}
 
--- ---- an empty text
+-- ---- a field by itself
 
 first-is-none : (w : ℕ) (l : List ℕ) → eqb (length (unpadded (take (suc w) l))) 0 ≡ eqb (getD l 0 0) 0
 unfolding unpadded
@@ -36,15 +36,6 @@ unfolding text-at
 empty-by-first i w x =
     let q : i + 0 ≡ i = omega arith in
     first-is-none w (drop i x) ∙ ap (λ (b : ℕ). eqb b 0) (getD-drop i x 0 0 ∙ ap (λ (k : ℕ). getD x k 0) q)
-
--- ---- a field by itself
-
--- a field is filled up if its bytes behind the text are zeros
-filled-in-field : (i w : ℕ) (x : List ℕ) → (let l = take w (drop i x) in is-filled i w x ≡ all-zero (drop (length (unpadded l)) l))
-unfolding is-filled text-at zeros-at
-filled-in-field i w x =
-    let m = length (unpadded (take w (drop i x))) in
-    ap all-zero (sym (drop-take m w (drop i x) ∙ ap (take (w - m)) (drop-drop m i x)))
 
 -- the bytes of a field
 in-field : (i w : ℕ) (x : List ℕ) (k : ℕ) → k < w → getD (take w (drop i x)) (0 + k) 0 ≡ getD x (i + k) 0
@@ -176,11 +167,10 @@ zeros-by-text i w x =
 zeros-by-number : (i : ℕ) (x : List ℕ) → suc i < length x → zeros-at i 2 x ≡ eqb (number-at i x) 0
 unfolding zeros-at all-zero every number-at
 zeros-by-number i x h =
-    let q : take 2 (drop i x) ≡ getD x i 0 ∷ (getD x (suc i) 0 ∷ []) = rw (drop-cons x i 0 (omega arith), drop-cons x (suc i) 0 h) in
     let low = getD x i 0 in
     let high = getD x (suc i) 0 in
     let n = low + 256 * high in
-    rw q (case (eqb low 0)
+    rw (two-at i x h) (case (eqb low 0)
     (λ a. case (eqb high 0)
     (λ b. rw (a, b, eq-eqb n 0 (omega (arith, eqb-true low 0 a, eqb-true high 0 b))))
     (λ b. rw (a, b, ne-eqb n 0 (λ z. eqb-false high 0 b (omega arith)))))

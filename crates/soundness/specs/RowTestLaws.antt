@@ -69,11 +69,18 @@ same-unpadded (x ∷ l) = case (eqb x 0)
     let q : suc (length l) - suc (length (unpadded l)) ≡ length l - length (unpadded l) = omega arith in
     rw t (rw (q, eq-eqb x x refl) (same-unpadded l)))
 
-pub drop-take : (k w : ℕ) (l : List ℕ) → drop k (take w l) ≡ take (w - k) (drop k l)
+drop-take : (k w : ℕ) (l : List ℕ) → drop k (take w l) ≡ take (w - k) (drop k l)
 drop-take zero w l = let q : w - 0 ≡ w = omega arith in rw q
 drop-take (suc k) zero l = let q : 0 - suc k ≡ 0 = omega arith in rw q
 drop-take (suc k) (suc w) [] = sym (take-nil (suc w - suc k))
 drop-take (suc k) (suc w) (x ∷ l) = let q : suc w - suc k ≡ w - k = omega arith in rw q (drop-take k w l)
+
+-- a field is filled up if its bytes behind the text are zeros
+pub filled-in-field : (i w : ℕ) (x : List ℕ) → (let l = take w (drop i x) in is-filled i w x ≡ all-zero (drop (length (unpadded l)) l))
+unfolding is-filled text-at zeros-at
+filled-in-field i w x =
+    let n = length (unpadded (take w (drop i x))) in
+    ap all-zero (sym (drop-take n w (drop i x) ∙ ap (take (w - n)) (drop-drop n i x)))
 
 module _ (i w : ℕ) (x : List ℕ) (h : i + w ≤ length x) where
   -- a field's text is no longer than the field
@@ -82,23 +89,23 @@ module _ (i w : ℕ) (x : List ℕ) (h : i + w ≤ length x) where
 
   -- the text filled up is the field if the rest of it is zeros
   pub same-filled : same-text (padded w (text-at i w x)) (take w (drop i x)) ≡ is-filled i w x
-  unfolding text-at is-filled zeros-at
+  unfolding text-at
   same-filled =
       let l = take w (drop i x) in
-      let n = length (unpadded l) in
       let e : length l ≡ w = length-take-le w (drop i x) (omega (arith, length-drop i x)) in
-      ap (λ (k : ℕ). same-text (padded k (unpadded l)) l) (sym e)
-      ∙ same-unpadded l
-      ∙ ap all-zero (drop-take n w (drop i x) ∙ ap (take (w - n)) (drop-drop n i x))
+      ap (λ (k : ℕ). same-text (padded k (unpadded l)) l) (sym e) ∙ same-unpadded l ∙ sym (filled-in-field i w x)
+
+-- the two bytes of a number
+pub two-at : (i : ℕ) (x : List ℕ) → suc i < length x → take 2 (drop i x) ≡ getD x i 0 ∷ (getD x (suc i) 0 ∷ [])
+two-at i x h = rw (drop-cons x i 0 (omega arith), drop-cons x (suc i) 0 h)
 
 -- a number of two bytes is written as it is read
 pub same-number : (i : ℕ) (x : List ℕ) → suc i < length x → getD x i 0 < 256 → two-bytes (number-at i x) ≡ take 2 (drop i x)
 unfolding two-bytes number-at
 same-number i x h l =
-    let q : take 2 (drop i x) ≡ getD x i 0 ∷ (getD x (suc i) 0 ∷ []) = rw (drop-cons x i 0 (omega arith), drop-cons x (suc i) 0 h) in
     let a : (getD x i 0 + 256 * getD x (suc i) 0) % 256 ≡ getD x i 0 = omega arith in
     let b : (getD x i 0 + 256 * getD x (suc i) 0) / 256 ≡ getD x (suc i) 0 = omega arith in
-    ap₂ (λ (u v : ℕ). u ∷ (v ∷ [])) a b ∙ sym q
+    ap₂ (λ (u v : ℕ). u ∷ (v ∷ [])) a b ∙ sym (two-at i x h)
 
 -- ---- tests in another order
 

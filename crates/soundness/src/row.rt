@@ -35,7 +35,7 @@ use tree::ROW;
 use tree::TAG;
 use tree::TAG_WIDTH;
 
-// How many bytes of a content's field are judged at once at its end; those before are a multiple of it.
+// The bytes of the second stretch of a content's field, as many as are tested at once; the first stretch is a multiple of it.
 const AT_ONCE: usize = 16;
 
 // Whether a byte says what a node is.
