@@ -69,7 +69,7 @@ person u = record {
 who : Uid → Caller
 who u = cond (is-root u) root-caller (person u)
 
-attributes : Kind → ℕ → ℕ → ℕ → String → Node
+pub attributes : Kind → ℕ → ℕ → ℕ → String → Node
 attributes kind owner group mode content = record {
   kind = kind;
   owner = record { 0 = owner };
@@ -80,14 +80,14 @@ attributes kind owner group mode content = record {
   content = bytes content;
 }
 
-directory : ℕ → ℕ → ℕ → Node
+pub directory : ℕ → ℕ → ℕ → Node
 directory owner group mode = attributes Directory owner group mode ""
 
-file : ℕ → ℕ → ℕ → String → Node
+pub file : ℕ → ℕ → ℕ → String → Node
 file = attributes File
 
 -- the homes of persons 1 and 2
-start : Place Node
+pub start : Place Node
 start = record {
   here = directory 0 0 0o755;
   below = node (bytes "rep") (directory 16 24 0o750) nil (node (bytes "u1") (directory 1 1 0o755) nil (node (bytes "u2") (directory 2 2 0o755) nil nil));
@@ -105,11 +105,11 @@ line-run elsewhere t l = do
   command-run elsewhere t (x .caller) k
 
 -- the replies to the lines of cases, and the tree after them
-record Ran : Type 0 where
-  replies : List Case
-  tree : Place Node
+pub record Ran : Type 0 where
+  pub replies : List Case
+  pub tree : Place Node
 
-run-on : ℕ → Place Node → List Case → Ran
+pub run-on : ℕ → Place Node → List Case → Ran
 run-on elsewhere t [] = record { replies = []; tree = t }
 run-on elsewhere t (c ∷ cs) =
     let o = line-run elsewhere t (c .line) in
@@ -117,18 +117,18 @@ run-on elsewhere t (c ∷ cs) =
     record { replies = answered (c .line) (reply o) ∷ rest .replies; tree = rest .tree }
 
 -- each line is answered so, where so many nodes exist elsewhere
-abbrev Answered : ℕ → List Case → Type 0
+abbrev pub Answered : ℕ → List Case → Type 0
 Answered elsewhere cases = run-on elsewhere start cases .replies ≡ cases
 
 -- what stands at a path after the lines
-standing : Place Node → Option Path → Option (Place Node)
+pub standing : Place Node → Option Path → Option (Place Node)
 standing t none = none
 standing t (some p) = place-at t p
 
-abbrev after-cases : List Case → String → Option (Place Node)
+abbrev pub after-cases : List Case → String → Option (Place Node)
 after-cases cases p = standing (run-on 0 start cases .tree) (path (bytes p))
 
-unfoldable compute : Unit {0}
+unfoldable pub compute : Unit {0}
 unfolding compute-accounts compute-syntax compute-commands compute-tree compute-shell place-at number reply after _gives_ _shows_ all-done answered person who attributes directory file start command-run line-run run-on standing
 compute = tt
 
@@ -310,62 +310,6 @@ removing-leaves : map (after-cases removing) ("/u1" ∷ []) ≡
     some (leaf (directory 1 1 0o755)) ∷ []
 unfolding compute removing
 removing-leaves = refl
-
--- ---- `mv`: either is `/` or `/rep` 9; walk a; parent walk b; b present 6; w on both parents 5; b below a 11; too deep 19
-moving : List Case
-moving =
-    all-done "1,mkdir,/u1/d,0755\n1,mkdir,/u1/d/e,0555\n1,create,/u1/a,0600\n1,mkdir,/u1/n,0600" ++ (
-    "1,mv,/u1/x,/" gives 9 ∷
-    "1,mv,/u1/x,/rep" gives 9 ∷
-    "1,mv,/,/u1/x/y" gives 9 ∷
-    "0,mv,/rep,/u1/x" gives 9 ∷
-    "1,mv,/u1/x,/u1/a/y" gives 3 ∷
-    "1,mv,/u1/a/x,/u1/x/y" gives 4 ∷
-    "1,mv,/u1/n/x,/u1/x/y" gives 5 ∷
-    "1,mv,/u1/a,/u1/x/y" gives 3 ∷
-    "1,mv,/u1/d,/u1/a/y" gives 4 ∷
-    "1,mv,/u1/a,/u1/n/y" gives 5 ∷
-    "1,mv,/u1/a,/rep/y" gives 5 ∷
-    "2,mv,/u1/a,/u1/d" gives 6 ∷
-    "1,mv,/u1/a,/u1/a" gives 6 ∷
-    "1,mv,/u1/d,/u1/d/e" gives 6 ∷
-    "2,mv,/u1/a,/u2/a" gives 5 ∷
-    "1,mv,/u1/a,/u2/a" gives 5 ∷
-    "2,mv,/u1/d,/u1/d/x" gives 5 ∷
-    "1,mv,/u1/d,/u1/d/e/x" gives 5 ∷
-    "1,mv,/u1/d,/u1/d/x" gives 11 ∷
-    "1,mv,/u1/a,/u1/ab" gives 0 ∷
-    "1,mv,/u1/d/e,/u1/e" gives 0 ∷ [])
-
-moving-answered : Answered 0 moving
-unfolding compute moving
-moving-answered = refl
-
-moving-leaves : map (after-cases moving) ("/u1/a" ∷ "/u1/ab" ∷ "/u1/d" ∷ "/u1/e" ∷ []) ≡
-    none ∷
-    some (leaf (file 1 1 0o600 "")) ∷
-    some (leaf (directory 1 1 0o755)) ∷
-    some (leaf (directory 1 1 0o555)) ∷ []
-unfolding compute moving
-moving-leaves = refl
-
--- a path of 6 names is not too deep, one of 7 is, and 11 comes before 19
-deepening : List Case
-deepening =
-    all-done "1,mkdir,/u1/a,0700\n1,mkdir,/u1/a/b,0700\n1,create,/u1/a/b/c,0600\n1,write,/u1/a/b/c,t\n1,mkdir,/u1/d,0700\n1,mkdir,/u1/d/e,0700\n1,mkdir,/u1/d/e/f,0700" ++ (
-    "1,mv,/u1/a,/u1/d/e/f/a" gives 19 ∷
-    "1,mv,/u1/a/b,/u1/d/e/f/b" gives 0 ∷
-    "1,read,/u1/d/e/f/b/c" shows "t" ∷
-    "1,mv,/u1/d,/u1/a/d" gives 19 ∷
-    "1,mv,/u1/d,/u1/d/e/d" gives 11 ∷
-    "1,mv,/u1/d/e,/u1/e" gives 0 ∷
-    "1,mv,/u1/e,/u1/d/e" gives 0 ∷
-    "1,read,/u1/d/e/f/b/c" shows "t" ∷
-    "1,read,/u1/a" shows "" ∷ [])
-
-deepening-answered : Answered 0 deepening
-unfolding compute deepening
-deepening-answered = refl
 
 -- ---- `chmod`: set-gid on a file 7; not owner nor root 9. `chgrp`: 9 but for root and an owner in the group. `chown`: 9 but for root
 changing : List Case

@@ -1,6 +1,7 @@
 pub mod WholePaths
 pub mod WholePathsLaws
 pub mod Steps
+pub mod ReplacingLaws
 pub mod Replies
 pub mod ReplyLaws
 pub mod CommandBytes
@@ -16,3 +17,4 @@ pub mod ShellPrivacyLaws
 pub mod Compute
 pub mod WholePathsCases
 pub mod Cases
+pub mod MovingCases

@@ -23,6 +23,7 @@ use Rattle.tree.specs.JudgeLaws.{room-by-modes}
 use Rattle.tree.specs.WalkRefusalLaws.{unused-refuses, walk-refuses, parent-walk-refuses}
 use Rattle.tree.specs.WellFormed.{is-tree}
 use Rattle.tree.specs.UpdateLaws.{walked-at}
+use Rattle.shell.specs.ReplacingLaws.{replace-refuses}
 use Rattle.shell.specs.Steps.{text-of, run-create, run-read, run-write, run-rm, run-mv, run-chmod, run-chgrp, run-chown, run-shell}
 use Rattle.shell.specs.ReadTextLaws.{read-fits}
 use Rattle.shell.specs.Answers.{Own, Text-fits}
@@ -90,7 +91,7 @@ module _ (c : Caller) (m : ℕ) (t : Place Node) where
         then-check Reserved refl _ λ _.
         then-step (walks a) λ d _.
         then-step (parent-walks b) λ f _.
-        then-guard (unused-refuses refl (last b) (f .below)) λ _.
+        then-guard (replace-refuses refl refl (d .here .kind) _) λ _.
         then-step (walks (parent a)) λ e _.
         then-check Access refl _ λ _.
         then-check Access refl _ λ _.

@@ -1,19 +1,20 @@
 -- No shell command makes a well-formed tree ill-formed, whoever calls, root too.
-use mathlib.Core.Path.{_≡_, refl, sym}
+use mathlib.Core.Path.{_≡_, refl, sym, _∙_, ap}
+use mathlib.Core.Option.{Option, none, some}
 use mathlib.Core.Bool.{true, false, _||_, not}
 use Prim.Native.Nat.{ℕ, suc, _+_, _/_, _≤_}
 use native.Mathlib.Omega.{arith}
 use lib.Dec.{ltb}
 use borrow.Author.Tests.{not-true, leb-true, ltb-true, ne-eqb}
-use Rattle.buffers.specs.Cases.{and-both, contra, neither}
+use Rattle.buffers.specs.Cases.{case, and-both, contra, neither}
 use Rattle.buffers.specs.Text.{Text}
 use Rattle.accounts.specs.declared.Caller.{Caller}
 use Rattle.accounts.specs.declared.Uid.{Uid}
 use Rattle.accounts.specs.declared.Gid.{Gid}
 use Rattle.accounts.specs.Caller.{is-caller}
 use Rattle.syntax.specs.Number.{set-gid, is-mode}
-use Rattle.syntax.specs.Path.{Path, root, _▹_, parent, last, depth, reserved, is-path, most-names}
-use Rattle.syntax.specs.PathLaws.{path-depth, last-is-name, parent-depth, not-reserved}
+use Rattle.syntax.specs.Path.{Name, Path, root, _▹_, parent, last, depth, is-top, same-path, reserved, is-path, most-names}
+use Rattle.syntax.specs.PathLaws.{path-depth, last-is-name, parent-depth, parent-and-last, not-reserved}
 use Rattle.syntax.specs.Field.{is-content}
 use Rattle.commands.specs.Command.{Shell-command, create, mkdir, read, write, rm, rmdir, mv, chmod, chgrp, chown, is-shell-command}
 use Rattle.tree.specs.declared.Kind.{Kind}
@@ -22,19 +23,20 @@ use Rattle.tree.specs.declared.Cause.the-variants.{Access, WrongKind, NotEmpty,
 use Rattle.tree.specs.Result.{Result, done, Outcome}
 use Rattle.tree.specs.Outcomes.{gives, Ensures}
 use Rattle.tree.specs.GivesLaws.{any-outcome, then-check, then-guard, then-do}
-use Rattle.tree.specs.Forest.{Place, update, put, leaf, size, height}
+use Rattle.tree.specs.Forest.{Place, get, update, place-at, put, leaf, size, height}
 use Rattle.tree.specs.Node.{is-directory, Node, set-owner, set-group, set-mode, set-content, new-node}
 use Rattle.tree.specs.Walk.{by-modes, walk, room}
 use Rattle.tree.specs.WellFormed.{nodes, is-node, is-place, is-tree}
 use Rattle.tree.specs.JudgeLaws.{file-is-none, directory-is-one}
-use Rattle.tree.specs.StepLaws.{was-unused, parent-walked}
+use Rattle.tree.specs.StepLaws.{parent-walked}
 use Rattle.tree.specs.RoomLaws.{room-found}
 use Rattle.tree.specs.PlaceLaws.{leaf-size}
-use Rattle.tree.specs.UpdateLaws.{leaf-height}
+use Rattle.tree.specs.UpdateLaws.{place-at-child, walked-at, leaf-height}
 use Rattle.tree.specs.NodeLaws.{new-node-fits, node-of-owner, node-of-group, node-of-mode, node-of-content, kind-of-set-owner, kind-of-set-group, kind-of-set-mode, kind-of-set-content}
 use Rattle.tree.specs.WellFormedLaws.{most-nodes-is, place-node, leaf-place, entered-directory, walked-place}
-use Rattle.tree.specs.ChangeLaws.{keep-alter, keep-put, keep-drop, keep-move}
-use Rattle.shell.specs.Steps.{fit, run-create, run-read, run-write, run-rm, run-mv, run-chmod, run-chgrp, run-chown, run-shell}
+use Rattle.tree.specs.ChangeLaws.{alter-at, keep-alter, keep-put, keep-drop, keep-move}
+use Rattle.shell.specs.ReplacingLaws.{both-files, same-files}
+use Rattle.shell.specs.Steps.{fit, may-replace, moved, run-create, run-read, run-write, run-rm, run-mv, run-chmod, run-chgrp, run-chown, run-shell}
 
 -- a mode below 01000 is one, without set-gid
 plain-mode-fits : (m : ℕ) → ltb m 512 ≡ true → (is-mode m ≡ true) × (set-gid m ≡ false)
@@ -100,14 +102,28 @@ module _ (c : Caller) (m : ℕ) (t : Place Node) where
         then-check NotEmpty tt _ λ _.
         gives (keep-drop t (parent p) (last p) h)
 
+    -- a move keeps the tree well-formed, whatever stands where it leads
+    moved-keeps : (a : Path) (n : Name) (b : Path) (d f : Place Node) → is-path b ≡ true → is-top b ≡ false → walk (by-modes (c .account)) t (a ▹ n) ≡ done d
+        → walk (by-modes (c .account)) t (parent b) ≡ done f → is-directory (f .here .kind) ≡ true → depth b + height (d .below) ≤ 6
+        → (o : Option (Place Node)) → get (last b) (f .below) ≡ o → may-replace (d .here .kind) o ≡ done tt → is-tree (moved t (a ▹ n) b d o) ≡ true
+    unfolding moved parent last
+    moved-keeps a n b d f g top e w dir l none free r =
+        keep-move (by-modes (c .account)) t a n (parent b) (last b) d f h e w dir free (last-is-name b g top) (omega (arith, parent-depth b top))
+    moved-keeps a n b d f g top e w dir l (some x) there r =
+        let k = both-files (d .here .kind) x r in
+        let at : place-at t b ≡ some x = ap (place-at t) (parent-and-last b top) ∙ place-at-child t (parent b) (last b) f (walked-at t (by-modes (c .account)) (parent b) f w) ∙ there in
+        case (same-path (a ▹ n) b)
+        (λ i. rw i h)
+        (λ i. rw i (keep-drop _ a n (alter-at t b x (λ y. d .here) h at (node-at (a ▹ n) d e) (same-files (d .here .kind) (x .here .kind) (k .1) (k .0)))))
+
     mv-keeps : (a b : Path) → is-path b ≡ true → Keeps (run-mv c m t a b)
-    unfolding run-mv reserved parent last most-names
+    unfolding run-mv reserved most-names
     mv-keeps root b g = then-check Reserved tt _ λ i. contra refl (sym i)
     mv-keeps (a ▹ n) b g =
         then-check Reserved tt _ λ i.
         then-do _ λ d e.
         then-do _ λ f k.
-        then-guard (any-outcome _) λ free.
+        then-guard (any-outcome _) λ r.
         then-do _ λ _ _.
         then-check Access tt _ λ _.
         then-check Access tt _ λ _.
@@ -115,9 +131,7 @@ module _ (c : Caller) (m : ℕ) (t : Place Node) where
         then-check TooDeep tt _ λ l.
         let to = parent-walked (by-modes (c .account)) t b k in
         let top = not-reserved b (neither (reserved (a ▹ n)) (reserved b) i .1) in
-        gives (keep-move (by-modes (c .account)) t a n (parent b) (last b) d f h e (to .0) (entered-directory (c .account) (f .here) (to .1))
-        (was-unused (last b) (f .below) free) (last-is-name b g top)
-        (omega (arith, parent-depth b top, leb-true (depth b + height (d .below)) 6 l)))
+        gives (moved-keeps a n b d f g top e (to .0) (entered-directory (c .account) (f .here) (to .1)) (leb-true (depth b + height (d .below)) 6 l) _ refl r)
 
     chmod-keeps : (p : Path) (mode : ℕ) → is-mode mode ≡ true → Keeps (run-chmod c m t p mode)
     unfolding run-chmod

@@ -1,7 +1,7 @@
 -- A directory of mode 0700 is its owner's and root's alone: every shell command of anybody else that walks below it is refused, and
 -- every other one leaves it unaltered.
 use mathlib.Core.Path.{_≡_, refl, sym, _∙_, ap}
-use mathlib.Core.Option.{none, some}
+use mathlib.Core.Option.{Option, none, some}
 use mathlib.Core.Bool.{Bool, true, false, _&&_, _||_, not, or-true}
 use mathlib.Core.Logic.{_⊎_, inl, inr, ⊎-elim}
 use Prim.Native.Nat.{ℕ}
@@ -18,7 +18,7 @@ use Rattle.accounts.specs.declared.Account.{Account}
 use Rattle.accounts.specs.Access.{is-root, same-uid, may-group, may-other, grants-none}
 use Rattle.syntax.specs.Number.{octal}
 use Rattle.syntax.specs.Path.{Name, Path, root, _▹_, parent, last, is-top, same-path, within, lies-below, reserved}
-use Rattle.syntax.specs.WithinLaws.{same-path-sound, top-not-below}
+use Rattle.syntax.specs.WithinLaws.{same-path-sound, outside-differs, top-not-below}
 use Rattle.syntax.specs.FormLaws.{answered}
 use Rattle.commands.specs.Command.{Shell-command, create, mkdir, read, write, rm, rmdir, mv, chmod, chgrp, chown, shell, some-path}
 use Rattle.tree.specs.declared.Kind.{Kind}
@@ -27,16 +27,18 @@ use Rattle.tree.specs.declared.Cause.the-variants.{Access, Exists, WrongKind, N
 use Rattle.tree.specs.Result.{Result, refused, done, _>>=_}
 use Rattle.tree.specs.Outcomes.{gives, Ensures}
 use Rattle.tree.specs.GivesLaws.{any-outcome, weaker, then-step, then-check, then-guard, then-do}
-use Rattle.tree.specs.Forest.{Place, is-empty, update, place-at, put, drop}
-use Rattle.tree.specs.Node.{same-kind, Node, allows, set-mode, set-group, set-content, owns}
+use Rattle.tree.specs.Forest.{Place, get, is-empty, update, place-at, alter, put, drop}
+use Rattle.tree.specs.Node.{is-directory, same-kind, Node, allows, set-mode, set-group, set-content, owns}
 use Rattle.tree.specs.Walk.{by-modes, unused, walk, parent-walk, room}
 use Rattle.tree.specs.WellFormed.{is-tree}
+use Rattle.tree.specs.WellFormedLaws.{place-parts, walked-place}
 use Rattle.tree.specs.ResultLaws.{done-then, refused-bind, require-true}
 use Rattle.tree.specs.JudgeLaws.{directory-not-file, allows-is, kind-by-modes, passes-by-modes, room-by-modes, owns-is}
-use Rattle.tree.specs.StepLaws.{was-unused, parent-walked}
+use Rattle.tree.specs.StepLaws.{was-unused, walks-on, parent-walked}
 use Rattle.tree.specs.UpdateLaws.{place-at-child, walked-at}
 use Rattle.tree.specs.OtherPathLaws.{alter-keeps, put-keeps, drop-empty-keeps, drop-gone, move-keeps, move-carries, walk-outside, walk-shut, parent-walk-shut}
-use Rattle.shell.specs.Steps.{run-create, run-read, run-write, run-rm, run-mv, run-chmod, run-chgrp, run-chown, run-shell}
+use Rattle.shell.specs.ReplacingLaws.{both-files, neither-lies, no-same}
+use Rattle.shell.specs.Steps.{may-replace, moved, run-create, run-read, run-write, run-rm, run-mv, run-chmod, run-chgrp, run-chown, run-shell}
 use Rattle.shell.specs.Privacy.{Private, Writes, Unaltered, in-place, moved-along, taken-out, walks-first}
 
 -- the account has no right there
@@ -181,6 +183,46 @@ module _ (c : Caller) (m : ℕ) (t : Place Node) (p : Path) (d : Place Node) (th
         }))
         (λ i. inl (drop-private t p d there v q n x e w s b z i)))
 
+    -- a file of another directory that becomes the file x, which stood in a third, leaves it
+    replaced-private : (q : Path) (n : Name) (x e : Place Node) (r : Path) (k : Name) (f g : Place Node)
+        → walk (by-modes (c .account)) t (q ▹ n) ≡ done x → walk (by-modes (c .account)) t q ≡ done e → allows (c .account) W (e .here) ≡ true
+        → walk (by-modes (c .account)) t (r ▹ k) ≡ done g → is-directory (g .here .kind) ≡ false → is-directory (x .here .kind) ≡ false
+        → within (q ▹ n) (r ▹ k) ≡ false → place-at (update q (drop n) (update (r ▹ k) (alter (λ y. x .here)) t)) p ≡ some d
+    replaced-private q n x e r k f g w i b there-too plain file off =
+        let j = by-modes (c .account) in
+        let no-file : (o : Path) (y : Place Node) → walk j t o ≡ done y → is-directory (y .here .kind) ≡ false → within p o ≡ false =
+        λ o y u l. private-outside t p d there v (λ z. not (is-directory (z .kind))) (ap not (v .directory)) o y u (ap not l) in
+        drop-empty-keeps _ p d q n x
+        (alter-keeps t p d (r ▹ k) _ there (no-file (r ▹ k) g there-too plain))
+        (written-outside t p d there v q e i b)
+        (alter-keeps t (q ▹ n) x (r ▹ k) _ (walked-at t j (q ▹ n) x w) off)
+        (place-parts x (walked-place j t (q ▹ n) x whole w) .childless file)
+        (outside-differs p (q ▹ n) (no-file (q ▹ n) x w file))
+
+    -- a move leaves it or carries it along, whatever stands where it leads
+    moved-private : (q : Path) (n : Name) (x e : Place Node) (r : Path) (k : Name) (f : Place Node)
+        → walk (by-modes (c .account)) t (q ▹ n) ≡ done x → walk (by-modes (c .account)) t q ≡ done e → allows (c .account) W (e .here) ≡ true
+        → parent-walk (by-modes (c .account)) t (r ▹ k) ≡ done f → allows (c .account) W (f .here) ≡ true → lies-below (q ▹ n) (r ▹ k) ≡ false
+        → (o : Option (Place Node)) → get k (f .below) ≡ o → may-replace (x .here .kind) o ≡ done tt
+        → Unaltered (c .account) t d p (shell (mv (q ▹ n) (r ▹ k))) (moved t (q ▹ n) (r ▹ k) x o)
+    unfolding moved parent last
+    moved-private q n x e r k f w i b s g o none free u =
+        let j = by-modes (c .account) in
+        let l = parent-walked j t (r ▹ k) s .0 in
+        let h = walked-at t j r f l in
+        let missing = place-at-child t r k f h ∙ free in
+        let off = neither-lies (q ▹ n) (r ▹ k) o (no-same t (q ▹ n) (r ▹ k) (walked-at t j (q ▹ n) x w) missing) in
+        case (within (q ▹ n) p)
+        (λ y. moved-along (record { place = e; stands = walked-at t j q e i; allowed = b }) y (move-carries t p d q n x r f k there missing off (walked-at t j (q ▹ n) x w) h y))
+        (λ y. in-place (move-keeps t p d q n x r f k there missing off (written-outside t p d there v q e i b) (written-outside t p d there v r f l g) y))
+    moved-private q n x e r k f w i b s g o (some y) found u =
+        let j = by-modes (c .account) in
+        let l = parent-walked j t (r ▹ k) s in
+        let files = both-files (x .here .kind) y u in
+        case (same-path (q ▹ n) (r ▹ k))
+        (λ z. rw z (in-place there))
+        (λ z. rw z (in-place (replaced-private q n x e r k f y w i b (walks-on j t r k (l .0) (l .1) found) (files .0) (files .1) (neither-lies (q ▹ n) (r ▹ k) o z))))
+
     mv-private : (a b : Path) → Ensures (λ o. Unaltered (c .account) t d p (shell (mv a b)) (o .state)) (run-mv c m t a b)
     unfolding run-mv reserved parent last
     mv-private root b = then-check Reserved tt _ λ i. contra i refl
@@ -189,19 +231,13 @@ module _ (c : Caller) (m : ℕ) (t : Place Node) (p : Path) (d : Place Node) (th
         then-check Reserved tt _ λ _.
         then-do (walk (by-modes (c .account)) t (q ▹ n)) λ x w.
         then-do (parent-walk (by-modes (c .account)) t (r ▹ k)) λ f s.
-        then-guard (any-outcome (unused k (f .below))) λ u.
+        then-guard (any-outcome _) λ u.
         then-do (walk (by-modes (c .account)) t q) λ e i.
         then-check Access tt _ λ b.
         then-check Access tt _ λ g.
         then-check IntoItself tt _ λ o.
         then-check TooDeep tt _ λ _.
-        let l = parent-walked (by-modes (c .account)) t (r ▹ k) s .0 in
-        let h = walked-at t (by-modes (c .account)) r f l in
-        let free = place-at-child t r k f h ∙ was-unused k (f .below) u in
-        let off = not-true (within (q ▹ n) (r ▹ k)) o in
-        gives (case (within (q ▹ n) p)
-        (λ y. moved-along (record { place = e; stands = walked-at t (by-modes (c .account)) q e i; allowed = b }) y (move-carries t p d q n x r f k there free off (walked-at t (by-modes (c .account)) (q ▹ n) x w) h y))
-        (λ y. in-place (move-keeps t p d q n x r f k there free off (written-outside t p d there v q e i b) (written-outside t p d there v r f l g) y)))
+        gives (moved-private q n x e r k f w i b s g (not-true (lies-below (q ▹ n) (r ▹ k)) o) _ refl u)
 
     chmod-private : (q : Path) (mode : ℕ) → Ensures (λ o. place-at (o .state) p ≡ some d) (run-chmod c m t q mode)
     unfolding run-chmod

@@ -2,7 +2,7 @@
 --
 -- The tree is that in which persons walk. Nodes that exist elsewhere count towards the 256 too: none in the store, which is one
 -- tree, and the entries in the abstract machine.
-use mathlib.Core.Option.{none, some}
+use mathlib.Core.Option.{Option, none, some}
 use mathlib.Core.Bool.{Bool, _&&_, _||_, not, cond}
 use Prim.Native.Nat.{ℕ, _+_}
 use lib.Dec.{leb}
@@ -16,15 +16,15 @@ use Rattle.accounts.specs.Groups.{member}
 use Rattle.accounts.specs.Access.{is-root, same-uid}
 use Rattle.syntax.specs.Pieces.{comma, joined}
 use Rattle.syntax.specs.Number.{set-gid}
-use Rattle.syntax.specs.Path.{Path, parent, last, depth, within, reserved, most-names}
+use Rattle.syntax.specs.Path.{Path, parent, last, depth, same-path, lies-below, reserved, most-names}
 use Rattle.commands.specs.Command.{Shell-command, create, mkdir, read, write, rm, rmdir, mv, chmod, chgrp, chown}
 use Rattle.tree.specs.declared.Kind.{Kind}
 use Rattle.tree.specs.declared.Kind.the-variants.{File, Directory}
-use Rattle.tree.specs.declared.Cause.the-variants.{Access, WrongKind, NotEmpty, Reserved, Full, IntoItself, TooDeep}
+use Rattle.tree.specs.declared.Cause.the-variants.{Access, Exists, WrongKind, NotEmpty, Reserved, Full, IntoItself, TooDeep}
 use Rattle.tree.specs.Result.{Result, done, _>>=_, _>>_, require, Outcome}
-use Rattle.tree.specs.Forest.{Place, is-empty, update, alter, put, drop, leaf, height, names}
+use Rattle.tree.specs.Forest.{Place, get, is-empty, update, alter, put, drop, leaf, height, names}
 use Rattle.tree.specs.Node.{is-directory, same-kind, Node, allows, set-owner, set-group, set-mode, set-content, owns, new-node}
-use Rattle.tree.specs.Walk.{by-modes, unused, walk, parent-walk, room}
+use Rattle.tree.specs.Walk.{by-modes, walk, parent-walk, room}
 use Rattle.tree.specs.WellFormed.{most-nodes, nodes}
 
 -- a file's content, or a directory's names in byte order parted by commas
@@ -34,6 +34,20 @@ text-of d = cond (is-directory (d .here .kind)) (joined comma (names (d .below))
 -- 255 names of 8 bytes and the 254 commas between them; content is shorter
 unfoldable pub longest-text : ℕ
 longest-text = 2294
+
+-- whether something of that kind may be moved where this stands: a directory there is 6; a file there a file replaces, and a
+-- directory does not, 7
+unfoldable pub may-replace : Kind → Option (Place Node) → Result (Unit {0})
+may-replace kind none = done tt
+may-replace kind (some g) = do
+  require (not (is-directory (g .here .kind))) Exists
+  require (not (is-directory kind)) WrongKind
+
+-- the tree with the place d moved from a to b: put in where nothing stood; else the file there becomes the file d, its tag with the
+-- rest, and the one at a goes; onto itself nothing changes
+unfoldable pub moved : Place Node → Path → Path → Place Node → Option (Place Node) → Place Node
+moved t a b d none = update (parent b) (put (last b) d) (update (parent a) (drop (last a)) t)
+moved t a b d (some g) = cond (same-path a b) t (update (parent a) (drop (last a)) (update b (alter (λ n. d .here)) t))
 
 -- One command of the caller c on the tree t.
 module _ (c : Caller) (elsewhere : ℕ) (t : Place Node) where
@@ -90,13 +104,14 @@ module _ (c : Caller) (elsewhere : ℕ) (t : Place Node) where
     require (not (reserved a || reserved b)) Reserved
     d ← walks a
     f ← parent-walks b
-    unused (last b) (f .below)
+    let there = get (last b) (f .below)
+    may-replace (d .here .kind) there
     e ← walks (parent a)
     require (can W e) Access
     require (can W f) Access
-    require (not (within a b)) IntoItself
+    require (not (lies-below a b)) IntoItself
     require (leb (depth b + height (d .below)) most-names) TooDeep
-    done (record { text = none; state = update (parent b) (put (last b) d) (update (parent a) (drop (last a)) t) })
+    done (record { text = none; state = moved t a b d there })
 
   unfoldable pub run-chmod : Path → ℕ → Result (Outcome (Place Node))
   run-chmod p mode = do
