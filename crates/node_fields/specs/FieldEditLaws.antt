@@ -33,7 +33,7 @@ use Rattle.edits.specs.EncodedRowsLaws.{encode-tree-rows, table-field-at, table
 use Rattle.edits.specs.EditLaws.{cut-fits, fitting-wide}
 
 -- the row of the place at a path, with a node for its own
-abbrev row-there : Path → Node → Row Node
+abbrev pub row-there : Path → Node → Row Node
 row-there p x = record { depth = depth p; name = last p; here = x }
 
 module _ (t : Place Node) (p : Path) (d : Place Node) (h : is-tree t ≡ true) (there : place-at t p ≡ some d) where
@@ -48,7 +48,7 @@ module _ (t : Place Node) (p : Path) (d : Place Node) (h : is-tree t ≡ true) (
 
   module _ (k : ℕ) (P old Q : List ℕ) (l : length P ≡ k) (was : row-bytes (row-there p (d .here)) ≡ P ++ (old ++ Q)) where
     -- what stands in a field of the row
-    field-law : field-bytes (encode-tree t) (index-of t p) k (length old) ≡ old
+    pub field-law : field-bytes (encode-tree t) (index-of t p) k (length old) ≡ old
     field-law =
         let c = around t p d there in
         let rest = flatten (suc (depth p)) (d .below) ++ c .post in
@@ -59,7 +59,7 @@ module _ (t : Place Node) (p : Path) (d : Place Node) (h : is-tree t ≡ true) (
         ∙ table-field-at (c .pre) rest P Q (fitting-wide (c .pre) (f .0)) k l (row-there p (d .here)) old was
 
     -- and the node whose row differs in that field alone
-    change-law : (g : Node → Node) (new : List ℕ) → length old ≡ length new → row-bytes (row-there p (g (d .here))) ≡ P ++ (new ++ Q)
+    pub change-law : (g : Node → Node) (new : List ℕ) → length old ≡ length new → row-bytes (row-there p (g (d .here))) ≡ P ++ (new ++ Q)
         → field-put (encode-tree t) (index-of t p) k new ≡ encode-tree (update p (alter g) t)
     change-law g new q is =
         let c = around t p d there in
@@ -96,7 +96,7 @@ module _ (t : Place Node) (p : Path) (d : Place Node) (h : is-tree t ≡ true) (
       let P : List ℕ = (depth p ∷ kind-byte (x .kind) ∷ x .owner .0 ∷ x .group .0 ∷ []) ++ two-bytes (x .mode) in
       change-law 6 P (two-bytes (x .revision)) _ refl refl (set-revision v) (two-bytes v) refl refl
 
-abbrev name-of : Row Node → List ℕ
+abbrev pub name-of : Row Node → List ℕ
 name-of r = padded name-width (r .name)
 
 -- the parts of a row gathered around one of them
@@ -107,13 +107,17 @@ module _ (t : Place Node) (p : Path) (d : Place Node) (h : is-tree t ≡ true) (
   length-name : length (name-of (row-there p (d .here))) ≡ 8
   length-name = length-padded name-width (last p) (fits-parts (row-there p (d .here)) (row-fits t p d h there) .1 .0)
 
-  tag-fits-there : is-tag (d .here .tag) ≡ true
+  pub tag-fits-there : is-tag (d .here .tag) ≡ true
   tag-fits-there = node-parts (d .here) (fits-parts (row-there p (d .here)) (row-fits t p d h there) .0) .0
 
-  content-fits-there : length (d .here .content) ≤ content-width
+  pub content-fits-there : length (d .here .content) ≤ content-width
   content-fits-there =
       let i = node-parts (d .here) (fits-parts (row-there p (d .here)) (row-fits t p d h there) .0) in
       content-fits (d .here .content) (i .1) .0
+
+  -- how many bytes stand before the tag
+  pub length-before-tag : (x : Node) → length (row-head (row-there p x) ++ name-of (row-there p (d .here))) ≡ tag-offset
+  length-before-tag x = length-append (row-head (row-there p x)) (name-of (row-there p (d .here))) ∙ omega (arith, length-row-head (row-there p x), length-name)
 
   -- how many bytes stand before what follows the name and a stretch T
   length-so-far : (x : Node) (T : List ℕ) (k : ℕ) → length T ≡ k → length (row-head (row-there p x) ++ (name-of (row-there p (d .here)) ++ T)) ≡ 16 + k
@@ -130,11 +134,10 @@ module _ (t : Place Node) (p : Path) (d : Place Node) (h : is-tree t ≡ true) (
       let Q = padded content-width (x .content) ++ row-spare in
       let T = padded tag-width (entry-text e) in
       let g : Tag = record { path = e; revision = v } in
-      let lP : length P ≡ 16 = length-append (row-head (row-there p x)) (name-of (row-there p (d .here))) ∙ omega (arith, length-row-head (row-there p x), length-name) in
       let lT = length-padded tag-width (entry-text e) (entry-text-fits e a .0) in
       let q : length (tag-bytes (x .tag)) ≡ length (T ++ two-bytes v) =
       length-tag-bytes (x .tag) tag-fits-there ∙ sym (length-append T (two-bytes v) ∙ omega (arith, lT)) in
-      change-law t p d h there 16 P (tag-bytes (x .tag)) Q lP (row-parts (row-there p x)) (set-tag g) (T ++ two-bytes v) q (row-parts (row-there p (set-tag g x)))
+      change-law t p d h there tag-offset P (tag-bytes (x .tag)) Q (length-before-tag x) (row-parts (row-there p x)) (set-tag g) (T ++ two-bytes v) q (row-parts (row-there p (set-tag g x)))
 
   -- the tag keeps its path and gets another revision
   tag-revision-changed : (g : Tag) (v : ℕ) → d .here .tag ≡ some g
@@ -181,9 +184,14 @@ module _ (t : Place Node) (p : Path) (d : Place Node) (h : is-tree t ≡ true) (
 
 -- ---- at the row of a place
 
+-- what stands in a field of the tree's own bytes and index
+pub read-there : {b : List ℕ} {t : Place Node} {p : Path} {i : ℕ} {d : Place Node} → At b t p i d
+    → (k n : ℕ) (s : List ℕ) → field-bytes (encode-tree t) (index-of t p) k n ≡ s → field-bytes b i k n ≡ s
+read-there {b} {t} {p} {i} a k n s e = ap (λ (c : List ℕ). field-bytes c i k n) (a .tree .bytes) ∙ ap (λ (j : ℕ). field-bytes (encode-tree t) j k n) (a .row) ∙ e
+
 module _ {b : List ℕ} {t : Place Node} {p : Path} {i : ℕ} {d : Place Node} (a : At b t p i d) where
-  -- what holds of the tree's own bytes and index
-  there-too : (k : ℕ) (s : List ℕ) (g : Node → Node) → field-put (encode-tree t) (index-of t p) k s ≡ encode-tree (update p (alter g) t)
+  -- and what a field written makes of them
+  pub there-too : (k : ℕ) (s : List ℕ) (g : Node → Node) → field-put (encode-tree t) (index-of t p) k s ≡ encode-tree (update p (alter g) t)
       → field-put b i k s ≡ encode-tree (update p (alter g) t)
   there-too k s g e = ap (λ (c : List ℕ). field-put c i k s) (a .tree .bytes) ∙ ap (λ (j : ℕ). field-put (encode-tree t) j k s) (a .row) ∙ e
 
@@ -215,8 +223,5 @@ module _ {b : List ℕ} {t : Place Node} {p : Path} {i : ℕ} {d : Place Node} (
   pub copy-content-law : {q : Path} {j : ℕ} {f : Place Node} → At b t q j f
       → field-put b i content-offset (field-bytes b j content-offset content-width) ≡ encode-tree (update p (alter (set-content (f .here .content))) t)
   copy-content-law {q} {j} {f} from =
-      let read : field-bytes b j content-offset content-width ≡ padded content-width (f .here .content) =
-      ap (λ (c : List ℕ). field-bytes c j content-offset content-width) (from .tree .bytes)
-      ∙ ap (λ (k : ℕ). field-bytes (encode-tree t) k content-offset content-width) (from .row)
-      ∙ content-read t q f (from .tree .whole) (from .there) in
+      let read = read-there from content-offset content-width (padded content-width (f .here .content)) (content-read t q f (from .tree .whole) (from .there)) in
       ap (field-put b i content-offset) read ∙ content-law (f .here .content) (content-fits-there t q f (from .tree .whole) (from .there))

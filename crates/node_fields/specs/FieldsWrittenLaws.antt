@@ -9,7 +9,7 @@ use Rattle.buffers.specs.TableLaws.{zeros-join}
 use Rattle.buffers.specs.Fields.{two-bytes, padded}
 use Rattle.buffers.specs.FieldsLaws.{length-padded, length-two-bytes, text-part}
 use Rattle.buffers.specs.PasteLaws.{paste-join, paste-piece, set-paste, set-behind}
-use Rattle.tree.specs.Layout.{row-width, row-start, tag-offset, tag-width, tag-revision-offset, content-offset, content-width, whole-tag-width}
+use Rattle.tree.specs.Layout.{row-width, row-start, tag-offset, tag-width, tag-revision-offset, whole-tag-width}
 use Rattle.tree.specs.RowAt.{tag-text-at}
 use Rattle.tree.specs.RowAtLaws.{text-in-row}
 use Rattle.edits.specs.Changes.{field-bytes, field-put}
@@ -108,12 +108,12 @@ tag-below-put b m i above n v h below q l =
     ∙ ap (λ (s : List ℕ). paste s (row-start i + tag-revision-offset) (two-bytes v) 2) (joined-put b t m at n from 47 (sym q) part l (omega arith) (omega arith))
     ∙ tag-put b (t ++ (47 ∷ m)) i v h (omega (arith, length-append t (47 ∷ m)))
 
--- a content copied from another row
-pub content-copied : (b : List ℕ) (from to : ℕ) → row-start from + row-width ≤ length b
-    → paste b (row-start to + content-offset) (drop (row-start from + content-offset) b) content-width ≡ field-put b to content-offset (field-bytes b from content-offset content-width)
+-- a part of a row copied from another row
+pub part-copied : (b : List ℕ) (from to k n : ℕ) → row-start from + row-width ≤ length b → k + n ≤ row-width
+    → paste b (row-start to + k) (drop (row-start from + k) b) n ≡ field-put b to k (field-bytes b from k n)
 unfolding field-bytes
-content-copied b from to h =
-    let D = drop (row-start from + content-offset) b in
-    let l : content-width ≤ length D = omega (arith, length-drop (row-start from + content-offset) b) in
-    ap (λ (s : List ℕ). take (row-start to + content-offset) b ++ s ++ drop (row-start to + content-offset + content-width) b) (sym (take-take content-width content-width D (omega arith)))
-    ∙ piece-put b to content-offset (take content-width D) content-width (length-take-le content-width D l)
+part-copied b from to k n h w =
+    let D = drop (row-start from + k) b in
+    let l : n ≤ length D = omega (arith, length-drop (row-start from + k) b) in
+    ap (λ (s : List ℕ). take (row-start to + k) b ++ s ++ drop (row-start to + k + n) b) (sym (take-take n n D (omega arith)))
+    ∙ piece-put b to k (take n D) n (length-take-le n D l)

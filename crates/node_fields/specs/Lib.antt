@@ -1,2 +1,3 @@
 pub mod FieldsWrittenLaws
 pub mod FieldEditLaws
+pub mod NodeCopyLaws

@@ -4,10 +4,11 @@ ghost use mathlib.Core.List.{[], _∷_};
 ghost use Prim.Native.Nat.{_+_, _≤_, _<_};
 ghost use lib.ListN.{length};
 ghost use Rattle.buffers.specs.Fields.{two-bytes, padded};
-ghost use Rattle.tree.specs.Layout.{owner-offset, group-offset, mode-offset, revision-offset, tag-offset, tag-width, tag-revision-offset, content-offset, content-width};
+ghost use Rattle.tree.specs.Layout.{row-width, owner-offset, group-offset, mode-offset, revision-offset, tag-offset, tag-width, tag-revision-offset, content-offset, content-width};
 ghost use Rattle.tree.specs.RowAt.{tag-text-at};
 ghost use Rattle.tree.specs.TreeBytes.{Has-row};
-ghost use Rattle.edits.specs.Changes.{field-put, content-field, tag-field, tag-below};
+ghost use Rattle.edits.specs.Changes.{field-bytes, field-put, content-field, tag-field, tag-below};
+ghost use Rattle.node_fields.specs.NodeCopyLaws.{node-copied};
 use accounts::Gid;
 use accounts::Uid;
 use buffers::clear;
@@ -15,11 +16,14 @@ use buffers::move_bytes;
 use buffers::write;
 use buffers::write_number;
 use buffers::write_padded;
+use tree::BEHIND_NAME;
 use tree::CONTENT;
 use tree::CONTENT_WIDTH;
 use tree::FIRST;
 use tree::GROUP;
+use tree::KIND;
 use tree::MODE;
+use tree::NAME;
 use tree::OWNER;
 use tree::REVISION;
 use tree::ROW;
@@ -102,13 +106,36 @@ pub fn set_content(tree: &mut [u8], i: usize, content: &[u8])
     write_padded(tree, FIRST + ROW * i + CONTENT, CONTENT_WIDTH, content);
 }
 
+// A part of one row, n bytes from an offset on, to another.
+fn copy_part(tree: &mut [u8], from: usize, to: usize, at: usize, n: usize)
+    requires { ⌜ Has-row (now tree) from ⌝ }
+    requires { ⌜ Has-row (now tree) to ⌝ }
+    requires { ⌜ at + n ≤ row-width ⌝ }
+    ensures { λ _. ⌜ now (tree .exit) ≡ field-put (now (tree .entry)) to at (field-bytes (now (tree .entry)) from at n) ⌝ }
+{
+    let source = FIRST + ROW * from + at;
+    let target = FIRST + ROW * to + at;
+    move_bytes(tree, source, target, n);
+}
+
 // The content of one row to another.
 pub fn copy_content(tree: &mut [u8], from: usize, to: usize)
     requires { ⌜ Has-row (now tree) from ⌝ }
     requires { ⌜ Has-row (now tree) to ⌝ }
     ensures { λ _. ⌜ now (tree .exit) ≡ field-put (now (tree .entry)) to content-offset (content-field (now (tree .entry)) from) ⌝ }
 {
-    let source = FIRST + ROW * from + CONTENT;
-    let target = FIRST + ROW * to + CONTENT;
-    move_bytes(tree, source, target, CONTENT_WIDTH);
+    copy_part(tree, from, to, CONTENT, CONTENT_WIDTH);
+}
+
+// The bytes of a row between its depth and its name: kind, owner, group, mode and revision.
+const ATTRIBUTES: usize = NAME - KIND;
+
+// All of one row but its depth and its name to another.
+pub fn copy_node(tree: &mut [u8], from: usize, to: usize)
+    requires { ⌜ Has-row (now tree) from ⌝ }
+    requires { ⌜ Has-row (now tree) to ⌝ }
+    ensures { λ _. ⌜ now (tree .exit) ≡ node-copied (now (tree .entry)) from to ⌝ }
+{
+    copy_part(tree, from, to, KIND, ATTRIBUTES);
+    copy_part(tree, from, to, TAG, BEHIND_NAME);
 }

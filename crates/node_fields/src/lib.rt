@@ -2,6 +2,7 @@
 mod fields;
 
 pub use fields::copy_content;
+pub use fields::copy_node;
 pub use fields::set_content;
 pub use fields::set_group;
 pub use fields::set_mode;

@@ -1,11 +1,11 @@
--- `edits::fields::copy_content` meets its contract: the content of one row moved to another.
+-- `node_fields::fields::copy_part` meets its contract: bytes of one row moved to where they stand in another.
 use mathlib.Core.Path.{_∙_}
 use native.Mathlib.Omega.{arith}
 use denote.Ref.{now}
 use borrow.Author.Needs.{needs}
-use Rattle.node_fields.specs.FieldsWrittenLaws.{content-copied}
-use Rattle.node_fields.proofs.fields.copy_content.Statement.{statement}
-use Rattle.node_fields.proofs.fields.copy_content.Tie as tie
+use Rattle.node_fields.specs.FieldsWrittenLaws.{part-copied}
+use Rattle.node_fields.proofs.fields.copy_part.Statement.{statement}
+use Rattle.node_fields.proofs.fields.copy_part.Tie as tie
 
 mul-source : tie.Need-mul-source
 mul-source c = search needs
@@ -34,10 +34,10 @@ same-length c = search needs
 returns : tie.Need-returns
 returns c =
     let a = c .before .before .before .before .before .args in
-    c .before .before .move-bytes .ensures ∙ content-copied (now (a .tree)) (a .from) (a .to) (omega arith)
+    c .before .before .move-bytes .ensures ∙ part-copied (now (a .tree)) (a .from) (a .to) (a .at) (a .n) (omega arith) (omega arith)
 
-pub copy-content-spec : {M : Type 1} → statement M
-copy-content-spec =
+pub copy-part-spec : {M : Type 1} → statement M
+copy-part-spec =
     tie.close
     (tie.spec
     mul-source
