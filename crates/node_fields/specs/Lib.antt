@@ -1,3 +1,4 @@
 pub mod FieldsWrittenLaws
 pub mod FieldEditLaws
+pub mod NodeCopy
 pub mod NodeCopyLaws

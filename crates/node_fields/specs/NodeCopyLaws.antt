@@ -1,18 +1,18 @@
 -- All of a node but its name, copied over another node of its kind.
 --
--- In order: what that is in bytes; the two parts of a row around its name; each at the row of a place; both together.
+-- In order: the two parts of a row around its name; each at the row of a place; both together.
 use mathlib.Core.Path.{_≡_, refl, sym, _∙_, ap, ap₂}
 use mathlib.Core.List.{List, [], _∷_, _++_, append-assoc, append-nil}
 use mathlib.Core.Option.{Option}
 use mathlib.Core.Bool.{true}
-use Prim.Native.Nat.{ℕ, _-_}
+use Prim.Native.Nat.{ℕ}
 use native.Mathlib.Omega.{arith}
 use lib.ListN.{length, length-append, length-replicate}
 use Rattle.buffers.specs.Text.{Text}
 use Rattle.buffers.specs.Fields.{two-bytes, padded}
 use Rattle.buffers.specs.FieldsLaws.{length-padded}
 use Rattle.syntax.specs.Path.{Path, depth}
-use Rattle.tree.specs.Layout.{kind-offset, name-offset, behind-name-width, tag-offset, content-width, base-width}
+use Rattle.tree.specs.Layout.{kind-offset, behind-name-width, tag-offset, content-width, base-width}
 use Rattle.tree.specs.Forest.{Place, update, alter}
 use Rattle.tree.specs.Node.{Tag, Node, is-directory}
 use Rattle.tree.specs.NodeLaws.{node-ranges, node-of-ranges}
@@ -23,19 +23,8 @@ use Rattle.tree.specs.Encoding.{kind-byte, tag-bytes, row-bytes, encode-tree, r
 use Rattle.tree.specs.RowBytesLaws.{length-tag-bytes, row-parts}
 use Rattle.tree.specs.TreeBytes.{At}
 use Rattle.edits.specs.Changes.{field-bytes, field-put}
+use Rattle.node_fields.specs.NodeCopy.{attributes-width, node-copied}
 use Rattle.node_fields.specs.FieldEditLaws.{row-there, name-of, field-law, change-law, tag-fits-there, content-fits-there, length-before-tag, read-there, there-too}
-
--- ---- in bytes
-
--- the attributes of a node stand between the depth and the name of its row
-abbrev pub attributes-width : ℕ
-attributes-width = name-offset - kind-offset
-
--- the attributes of one row copied to another, and then all that stands behind its name
-unfoldable pub node-copied : List ℕ → ℕ → ℕ → List ℕ
-node-copied b from to =
-    let b₁ = field-put b to kind-offset (field-bytes b from kind-offset attributes-width) in
-    field-put b₁ to tag-offset (field-bytes b₁ from tag-offset behind-name-width)
 
 -- ---- the two parts of a row around its name
 
@@ -127,8 +116,8 @@ module _ {b : List ℕ} {t : Place Node} {p : Path} {i : ℕ} {d : Place Node} (
 
 -- ---- the whole node
 
--- the node at q becomes that at p, which keeps its name and what is below it. What stands behind the name is read after the
--- attributes were written, which if both rows are one has not touched it.
+-- the node at q becomes that at p, which keeps its name and what is below it. What stands behind the name is read when the
+-- attributes have been written, which leaves it.
 pub node-law : {b : List ℕ} {t : Place Node} {p q : Path} {i j : ℕ} {d g : Place Node} → At b t q i d → At b t p j g → d .here .kind ≡ g .here .kind
     → node-copied b i j ≡ encode-tree (update p (alter (λ n. d .here)) t)
 unfolding node-copied

@@ -8,7 +8,7 @@ ghost use Rattle.tree.specs.Layout.{row-width, owner-offset, group-offset, mode
 ghost use Rattle.tree.specs.RowAt.{tag-text-at};
 ghost use Rattle.tree.specs.TreeBytes.{Has-row};
 ghost use Rattle.edits.specs.Changes.{field-bytes, field-put, content-field, tag-field, tag-below};
-ghost use Rattle.node_fields.specs.NodeCopyLaws.{node-copied};
+ghost use Rattle.node_fields.specs.NodeCopy.{node-copied};
 use accounts::Gid;
 use accounts::Uid;
 use buffers::clear;

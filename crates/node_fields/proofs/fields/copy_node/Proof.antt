@@ -5,7 +5,7 @@ use Prim.Native.Nat.{ℕ}
 use borrow.Author.Needs.{needs}
 use Rattle.tree.specs.Layout.{behind-name-width, tag-offset}
 use Rattle.edits.specs.Changes.{field-bytes, field-put}
-use Rattle.node_fields.specs.NodeCopyLaws.{node-copied}
+use Rattle.node_fields.specs.NodeCopy.{node-copied}
 use Rattle.node_fields.proofs.fields.copy_node.Statement.{statement}
 use Rattle.node_fields.proofs.fields.copy_node.Tie as tie
 
