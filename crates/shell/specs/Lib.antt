@@ -1,7 +1,9 @@
 pub mod WholePaths
 pub mod WholePathsLaws
 pub mod Steps
+pub mod Replaced
 pub mod ReplacingLaws
+pub mod ReplacedLaws
 pub mod Replies
 pub mod ReplyLaws
 pub mod CommandBytes
