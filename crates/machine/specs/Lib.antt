@@ -29,6 +29,7 @@ pub mod Acting
 pub mod ActingLaws
 pub mod WorkingDirectory
 pub mod WorkingDirectoryLaws
+pub mod ReplacedFileLaws
 pub mod Theorems
 pub mod Compute
 pub mod Cases

@@ -15,8 +15,8 @@ use Rattle.accounts.specs.declared.Caller.{Caller}
 use Rattle.accounts.specs.declared.Uid.{Uid}
 use Rattle.accounts.specs.Access.{is-root}
 use Rattle.accounts.specs.Dominance.{Bounded-role}
-use Rattle.syntax.specs.Path.{Path, root, _▹_, Entry-path, rep, within, lies-below}
-use Rattle.commands.specs.Command.{Shell-command, cd, Command, shell, account, some-path, some-walked-path, Line, line}
+use Rattle.syntax.specs.Path.{Path, root, _▹_, Entry-path, rep, same-path, within, lies-below}
+use Rattle.commands.specs.Command.{Shell-command, mv, cd, Command, shell, account, some-path, some-walked-path, Line, line}
 use Rattle.setup.specs.Setup.{Setup, accepted, setup, is-setup}
 use Rattle.setup.specs.SetupLaws.{accepted-is-setup}
 use Rattle.tree.specs.declared.Kind.{Kind}
@@ -28,6 +28,7 @@ use Rattle.tree.specs.Forest.{Place, place-at}
 use Rattle.tree.specs.Node.{Node}
 use Rattle.tree.specs.WellFormed.{is-tree}
 use Rattle.shell.specs.Privacy.{Private, Unaltered, walks-first}
+use Rattle.shell.specs.Replaced.{Replaced}
 use Rattle.shell.specs.Replies.{after}
 use Rattle.store.specs.State.{Store, State, state-of, well-formed}
 use Rattle.store.specs.Initial.{initial-store}
@@ -53,6 +54,7 @@ use Rattle.machine.specs.EntryAccess.{names-entry, May-read, Reads-all, 
 use Rattle.machine.specs.KeptOutLaws
 use Rattle.machine.specs.WorkingDirectory.{Moved-by-cd}
 use Rattle.machine.specs.WorkingDirectoryLaws
+use Rattle.machine.specs.ReplacedFileLaws
 use Rattle.machine.specs.EntryChanges.{node-of, Filed-as, Rightful, Change, Making}
 use Rattle.machine.specs.EntryChangesLaws
 use Rattle.machine.specs.EntryMakingLaws
@@ -124,6 +126,17 @@ cd-reaches-no-entry = KeptOutLaws.cd-refused
 pub only-cd-moves : (u : Setup) (s : Store) (c : Caller) (command : Command) (o : Outcome Store) → run store u s c command ≡ done o →
     Moved-by-cd c command (s .registry) (o .state .registry)
 only-cd-moves = WorkingDirectoryLaws.only-cd-moves
+
+-- A done `mv`, of anyone on a well-formed tree, onto what stands at another path: both are files, and the moved one stands there
+-- as it was, its tag too; nothing stands where it came from, every other node is as it was, and there is one node less.
+pub replaced-file : (u : Setup) (s : Store) (c : Caller) (a b : Path) (o : Outcome Store) (d g : Place Node) → is-tree (s .tree) ≡ true →
+    run store u s c (shell (mv a b)) ≡ done o → place-at (s .tree) a ≡ some d → place-at (s .tree) b ≡ some g → same-path a b ≡ false →
+    Replaced (s .tree) a b d g (o .state .tree)
+replaced-file = ReplacedFileLaws.replaced-file
+
+-- A done `mv` of a path onto itself, of anyone on any store, leaves the store as it was.
+pub moved-onto-itself : (u : Setup) (s : Store) (c : Caller) (a : Path) (o : Outcome Store) → run store u s c (shell (mv a a)) ≡ done o → o .state ≡ s
+moved-onto-itself = ReplacedFileLaws.moved-onto-itself
 
 -- A person's done command leaves an entry as it is, or the session's role dominates the entry's and writes in its directory, and the
 -- command is a `commit` of a file tagged with its path and revision, which gives it the file's content and the next revision, or the
