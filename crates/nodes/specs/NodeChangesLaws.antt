@@ -1,7 +1,7 @@
 -- What the commands' changes of the bytes make of the tree, where their checks have passed.
-use mathlib.Core.Path.{_≡_, sym, _∙_, ap}
+use mathlib.Core.Path.{_≡_, refl, sym, _∙_, ap}
 use mathlib.Core.List.{List}
-use mathlib.Core.Option.{some}
+use mathlib.Core.Option.{none, some}
 use mathlib.Core.Bool.{true, false}
 use Prim.Native.Nat.{ℕ, suc, _+_, _≤_}
 use native.Mathlib.Omega.{arith}
@@ -9,29 +9,36 @@ use Rattle.buffers.specs.Text.{Text}
 use Rattle.accounts.specs.declared.Account.{Account}
 use Rattle.accounts.specs.declared.Caller.{Caller}
 use Rattle.accounts.specs.declared.Gid.{Gid}
-use Rattle.syntax.specs.Path.{Name, Path, _▹_, parent, last, is-top, path}
+use Rattle.syntax.specs.Path.{Name, Path, _▹_, parent, last, is-top, same-path, path}
 use Rattle.syntax.specs.PathLaws.{parent-and-last}
 use Rattle.tree.specs.declared.Kind.{Kind}
 use Rattle.tree.specs.Layout.{most-rows}
-use Rattle.tree.specs.Forest.{Place, is-empty, update, put, drop, leaf, place-at}
-use Rattle.tree.specs.Node.{Node, new-group, new-node}
+use Rattle.tree.specs.Forest.{Place, is-empty, update, alter, put, drop, leaf, place-at}
+use Rattle.tree.specs.Node.{is-directory, Node, new-group, new-node}
 use Rattle.tree.specs.Walk.{by-modes}
 use Rattle.tree.specs.NodeLaws.{new-node-is}
 use Rattle.tree.specs.PlaceLaws.{empty-size}
-use Rattle.tree.specs.UpdateLaws.{walked-at}
+use Rattle.tree.specs.UpdateLaws.{place-at-parent, walked-at}
 use Rattle.tree.specs.WellFormed.{nodes}
+use Rattle.tree.specs.WellFormedLaws.{place-parts, place-node}
+use Rattle.tree.specs.SizeLaws.{tree-place}
+use Rattle.tree.specs.AlterLaws.{Altered-place, altered-at, kept-part}
 use Rattle.tree.specs.RowPlaces.{index-of}
 use Rattle.tree.specs.Encoding.{row-bytes, encode-tree}
 use Rattle.tree.specs.RowAt.{row-at}
 use Rattle.tree.specs.TreeBytes.{Stretch, Encodes, At}
-use Rattle.tree.specs.TreeBytesLaws.{at-within, at-here}
+use Rattle.tree.specs.TreeBytesLaws.{at-index, at-within, at-here}
 use Rattle.edits.specs.Changes.{rows-put, rows-taken, fresh-node, fresh-row}
 use Rattle.edits.specs.EditLaws.{take-law}
 use Rattle.edits.specs.WrittenLaws.{fresh-node-is}
+use Rattle.node_fields.specs.NodeCopy.{node-copied}
+use Rattle.node_fields.specs.NodeCopyLaws.{node-law}
 use Rattle.gaps.specs.GapsLaws.{Standing, stands-child}
-use Rattle.moving.specs.Moving.{Movable, moved}
+use Rattle.moving.specs.Moving.{Movable, moved as moved-there}
 use Rattle.moving.specs.MovingLaws.{superuser-room, moved-is}
-use Rattle.nodes.specs.NodeChecksLaws.{Moves}
+use Rattle.shell.specs.Steps.{moved}
+use Rattle.shell.specs.ReplacingLaws.{both-files, same-files, child-there, neither-lies, no-same}
+use Rattle.nodes.specs.MoveChecksLaws.{Moves}
 
 -- ---- `create`, `mkdir`
 
@@ -66,29 +73,59 @@ module _ {b : List ℕ} {t : Place Node} {p : Path} {row : ℕ} {d : Place Node}
 
 -- ---- `mv`
 
+-- where nothing stands
 module _ {b : List ℕ} {t : Place Node} {p q : Path} {row : ℕ} {d : Place Node} {a : Account} (tree : Encodes b t) (to : Text) (reads : path to ≡ some q)
-    (stands : At b t p row d) (m : Moves a t p q d) where
+    (stands : At b t p row d) (m : Moves a t p q d none) where
   -- what has passed the checks may be moved
   pub movable : Movable b row to
-  movable = record {
-    vacant = record {
-      tree = t;
-      path = q;
-      directory = m .directory;
-      encoded = tree;
-      reads = reads;
-      found =
-          superuser-room t q (tree .whole) (walked-at t (by-modes a) (parent q) (m .directory) (m .there)) (m .enterable) (m .free) (m .target-below-top);
-    };
-    from = p;
-    place = d;
-    stands = stands;
-    from-below-top = m .below-top;
-    outside = m .outside;
-    low = m .low;
-  }
+  movable =
+      let above = walked-at t (by-modes a) (parent q) (m .directory) (m .there) in
+      let missing = child-there t q (m .directory) (m .target-below-top) above ∙ m .found in
+      record {
+        vacant = record {
+          tree = t;
+          path = q;
+          directory = m .directory;
+          encoded = tree;
+          reads = reads;
+          found = superuser-room t q (tree .whole) above (m .enterable) (m .found) (m .target-below-top);
+        };
+        from = p;
+        place = d;
+        stands = stands;
+        from-below-top = m .below-top;
+        outside = neither-lies p q (m .outside) (no-same t p q (stands .there) missing);
+        low = m .low;
+      }
 
   -- to the tree of the steps
-  pub movable-moves : moved movable ≡ update (parent q) (put (last q) d) (update (parent p) (drop (last p)) t)
-  unfolding movable
+  pub movable-moves : moved-there movable ≡ moved t p q d none
+  unfolding movable moved
   movable-moves = moved-is movable
+
+-- over another file: its row gets the node, and then the row of the one that is moved goes
+module _ {b : List ℕ} {t : Place Node} {p q : Path} {row target : ℕ} {d g : Place Node} {a : Account} (from : At b t p row d) (onto : At b t q target g)
+    (m : Moves a t p q d (some g)) where
+  copied : Altered-place (node-copied b row target) q (λ n. d .here) t p row d
+  copied =
+      let files = both-files (d .here .kind) g (m .fitting) in
+      let alike = same-files (d .here .kind) (g .here .kind) (files .1) (files .0) in
+      altered-at from (λ n. d .here) (onto .there) (place-node d (tree-place t p d (from .tree .whole) (from .there) .0)) alike (node-law from onto alike)
+
+  pub copied-row : Stretch (node-copied b row target) row 1
+  copied-row = rm-row (copied .at)
+
+  pub replace-law : same-path p q ≡ false → rows-taken (node-copied b row target) row 1 ≡ encode-tree (moved t p q d (some g))
+  unfolding moved
+  replace-law other =
+      let t₁ = update q (alter (λ n. d .here)) t in
+      let c = copied in
+      let file = ap is-directory (kept-part c (λ n. n .kind) refl) ∙ both-files (d .here .kind) g (m .fitting) .1 in
+      let bare = place-parts (c .place) (tree-place t₁ p (c .place) (c .at .tree .whole) (c .at .there) .0) .childless file in
+      let up = place-at-parent t₁ (parent p) (last p) (c .place) (ap (place-at t₁) (sym (parent-and-last p (m .below-top))) ∙ c .at .there) in
+      rw other (rm-law (c .at) (at-index (c .at .tree) (up .1)) (m .below-top) bare)
+
+-- onto itself
+pub still-law : {b : List ℕ} {t : Place Node} → Encodes b t → (p q : Path) (d g : Place Node) → same-path p q ≡ true → b ≡ encode-tree (moved t p q d (some g))
+unfolding moved
+still-law tree p q d g one = rw one (tree .bytes)

@@ -67,20 +67,6 @@ module _ (a : Account) (t : Place Node) where
     require (is-empty (d .below)) NotEmpty
     done d
 
-  -- `mv`: the place that is moved
-  unfoldable pub may-move : Path → Path → Result (Place Node)
-  may-move p q = do
-    require (not (reserved p || reserved q)) Reserved
-    d ← walk (by-modes a) t p
-    f ← parent-walk (by-modes a) t q
-    unused (last q) (f .below)
-    e ← walk (by-modes a) t (parent p)
-    require (allows a W (e .here)) Access
-    require (allows a W (f .here)) Access
-    require (not (within p q)) IntoItself
-    require (leb (depth q + height (d .below)) most-names) TooDeep
-    done d
-
 -- ---- what the code judges at a row and at that of the directory above it
 
 -- the checks of `rm` and `rmdir`, of a node and the directory's: whether anything lies below it is told, and the rows
@@ -91,21 +77,7 @@ row-removal a kind n above full there = do
   require (not full) NotEmpty
   done there
 
--- those of `mv` to a path, the room first: whether it lies within, and how high what is moved is, are told
-unfoldable pub row-move : Account → Place Node → Path → Node → Bool → ℕ → Spot → Result Spot
-row-move a t q above inside high there = do
-  f ← room (by-modes a) t q
-  require (allows a W above) Access
-  require (not inside) IntoItself
-  require (leb (depth q + high) most-names) TooDeep
-  done there
-
 -- whether the node of a row may be removed
 abbrev pub Judged-removal : List ℕ → Account → Kind → ℕ → ℕ → Walked → Type 0
 Judged-removal b a kind row above r =
     outcome r ≡ row-removal a kind (row-at b row .here) (row-at b above .here) (has-children-in (all-rows b) row) (spot row above)
-
--- whether it may be moved to a path
-abbrev pub Judged-move : List ℕ → Account → ℕ → ℕ → Text → Text → Walked → Type 0
-Judged-move b a row above from to r =
-    Whichever b to (λ t q. outcome r ≡ row-move a t q (row-at b above .here) (text-within from to) (height-in (all-rows b) row) (spot row above))

@@ -10,7 +10,7 @@ use native.Mathlib.Omega.{arith}
 use Rattle.buffers.specs.Cases.{case, contra, neither}
 use Rattle.accounts.specs.declared.Caller.{Caller}
 use Rattle.syntax.specs.Path.{Name, Path, root, _▹_, parent, last, same-path, reserved}
-use Rattle.syntax.specs.PathLaws.{parent-and-last, not-reserved}
+use Rattle.syntax.specs.PathLaws.{not-reserved}
 use Rattle.syntax.specs.WithinLaws.{same-path-sound, same-path-refl}
 use Rattle.syntax.specs.FormLaws.{answered}
 use Rattle.tree.specs.declared.Cause.the-variants.{Access, Reserved, IntoItself, TooDeep}
@@ -24,14 +24,14 @@ use Rattle.tree.specs.Walk.{by-modes, parent-walk}
 use Rattle.tree.specs.WellFormed.{nodes, is-place, is-tree}
 use Rattle.tree.specs.StepLaws.{parent-walked}
 use Rattle.tree.specs.PlaceLaws.{empty-size, nodes-below}
-use Rattle.tree.specs.UpdateLaws.{place-at-child, walked-at, size-update}
+use Rattle.tree.specs.UpdateLaws.{walked-at, size-update}
 use Rattle.tree.specs.WellFormedLaws.{place-parts, place-node}
 use Rattle.tree.specs.SizeLaws.{tree-place}
 use Rattle.tree.specs.ChangeLaws.{alter-at, keep-drop, nodes-drop}
 use Rattle.tree.specs.OtherPathLaws.{changed-at, drop-gone}
 use Rattle.tree.specs.HoldsLaws.{holds-altered, holds-alter, holds-drop}
 use Rattle.shell.specs.Steps.{may-replace, moved, run-mv}
-use Rattle.shell.specs.ReplacingLaws.{both-files, same-files}
+use Rattle.shell.specs.ReplacingLaws.{both-files, same-files, child-there}
 use Rattle.shell.specs.Replaced.{Replaced}
 
 -- of two paths that differ the second differs from the first
@@ -124,8 +124,7 @@ module _ (c : Caller) (m : ℕ) (t : Place Node) where
   -- what stands at a path that may be moved to is the child of that name where the walk to its parent leads
   found-there : (b : Path) (f : Place Node) → reserved b ≡ false → parent-walk (by-modes (c .account)) t b ≡ done f → place-at t b ≡ get (last b) (f .below)
   found-there b f free k =
-      ap (place-at t) (parent-and-last b (not-reserved b free))
-      ∙ place-at-child t (parent b) (last b) f (walked-at t (by-modes (c .account)) (parent b) f (parent-walked (by-modes (c .account)) t b k .0))
+      child-there t b f (not-reserved b free) (walked-at t (by-modes (c .account)) (parent b) f (parent-walked (by-modes (c .account)) t b k .0))
 
   mv-replaces : (a b : Path) (d g : Place Node) → is-tree t ≡ true → place-at t a ≡ some d → place-at t b ≡ some g → same-path a b ≡ false
       → Ensures (λ o. Replaced t a b d g (o .state)) (run-mv c m t a b)

@@ -1,63 +1,146 @@
--- `nodes::moves::may_move` meets its contract: a reserved path, a refused walk, or the checks where the walk came to.
-use mathlib.Core.Path.{sym, _∙_}
+-- `nodes::moves::may_move` meets its contract: a reserved path, a refused walk, or the checks by what stands where the second leads.
+use mathlib.Core.Path.{_≡_, sym, _∙_, ap}
+use mathlib.Core.Option.{some}
+use mathlib.Core.Bool.{false}
 use denote.Ref.{now}
-use Rattle.tree.specs.TreeBytesLaws.{at-used}
-use Rattle.walks.specs.WalkBytesLaws.{walk-to, walk-not}
-use Rattle.gaps.specs.GapsLaws.{place-row}
-use Rattle.nodes.specs.NodeChecks.{may-move}
-use Rattle.nodes.specs.NodeChecksLaws.{reserved-told, moving-reserved, moving-stops, moving-there, refusal-told-at}
+use borrow.Author.Needs.{needs}
+use Rattle.syntax.specs.Path.{Path, path, reserved}
+use Rattle.syntax.specs.PathTextLaws.{text-begins}
+use Rattle.tree.specs.RowScan.{child-in}
+use Rattle.tree.specs.RowAt.{all-rows}
+use Rattle.tree.specs.TreeBytesLaws.{at-used, at-found, at-missing}
+use Rattle.walks.specs.WalkBytesLaws.{walk-to, walk-not, parent-walk-to, parent-walk-not}
+use Rattle.gaps.specs.GapsLaws.{last-in-text, place-row}
+use Rattle.nodes.specs.NodeChecksLaws.{reserved-told}
+use Rattle.nodes.specs.MoveChecks.{judged}
+use Rattle.nodes.specs.MoveChecksLaws.{within-told, same-told, moving-reserved, moving-stops, target-stops, moving-into, moving-onto, answer-refused}
 use Rattle.nodes.proofs.moves.may_move.Statement.{statement}
 use Rattle.nodes.proofs.moves.may_move.Tie as tie
 
+-- neither path is reserved behind the first two checks
+unreserved : (x : tie.Else2) (p q : Path) → path (now (x .before .before .before .before .before .before .before .args .from)) ≡ some p → path (now (x .before .before .before .before .before .before .before .args .to)) ≡ some q → (reserved p ≡ false) × (reserved q ≡ false)
+unreserved x p q from to = (
+  sym (reserved-told (now (x .before .before .before .before .before .before .before .args .from)) (x .before .before .before .is-reserved .ensures) p from) ∙ x .before .before .if1 .left,
+  sym (reserved-told (now (x .before .before .before .before .before .before .before .args .to)) (x .before .is-reserved2 .ensures) q to) ∙ x .if2 .left,
+)
+
 is-reserved-requires : tie.Need-is-reserved-requires
-is-reserved-requires c κs = tt
+is-reserved-requires c κs = search needs
 
 returns : tie.Need-returns
 returns c t p q tree from to =
     let a = c .before .before .before .before .before .args in
     let first = sym (reserved-told (now (a .from)) (c .before .is-reserved .ensures) p from) ∙ c .if1 .taken in
-    refusal-told-at t p (may-move (a .account) t p q) (moving-reserved (a .account) t p q (rw first))
+    answer-refused t p q (moving-reserved (a .account) t p q (rw first))
 
 is-reserved-requires-2 : tie.Need-is-reserved-requires-2
-is-reserved-requires-2 c κs = tt
+is-reserved-requires-2 c κs = search needs
 
 returns-2 : tie.Need-returns-2
 returns-2 c t p q tree from to =
     let a = c .before .before .before .before .before .before .before .args in
     let first = sym (reserved-told (now (a .from)) (c .before .before .before .is-reserved .ensures) p from) ∙ c .before .before .if1 .left in
     let second = sym (reserved-told (now (a .to)) (c .before .is-reserved2 .ensures) q to) ∙ c .if2 .taken in
-    refusal-told-at t p (may-move (a .account) t p q) (moving-reserved (a .account) t p q (rw (first, second)))
+    answer-refused t p q (moving-reserved (a .account) t p q (rw (first, second)))
 
 walk-requires : tie.Need-walk-requires
-walk-requires c κs = c .before .before .before .before .before .before .before .pre .0 .1 .sized
+walk-requires c κs = search needs
 
 enum-known-cause : tie.Need-enum-known-cause
-enum-known-cause c = c .match .keys1
+enum-known-cause c = search needs
 
 enum-known-row : tie.Need-enum-known-row
-enum-known-row c = c .match .keys2
+enum-known-row c = search needs
 
-may-move-row-requires : tie.Need-may-move-row-requires
-may-move-row-requires c κs =
-    let s = c .before .before .before .before .before .before .before .before .before .before .before in
-    let w = walk-to (s .pre .0 .1) (s .args .account) (now (s .args .from)) (s .pre .1 .0 .1) (c .before .before .before .walk .ensures) (c .before .row .given .1) in
-    (s .pre .0, (at-used (w .at), (place-row (w .over-at), s .pre .1 .1)))
+parent-walk-requires : tie.Need-parent-walk-requires
+parent-walk-requires c κs = search needs
+
+enum-known-cause-2 : tie.Need-enum-known-cause-2
+enum-known-cause-2 c = search needs
+
+enum-known-directory : tie.Need-enum-known-directory
+enum-known-directory c = search needs
+
+may-write-both-requires : tie.Need-may-write-both-requires
+may-write-both-requires c κs =
+    let a = c .before .before .before .before .before .before .before .before .before .before .before .before .before .before .before .args in
+    let w = walk-to (c .before .before .before .before .before .before .before .before .before .before .before .before .before .before .before .pre .0 .1) (a .account) (now (a .from)) (c .before .before .before .before .before .before .before .before .before .before .before .before .before .before .before .pre .1 .0 .1) (c .before .before .before .before .before .before .before .walk .ensures) (c .before .before .before .before .before .row .given .1) in
+    let v = parent-walk-to (c .before .before .before .before .before .before .before .before .before .before .before .before .before .before .before .pre .0 .1) (a .account) (now (a .to)) (c .before .before .before .before .before .before .before .before .before .before .before .before .before .before .before .pre .1 .1 .1) (c .before .before .before .parent-walk .ensures) (c .before .directory .given .1) in
+    (place-row (w .over-at), place-row (v .at))
+
+last-name-requires : tie.Need-last-name-requires
+last-name-requires c κs =
+    let s = c .before .before .before .before .before .before .before .before .before .before .before .before .before .before .before .before in
+    text-begins (now (s .args .to)) (s .pre .1 .1 .0) (s .pre .1 .1 .1)
+
+find-child-requires : tie.Need-find-child-requires
+find-child-requires c κs =
+    let a = c .before .before .before .before .before .before .before .before .before .before .before .before .before .before .before .before .before .args in
+    at-used (parent-walk-to (c .before .before .before .before .before .before .before .before .before .before .before .before .before .before .before .before .before .pre .0 .1) (a .account) (now (a .to)) (c .before .before .before .before .before .before .before .before .before .before .before .before .before .before .before .before .before .pre .1 .1 .1) (c .before .before .before .before .before .parent-walk .ensures) (c .before .before .before .directory .given .1) .at)
+
+enum-known-target : tie.Need-enum-known-target
+enum-known-target c = search needs
+
+same-requires : tie.Need-same-requires
+same-requires c κs = search needs
+
+judge-onto-requires : tie.Need-judge-onto-requires
+judge-onto-requires c κs =
+    let a = c .before .before .before .before .before .before .before .before .before .before .before .before .before .before .before .before .before .before .before .before .before .before .args in
+    let w = walk-to (c .before .before .before .before .before .before .before .before .before .before .before .before .before .before .before .before .before .before .before .before .before .before .pre .0 .1) (a .account) (now (a .from)) (c .before .before .before .before .before .before .before .before .before .before .before .before .before .before .before .before .before .before .before .before .before .before .pre .1 .0 .1) (c .before .before .before .before .before .before .before .before .before .before .before .before .before .before .walk .ensures) (c .before .before .before .before .before .before .before .before .before .before .before .before .row .given .1) in
+    let v = parent-walk-to (c .before .before .before .before .before .before .before .before .before .before .before .before .before .before .before .before .before .before .before .before .before .before .pre .0 .1) (a .account) (now (a .to)) (c .before .before .before .before .before .before .before .before .before .before .before .before .before .before .before .before .before .before .before .before .before .before .pre .1 .1 .1) (c .before .before .before .before .before .before .before .before .before .before .parent-walk .ensures) (c .before .before .before .before .before .before .before .before .directory .given .1) in
+    (place-row (w .at), place-row (at-found (v .at) _ (sym (c .before .before .target .given .1) ∙ c .before .before .before .before .find-child .ensures) .2))
+
+enum-told : tie.Need-enum-told
+enum-told c = search needs
+
+is-within-requires : tie.Need-is-within-requires
+is-within-requires c κs = search needs
+
+judge-into-requires : tie.Need-judge-into-requires
+judge-into-requires c κs =
+    let a = c .before .before .before .before .before .before .before .before .before .before .before .before .before .before .before .before .before .before .before .before .before .args in
+    let w = walk-to (c .before .before .before .before .before .before .before .before .before .before .before .before .before .before .before .before .before .before .before .before .before .pre .0 .1) (a .account) (now (a .from)) (c .before .before .before .before .before .before .before .before .before .before .before .before .before .before .before .before .before .before .before .before .before .pre .1 .0 .1) (c .before .before .before .before .before .before .before .before .before .before .before .before .before .walk .ensures) (c .before .before .before .before .before .before .before .before .before .before .before .row .given .1) in
+    let v = parent-walk-to (c .before .before .before .before .before .before .before .before .before .before .before .before .before .before .before .before .before .before .before .before .before .pre .0 .1) (a .account) (now (a .to)) (c .before .before .before .before .before .before .before .before .before .before .before .before .before .before .before .before .before .before .before .before .before .pre .1 .1 .1) (c .before .before .before .before .before .before .before .before .before .parent-walk .ensures) (c .before .before .before .before .before .before .before .directory .given .1) in
+    (at-used (w .at), place-row (v .at))
 
 returns-3 : tie.Need-returns-3
 returns-3 c t p q tree from to =
     let a = c .before .before .before .before .before .before .before .before .before .before .before .args in
-    let first = sym (reserved-told (now (a .from)) (c .before .before .before .before .before .before .before .is-reserved .ensures) p from) ∙ c .before .before .before .before .before .before .if1 .left in
-    let second = sym (reserved-told (now (a .to)) (c .before .before .before .before .before .is-reserved2 .ensures) q to) ∙ c .before .before .before .before .if2 .left in
-    refusal-told-at t p (may-move (a .account) t p q)
-    (moving-stops (a .account) t p q first second (walk-not tree (a .account) (now (a .from)) from (c .before .before .before .walk .ensures) (c .before .cause .given .1)))
+    let r = unreserved (c .before .before .before .before) p q from to in
+    answer-refused t p q (moving-stops (a .account) t p q (r .0) (r .1) (walk-not tree (a .account) (now (a .from)) from (c .before .before .before .walk .ensures) (c .before .cause .given .1)))
 
 returns-4 : tie.Need-returns-4
 returns-4 c t p q tree from to =
-    let a = c .before .before .before .before .before .before .before .before .before .before .before .before .args in
-    let first = sym (reserved-told (now (a .from)) (c .before .before .before .before .before .before .before .before .is-reserved .ensures) p from) ∙ c .before .before .before .before .before .before .before .if1 .left in
-    let second = sym (reserved-told (now (a .to)) (c .before .before .before .before .before .before .is-reserved2 .ensures) q to) ∙ c .before .before .before .before .before .if2 .left in
-    let w = walk-to tree (a .account) (now (a .from)) from (c .before .before .before .before .walk .ensures) (c .before .before .row .given .1) in
-    c .may-move-row .ensures t q tree to ∙ moving-there (a .account) t p q first second w (now (a .from)) (now (a .to)) from to
+    let a = c .before .before .before .before .before .before .before .before .before .before .before .before .before .before .before .args in
+    let r = unreserved (c .before .before .before .before .before .before .before .before) p q from to in
+    let w = walk-to tree (a .account) (now (a .from)) from (c .before .before .before .before .before .before .before .walk .ensures) (c .before .before .before .before .before .row .given .1) in
+    answer-refused t p q
+    (target-stops (a .account) t p q (r .0) (r .1) (w .walked) (parent-walk-not tree (a .account) (now (a .to)) to (c .before .before .before .parent-walk .ensures) (c .before .cause2 .given .1)))
+
+returns-5 : tie.Need-returns-5
+returns-5 c t p q tree from to =
+    let a = c .before .before .before .before .before .before .before .before .before .before .before .before .before .before .before .before .before .before .before .before .before .before .before .args in
+    let r = unreserved (c .before .before .before .before .before .before .before .before .before .before .before .before .before .before .before .before) p q from to in
+    let w = walk-to tree (a .account) (now (a .from)) from (c .before .before .before .before .before .before .before .before .before .before .before .before .before .before .before .walk .ensures) (c .before .before .before .before .before .before .before .before .before .before .before .before .before .row .given .1) in
+    let v = parent-walk-to tree (a .account) (now (a .to)) to (c .before .before .before .before .before .before .before .before .before .before .before .parent-walk .ensures) (c .before .before .before .before .before .before .before .before .before .directory .given .1) in
+    let name = c .before .before .before .before .before .before .last-name .ensures ∙ last-in-text (now (a .to)) to in
+    let f = at-found (v .at) _ (sym (c .before .before .before .target .given .1) ∙ c .before .before .before .before .before .find-child .ensures ∙ ap (child-in (all-rows (now (a .tree))) _) name) in
+    c .judge-onto .ensures
+    ∙ ap judged (moving-onto (a .account) t p q (r .0) (r .1) w v (c .before .before .before .before .before .before .before .may-write-both .ensures) (f .1) (f .2)
+    (c .before .same .ensures ∙ same-told (now (a .from)) (now (a .to)) p q from to))
+
+returns-6 : tie.Need-returns-6
+returns-6 c t p q tree from to =
+    let a = c .before .before .before .before .before .before .before .before .before .before .before .before .before .before .before .before .before .before .before .before .before .before .args in
+    let r = unreserved (c .before .before .before .before .before .before .before .before .before .before .before .before .before .before .before) p q from to in
+    let w = walk-to tree (a .account) (now (a .from)) from (c .before .before .before .before .before .before .before .before .before .before .before .before .before .before .walk .ensures) (c .before .before .before .before .before .before .before .before .before .before .before .before .row .given .1) in
+    let v = parent-walk-to tree (a .account) (now (a .to)) to (c .before .before .before .before .before .before .before .before .before .before .parent-walk .ensures) (c .before .before .before .before .before .before .before .before .directory .given .1) in
+    let name = c .before .before .before .before .before .last-name .ensures ∙ last-in-text (now (a .to)) to in
+    let f = at-missing (v .at) _ (sym (c .before .before .enum-told .given .1) ∙ c .before .before .before .before .find-child .ensures ∙ ap (child-in (all-rows (now (a .tree))) _) name) in
+    c .judge-into .ensures
+    ∙ ap judged (moving-into (a .account) t p q (r .0) (r .1) w v (c .before .before .before .before .before .before .may-write-both .ensures) (f .0)
+    (c .before .is-within .ensures ∙ within-told (now (a .from)) (now (a .to)) p q from to))
 
 pub may-move-spec : {M : Type 1} → statement M
 may-move-spec =
@@ -70,6 +153,19 @@ may-move-spec =
     walk-requires
     enum-known-cause
     enum-known-row
-    may-move-row-requires
+    parent-walk-requires
+    enum-known-cause-2
+    enum-known-directory
+    may-write-both-requires
+    last-name-requires
+    find-child-requires
+    enum-known-target
+    same-requires
+    judge-onto-requires
+    enum-told
+    is-within-requires
+    judge-into-requires
     returns-3
-    returns-4)
+    returns-4
+    returns-5
+    returns-6)
