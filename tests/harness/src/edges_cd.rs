@@ -182,7 +182,7 @@ fn moves(trial: &mut Trial) {
     say_all(trial, &[("1,mkdir,a,0700", "ok"), ("1,mkdir,b,0700", "ok"), ("1,create,a/f,0600", "ok")]);
     say_all(trial, &[("1,mv,a/f,b/g", "ok"), ("1,read,/u1/b", "ok,g"), ("1,mv,b/g,/u1/a/f", "ok")]);
     say_all(trial, &[("1,mv,/u1/a/f,h", "ok"), ("1,read,/u1", "ok,a,b,h"), ("1,mv,none,x", "no,3")]);
-    say_all(trial, &[("1,mv,h,h", "no,6"), ("1,mv,h,/u1/h", "no,6"), ("1,mv,a,b", "no,6")]);
+    say_all(trial, &[("1,mv,h,h", "ok"), ("1,mv,h,/u1/h", "ok"), ("1,mv,a,b", "no,6")]);
     say_all(trial, &[("1,mv,a,a/x", "no,11"), ("1,mv,a,/u1/a/x", "no,11"), ("1,mv,/u1/a,a/x", "no,11")]);
     // 19 of what is moved comes last, of joining first.
     for path in ["c", "c/c", "c/c/c", "c/c/c/c", "a/x"] {

@@ -1,4 +1,4 @@
-//! The shell commands, their checks in the order of document 01.
+//! The shell commands, their checks in the order of documents 01 and 02.
 
 use super::access::{refuse_if, Step, R, W};
 use super::state::{parent, Kind, Node, Path, State, MOST_NAMES, MOST_NODES, SET_GID};
@@ -72,13 +72,26 @@ impl State {
         Ok(())
     }
 
+    /// What `mv` asks of a node that stands at b: a directory 6; else, where a is a directory, 7.
+    fn may_give_way(&self, a: &Path, b: &Path) -> Step<()> {
+        if !self.present(b) {
+            return Ok(());
+        }
+        refuse_if(self.node(b).is_directory(), 6)?;
+        refuse_if(self.node(a).is_directory(), 7)
+    }
+
+    /// A file that stands at b is replaced, its tag too; a file onto itself, all checks passed, is left as it is.
     pub fn mv(&mut self, uid: u8, a: &Path, b: &Path) -> Step<()> {
         refuse_if(reserved(a) || reserved(b), 9)?;
         self.walk(uid, a)?;
         self.parent_walk(uid, b)?;
-        refuse_if(self.present(b), 6)?;
+        self.may_give_way(a, b)?;
         self.need(uid, parent(a), W)?;
         self.need(uid, parent(b), W)?;
+        if a == b {
+            return Ok(());
+        }
         refuse_if(b.starts_with(a), 11)?;
         let moved = self.subtree(a);
         refuse_if(moved.iter().any(|old| old.len() - a.len() + b.len() > MOST_NAMES), 19)?;
