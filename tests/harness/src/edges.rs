@@ -1,6 +1,6 @@
 //! The cases that documents 01 and 02 name, both sides of each edge. What is expected is written by hand, and the model and
 //! the library are each held against it. Those of contents stand in `edges_content`, those of working directories in
-//! `edges_cd`.
+//! `edges_cd`, those of moves onto what is there in `edges_onto`.
 
 use crate::layout::STORE;
 use crate::model::setup::read_setup;
@@ -8,7 +8,7 @@ use crate::model::state::State;
 use crate::tally::Tally;
 use crate::trial::Trial;
 use crate::twin::Bench;
-use crate::{edges_cd, edges_content};
+use crate::{edges_cd, edges_content, edges_onto};
 
 pub const EXAMPLE_SETUP: &str = "p,1,1\np,2,2\nr,0,1\nl,1,0,oak\nl,2,1,elm\nend\n";
 
@@ -74,7 +74,7 @@ pub fn edges(seed: u64) -> Tally {
         ("setup r,0,7 / r,3,3", role_pairs),
         ("setup lines", setup_lines),
     ];
-    for (name, test) in tests.into_iter().chain(edges_content::TESTS).chain(edges_cd::TESTS) {
+    for (name, test) in tests.into_iter().chain(edges_content::TESTS).chain(edges_cd::TESTS).chain(edges_onto::TESTS) {
         let mut trial = Trial::new(&mut bench, name, EXAMPLE_SETUP);
         test(&mut trial);
         println!("{name}: {}", if trial.failed() { "failed" } else { "passed" });
@@ -82,10 +82,15 @@ pub fn edges(seed: u64) -> Tally {
     bench.tally
 }
 
-fn example(trial: &mut Trial) {
-    for (line, wanted) in EXAMPLE {
+/// Lines in turn, each with what the program prints for it.
+pub fn say_all(trial: &mut Trial, lines: &[(&str, &str)]) {
+    for (line, wanted) in lines {
         trial.say(line, wanted);
     }
+}
+
+fn example(trial: &mut Trial) {
+    say_all(trial, &EXAMPLE);
     trial.listing(&EXAMPLE_LISTING);
 }
 
@@ -207,9 +212,7 @@ fn lookup_before_x(trial: &mut Trial) {
 }
 
 fn commit_by(trial: &mut Trial) {
-    for (line, wanted) in &EXAMPLE[..10] {
-        trial.say(line, wanted);
-    }
+    say_all(trial, &EXAMPLE[..10]);
     // Person 2 has no access below /rep, yet the account commits.
     trial.say("2,read,/rep/cut/a", "no,5");
     trial.say("2,commit,/u2/w/a", "ok");

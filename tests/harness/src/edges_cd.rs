@@ -1,6 +1,6 @@
 //! The named cases of working directories and short paths.
 
-use crate::edges::Test;
+use crate::edges::{say_all, Test};
 use crate::trial::Trial;
 
 pub const TESTS: [Test; 11] = [
@@ -21,12 +21,6 @@ pub const TESTS: [Test; 11] = [
 const SIX: &str = "a/b/c/d/e/f";
 /// Five names, which a person at home may give.
 const FIVE: &str = "a/b/c/d/e";
-
-fn say_all(trial: &mut Trial, lines: &[(&str, &str)]) {
-    for (line, wanted) in lines {
-        trial.say(line, wanted);
-    }
-}
 
 fn fresh(trial: &mut Trial) {
     for (account, wanted) in [(0, "/"), (1, "/u1"), (2, "/u2"), (3, "/"), (15, "/")] {

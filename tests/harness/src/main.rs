@@ -6,6 +6,7 @@ mod damage_content;
 mod edges;
 mod edges_cd;
 mod edges_content;
+mod edges_onto;
 mod generate;
 mod layout;
 #[path = "../../library.rs"]
