@@ -27,10 +27,10 @@ impl Theme {
     fn favourites(self) -> &'static [&'static str] {
         match self {
             Theme::Mixed => &WORDS,
-            Theme::Filling => &["create", "mkdir", "mkdir", "co", "add"],
+            Theme::Filling => &["create", "create", "mkdir", "mkdir", "mkdir", "co", "add", "mv"],
             Theme::Deep => &["mkdir", "mkdir", "mv", "mv", "co", "create", "cd"],
             Theme::Repository => {
-                &["add", "co", "commit", "commit", "up", "del", "write", "write", "login", "mkdir", "create", "cd"]
+                &["add", "co", "commit", "commit", "up", "del", "write", "write", "login", "mkdir", "create", "cd", "mv"]
             }
             Theme::Root => &["mv", "mv", "chmod", "chmod", "chown", "chgrp", "add", "co", "commit", "up", "rm", "rmdir", "cd"],
         }
@@ -96,7 +96,7 @@ impl<'a> Lines<'a> {
             "create" => vec![self.new_path(), self.mode(false)],
             "mkdir" => vec![self.new_path(), self.mode(true)],
             "write" => vec![self.file(), self.content()],
-            "mv" => vec![self.path(), self.new_path()],
+            "mv" => self.moved(),
             "chmod" => {
                 let set_gid = self.rng.percent(30);
                 vec![self.path(), self.mode(set_gid)]
@@ -112,6 +112,26 @@ impl<'a> Lines<'a> {
             "del" => vec![self.entry()],
             _ => vec![self.path()],
         }
+    }
+
+    /// What is moved and where to: often to a new path, as often onto what is there, mostly a file onto a file.
+    fn moved(&mut self) -> Vec<Vec<u8>> {
+        match self.rng.below(20) {
+            0..=9 => vec![self.path(), self.new_path()],
+            10..=13 => vec![self.file(), self.file()],
+            14 | 15 => vec![self.working(), self.working()],
+            16 => vec![self.file(), self.directory()],
+            17 => vec![self.directory(), self.file()],
+            18 => vec![self.path(), self.path()],
+            _ => self.onto_itself(),
+        }
+    }
+
+    /// One path twice, each time short or whole; mostly a file's.
+    fn onto_itself(&mut self) -> Vec<Vec<u8>> {
+        let (state, any) = (self.state, self.rng.percent(20));
+        let path = self.present_path(|path| any || !state.node(path).is_directory());
+        vec![self.given(path.clone()), self.given(path)]
     }
 
     /// A path that is mostly there; at times one where somebody stands, so that working directories go.

@@ -13,6 +13,7 @@ mod layout;
 mod library;
 mod model;
 mod mutate;
+mod onto;
 mod random;
 mod rng;
 mod setups;

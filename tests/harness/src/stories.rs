@@ -150,9 +150,23 @@ const RESERVED: &[&str] = &[
     "0,cd,#9", "0,rm,#9", "0,rmdir,/rep",
 ];
 
+/// Files saved over files and onto themselves, the kinds that may not be, who may not, and root in the repository.
+const ONTO: &[&str] = &[
+    "A,login,0,W", "A,create,#1,0600", "A,create,#2,0640", "A,write,#1,#5", "A,add,#2,/rep/#2,0", "A,mv,#1,#2", "A,commit,#2",
+    "A,co,/rep/#2,#1", "A,write,#1,#6", "A,mv,#1,#2", "A,commit,#2", "A,mv,#2,#2", "A,mv,/uA/#2,#2", "A,commit,#2",
+    "A,mkdir,#0,0700", "A,create,#0/#3,0600", "A,mkdir,#0/#4,0700", "A,mv,#0,#2", "A,mv,#2,#0", "A,mv,#0,#0", "A,mv,#0,#0/#3",
+    "A,mv,#0,#0/#4", "A,mv,#0/#3,#0", "A,mv,#0/#4,#0/#3", "A,mv,#2,#2/#3", "A,create,#1,0600", "B,mv,/uA/#1,/uA/#2",
+    "B,mv,/uA/#2,/uA/#1", "B,mv,/uA/#2,/uA/#2", "B,mv,/uA/#0,/uA/#2", "B,mv,/uA/#2,/uA/#0", "B,mv,/uA/#1,/uA/#0/#3",
+    "B,mv,/uA/#1,/uA/#0/#4", "B,mv,/uA/#0,/uA/#0/#3", "A,chmod,#0,0500", "A,mv,#1,#0/#3", "A,mv,#0/#3,#1", "A,mv,#0/#3,#0/#3",
+    "A,mv,#0/#4,#1", "A,chmod,#0,2770", "0,chgrp,uA/#0,H", "A,mv,#2,#0/#3", "A,commit,#0/#3", "A,mv,#0/#3,#1",
+    // What root brings onto an entry is the entry, and the other way round.
+    "B,create,/uB/#5,0644", "0,mv,/uB/#5,/rep/#2", "A,commit,#1", "A,up,#1", "A,commit,#1", "0,mv,/rep/#2,/uA/#1", "A,commit,#1",
+    "0,mv,/uA/#1,/rep", "A,mv,#1,/rep/#2",
+];
+
 /// Runs every story once.
 pub fn tell(bench: &mut Bench) {
-    for story in [SHELL, REPOSITORY, ROOT, TOO_DEEP, BELOW, GONE, RESERVED] {
+    for story in [SHELL, REPOSITORY, ROOT, TOO_DEEP, BELOW, GONE, RESERVED, ONTO] {
         let cast = Cast::new(&mut bench.rng);
         play(bench, &cast, story);
     }
@@ -203,7 +217,8 @@ fn spent(bench: &mut Bench) {
 /// The store filled to 256 nodes, and what would pass it.
 fn full(bench: &mut Bench) {
     let cast = Cast::new(&mut bench.rng);
-    let mut twin = play(bench, &cast, &["A,login,0,W", "A,mkdir,/uA/#0,0700", "A,add,/uA/#0,/rep/#0,0"]);
+    let begin = ["A,login,0,W", "A,mkdir,/uA/#0,0700", "A,add,/uA/#0,/rep/#0,0", "A,create,/uA/#7,0600", "A,create,/uA/#8,0600"];
+    let mut twin = play(bench, &cast, &begin);
     // Bounded, so that a library that refuses too early does not keep this from ending.
     for n in 0..MOST_NODES {
         if twin.model.nodes.len() == MOST_NODES {
@@ -215,6 +230,8 @@ fn full(bench: &mut Bench) {
     let over = [
         "A,create,/uA/#1,0600", "A,mkdir,/uA/#1,0700", "A,add,/uA/#0,/rep/#1,0", "A,co,/rep/#0,/uA/#1", "A,rmdir,/uA/#0",
         "A,co,/rep/#0,/uA/#1", "A,create,/uA/#2,0600", "A,mv,/uA/#1,/uA/#2", "A,del,/rep/#0", "A,add,/uA/#2,/rep/#0,J",
+        // A file onto itself makes no room, onto another one it does.
+        "A,mv,/uA/#8,/uA/#8", "A,mkdir,/uA/#6,0700", "A,mv,/uA/#8,/uA/#7", "A,create,/uA/#8,0600", "A,create,/uA/#9,0600",
     ];
     for template in over {
         twin.run_with(bench, &cast.line(template), LEAST_ANSWER);

@@ -2,6 +2,8 @@
 //! up.
 
 use crate::model::line::WORDS;
+use crate::model::state::State;
+use crate::onto;
 use crate::tally::Tally;
 use std::collections::BTreeMap;
 
@@ -46,15 +48,20 @@ impl Table {
         *self.counts.entry((call, number)).or_default() += 1;
     }
 
-    /// Notes what a line gave, under its command.
-    pub fn note_line(&mut self, line: &[u8], number: u32) {
-        let call = if matches!(number, 18 | 20) { "run" } else { word(line) };
-        self.note(call, number);
+    /// Notes what a line gave, under its command, and under the kinds of moves that it is in the state before it.
+    pub fn note_line(&mut self, before: &State, line: &[u8], number: u32) {
+        if matches!(number, 18 | 20) {
+            return self.note("run", number);
+        }
+        self.note(word(line), number);
+        for kind in onto::kinds(before, line) {
+            self.note(kind, number);
+        }
     }
 
     /// Prints the table, and checks that the allowed pairs came up and no others.
     pub fn check(&self, tally: &mut Tally) {
-        for (call, numbers) in ALLOWED {
+        for (call, numbers) in allowed() {
             let counts: Vec<String> = numbers.iter().map(|number| format!("{number}: {}", self.count(call, *number))).collect();
             println!("{call:9} {}", counts.join("  "));
             for number in numbers {
@@ -63,7 +70,7 @@ impl Table {
             }
         }
         for (call, number) in self.counts.keys() {
-            let allowed = ALLOWED.iter().any(|(other, numbers)| other == call && numbers.contains(number));
+            let allowed = allowed().any(|(other, numbers)| other == *call && numbers.contains(number));
             tally.check((!allowed).then(|| format!("the pair {call}, {number} came up and is not allowed")));
         }
     }
@@ -71,6 +78,11 @@ impl Table {
     fn count(&self, call: &'static str, number: u32) -> u64 {
         self.counts.get(&(call, number)).copied().unwrap_or(0)
     }
+}
+
+/// The rows of calls, then those of moves onto what is there.
+fn allowed() -> impl Iterator<Item = (&'static str, &'static [u32])> {
+    ALLOWED.into_iter().chain(onto::ALLOWED)
 }
 
 /// The command's word that a line's second field says.

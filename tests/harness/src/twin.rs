@@ -78,7 +78,7 @@ impl Twin {
         let mut wanted_buffer = buffer.clone();
         let before = self.store.clone();
         let answer = library::run(&mut self.store, line, &mut buffer);
-        bench.table.note_line(line, answer.number);
+        bench.table.note_line(&self.model, line, answer.number);
         let wanted = self.model.run(line, answer_len);
         let wanted_answer = match &wanted {
             Ok(None) => Answer { number: 0, value: NO_VALUE },

@@ -4,7 +4,7 @@ use super::access::{refuse_if, Step, R, W};
 use super::state::{parent, Kind, Node, Path, State, MOST_NAMES, MOST_NODES, SET_GID};
 
 /// `/` and `/rep`, which may not be removed or moved.
-fn reserved(path: &Path) -> bool {
+pub fn reserved(path: &Path) -> bool {
     path.is_empty() || (path.len() == 1 && path[0] == b"rep")
 }
 
