@@ -30,7 +30,7 @@ impl Theme {
             Theme::Filling => &["create", "create", "mkdir", "mkdir", "mkdir", "co", "add", "mv"],
             Theme::Deep => &["mkdir", "mkdir", "mv", "mv", "co", "create", "cd"],
             Theme::Repository => {
-                &["add", "co", "commit", "commit", "up", "del", "write", "write", "login", "mkdir", "create", "cd", "mv"]
+                &["add", "co", "commit", "commit", "up", "del", "write", "write", "login", "mkdir", "create", "cd", "mv", "mv"]
             }
             Theme::Root => &["mv", "mv", "chmod", "chmod", "chown", "chgrp", "add", "co", "commit", "up", "rm", "rmdir", "cd"],
         }
@@ -118,12 +118,21 @@ impl<'a> Lines<'a> {
     fn moved(&mut self) -> Vec<Vec<u8>> {
         match self.rng.below(20) {
             0..=9 => vec![self.path(), self.new_path()],
-            10..=13 => vec![self.file(), self.file()],
-            14 | 15 => vec![self.working(), self.working()],
+            10..=12 => vec![self.file(), self.file()],
+            13..=15 => vec![self.filed(), self.filed()],
             16 => vec![self.file(), self.directory()],
             17 => vec![self.directory(), self.file()],
             18 => vec![self.path(), self.path()],
             _ => self.onto_itself(),
+        }
+    }
+
+    /// Mostly a working file; for root, who alone can move one, often an entry.
+    fn filed(&mut self) -> Vec<u8> {
+        if self.caller == 0 && self.rng.percent(60) {
+            self.entry()
+        } else {
+            self.working()
         }
     }
 
