@@ -21,6 +21,7 @@ pub struct Case {
 const SETUP: &[u8] = b"p,1,1\nr,0,1\nl,1,0,oak\nend\n";
 const FILE: &[&str] = &["1,create,/u1/m,0600", "1,write,/u1/m,oak plank 51 by 32"];
 const LONG_WRITE: &str = "1,write,/u1/m,elm plank 40 by 20 sanded; larch 51 by 32; 22 22 22 35 35; 4 kerf; best side out";
+const TWO_FILES: &[&str] = &["1,create,/u1/m,0600", "1,write,/u1/m,oak plank 51 by 32", "1,create,/u1/z,0600"];
 const DIRECTORY: &[&str] = &["1,mkdir,/u1/m,0700"];
 const ENTRY: &[&str] = &["1,create,/u1/m,0600", "1,write,/u1/m,oak plank 51 by 32", "1,add,/u1/m,/rep/m,1"];
 const ENTRIES: &[&str] = &["1,mkdir,/u1/m,0700", "1,add,/u1/m,/rep/m,1"];
@@ -39,6 +40,7 @@ pub fn cases() -> Vec<Case> {
         run("rmdir", "1,rmdir,/u1/m", DIRECTORY, 0),
         run("mv, file", "1,mv,/u1/m,/u1/z", FILE, 0),
         run("mv, directory", "1,mv,/u1/m,/u1/z", DIRECTORY, 0),
+        run("mv, onto a file", "1,mv,/u1/m,/u1/z", TWO_FILES, 0),
         run("chmod", "1,chmod,/u1/m,0640", FILE, 0),
         run("chgrp", "1,chgrp,/u1/m,1", FILE, 0),
         run("chown", "0,chown,/u1/m,2", FILE, 0),

@@ -115,8 +115,9 @@ fn mv(store: &mut Store, who: &Who, a: &Path, b: &Path) -> Result<(), Number> {
     }
     let found = store.walk(who, a.names())?;
     let spot = store.parent_walk(who, b.names())?;
-    let Err(to) = spot.place else {
-        return Err(EXISTS);
+    let to = match spot.place {
+        Ok(target) => return replace(store, who, &found, spot.parent, target),
+        Err(to) => to,
     };
     store.need_parent(who, &found)?;
     store.need(who, spot.parent, W)?;
@@ -134,6 +135,27 @@ fn mv(store: &mut Store, who: &Who, a: &Path, b: &Path) -> Result<(), Number> {
         row.set_depth(row.depth() - old + new);
     }
     store.rows[at].set_name(b.names()[new - 1]);
+    Ok(())
+}
+
+/// Moves a file onto the one at a row, which keeps only its place and name; onto itself nothing changes.
+fn replace(store: &mut Store, who: &Who, found: &Found, parent: usize, target: usize) -> Result<(), Number> {
+    if store.rows[target].is_directory() {
+        return Err(EXISTS);
+    }
+    if store.rows[found.at].is_directory() {
+        return Err(WRONG_KIND);
+    }
+    store.need_parent(who, found)?;
+    store.need(who, parent, W)?;
+    if found.at == target {
+        return Ok(());
+    }
+    let (depth, name) = (store.rows[target].depth(), store.rows[target].name());
+    store.rows[target] = store.rows[found.at];
+    store.rows[target].set_depth(depth);
+    store.rows[target].set_name(name);
+    store.remove(found.at);
     Ok(())
 }
 
