@@ -6,7 +6,6 @@ use mathlib.Core.Bool.{true}
 use Prim.Native.Nat.{ℕ, suc, _+_, _≤_}
 use native.Mathlib.Omega.{arith}
 use lib.ListN.{length, length-append}
-use lib.ListN as L
 use Rattle.buffers.specs.Cases.{and-both}
 use Rattle.buffers.specs.Text.{Text, every}
 use Rattle.buffers.specs.Fields.{two-bytes, padded}

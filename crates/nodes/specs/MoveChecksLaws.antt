@@ -29,7 +29,7 @@ use Rattle.tree.specs.Result.{Result, refused, done, _>>=_, _>>_, require}
 use Rattle.tree.specs.ResultLaws.{done-then, refused-then, done-bind, refused-bind, require-true, require-false, then-then, then-bind, bind-bind}
 use Rattle.tree.specs.Outcomes.{gives, Ensures}
 use Rattle.tree.specs.GivesLaws.{any-outcome, done-with, then-check, then-guard, then-do}
-use Rattle.tree.specs.Forest.{Place, get, place-at, is-empty, height}
+use Rattle.tree.specs.Forest.{Place, get, place-at, height}
 use Rattle.tree.specs.Node.{is-directory, Node, allows}
 use Rattle.tree.specs.Walk.{by-modes, walk, parent-walk}
 use Rattle.tree.specs.JudgeLaws.{file-is-none, directory-is-one}
@@ -38,7 +38,7 @@ use Rattle.tree.specs.RoomLaws.{walked-above}
 use Rattle.tree.specs.ForestLaws.{empty-is-nil}
 use Rattle.tree.specs.PlaceLaws.{leaf-below}
 use Rattle.tree.specs.WellFormed.{is-tree}
-use Rattle.tree.specs.UpdateLaws.{place-at-child, walked-at, height-below, leaf-height}
+use Rattle.tree.specs.UpdateLaws.{walked-at, height-below, leaf-height}
 use Rattle.tree.specs.OtherPathLaws.{alone-at}
 use Rattle.tree.specs.WellFormedLaws.{entered-directory, tree-parts, place-parts, place-below}
 use Rattle.tree.specs.Rows.{Row}
@@ -97,7 +97,7 @@ module _ (c : Caller) (t : Place Node) (p q : Path) where
 
 -- ---- what the checks come to
 
--- beside a path, to lie below is to lie within
+-- another path lies below one if it lies within it
 apart-below : (p q : Path) → same-path p q ≡ false → lies-below p q ≡ within p q
 unfolding lies-below
 apart-below p q s = case (within p q) (λ i. rw (i, s)) (λ i. rw i)
@@ -157,7 +157,7 @@ module _ (a : Account) (t : Place Node) (p q : Path) where
       checks-left o there =
           let up = walked-above (by-modes a) t p (w .walked) (w .over-at .there) in
           rw (at-here (w .over-at), at-here (v .at), h, k, require-true, done-then, w .walked, done-bind, v .walked, done-bind, there, up)
-          (simp (bind-bind, then-bind, done-bind, both-checked))
+          (simp (then-bind, done-bind, both-checked))
 
       module _ {may : Bool} (e : may ≡ writable) where
         -- nothing stands there: below itself is 11

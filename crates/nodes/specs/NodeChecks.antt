@@ -10,19 +10,19 @@ use Rattle.buffers.specs.Text.{Text, same-text}
 use Rattle.accounts.specs.declared.Account.{Account}
 use Rattle.accounts.specs.declared.Right.the-variants.{W}
 use Rattle.syntax.specs.Pieces.{bytes}
-use Rattle.syntax.specs.Path.{Path, path, parent, last, depth, within, reserved, most-names}
+use Rattle.syntax.specs.Path.{Path, path, parent, within, reserved}
 use Rattle.syntax.specs.PathTextLaws.{text-goes-on-from}
 use Rattle.tree.specs.declared.Kind.{Kind}
-use Rattle.tree.specs.declared.Cause.the-variants.{Access, WrongKind, NotEmpty, Reserved, Full, IntoItself, TooDeep}
+use Rattle.tree.specs.declared.Cause.the-variants.{Access, WrongKind, NotEmpty, Reserved, Full}
 use Rattle.tree.specs.Result.{Result, done, _>>=_, _>>_, require, Outcome}
-use Rattle.tree.specs.Forest.{Place, is-empty, height}
+use Rattle.tree.specs.Forest.{Place, is-empty}
 use Rattle.tree.specs.Node.{same-kind, Node, allows}
-use Rattle.tree.specs.Walk.{by-modes, unused, walk, parent-walk, room}
+use Rattle.tree.specs.Walk.{by-modes, walk, room}
 use Rattle.tree.specs.WellFormed.{most-nodes, nodes}
 use Rattle.tree.specs.RowAt.{row-at, all-rows}
-use Rattle.tree.specs.TreeBytes.{Encodes, Whichever}
+use Rattle.tree.specs.TreeBytes.{Encodes}
 use Rattle.walks.specs.declared.Walked.{Walked}
-use Rattle.walks.specs.RowBelow.{has-children-in, height-in}
+use Rattle.walks.specs.RowBelow.{has-children-in}
 use Rattle.walks.specs.RowWalk.{Spot, spot, outcome}
 use Rattle.shell.specs.declared.Answer.{Answer}
 use Rattle.shell.specs.CommandBytes.{Follows-silently}

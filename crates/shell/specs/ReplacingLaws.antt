@@ -1,7 +1,7 @@
 -- What `mv` goes by where something may stand: a file that a file replaces.
 use mathlib.Core.Path.{_≡_, refl, sym, _∙_, ap}
 use mathlib.Core.Option.{Option, none, some}
-use mathlib.Core.Bool.{Bool, true, false, not}
+use mathlib.Core.Bool.{false, not}
 use borrow.Author.Tests.{not-true}
 use Rattle.buffers.specs.Cases.{case, contra}
 use Rattle.syntax.specs.Path.{Path, parent, last, is-top, same-path, within, lies-below}
@@ -12,7 +12,7 @@ use Rattle.tree.specs.declared.Kind.{Kind}
 use Rattle.tree.specs.declared.Kind.the-variants.{File, Directory}
 use Rattle.tree.specs.declared.Cause.{Cause}
 use Rattle.tree.specs.declared.Cause.the-variants.{Exists, WrongKind}
-use Rattle.tree.specs.Result.{Result, done, _>>_, require}
+use Rattle.tree.specs.Result.{done, require}
 use Rattle.tree.specs.ResultLaws.{required, then-done}
 use Rattle.tree.specs.Outcomes.{gives, Refuses}
 use Rattle.tree.specs.GivesLaws.{require-refuses, only-refuses, weaker, then-check}

@@ -1,5 +1,5 @@
 -- No shell command makes a well-formed tree ill-formed, whoever calls, root too.
-use mathlib.Core.Path.{_≡_, refl, sym, _∙_, ap}
+use mathlib.Core.Path.{_≡_, refl, sym, _∙_}
 use mathlib.Core.Option.{Option, none, some}
 use mathlib.Core.Bool.{true, false, _||_, not}
 use Prim.Native.Nat.{ℕ, suc, _+_, _/_, _≤_}
@@ -23,7 +23,7 @@ use Rattle.tree.specs.declared.Cause.the-variants.{Access, WrongKind, NotEmpty,
 use Rattle.tree.specs.Result.{Result, done, Outcome}
 use Rattle.tree.specs.Outcomes.{gives, Ensures}
 use Rattle.tree.specs.GivesLaws.{any-outcome, then-check, then-guard, then-do}
-use Rattle.tree.specs.Forest.{Place, get, update, place-at, put, leaf, size, height}
+use Rattle.tree.specs.Forest.{Place, get, update, put, leaf, size, height}
 use Rattle.tree.specs.Node.{is-directory, Node, set-owner, set-group, set-mode, set-content, new-node}
 use Rattle.tree.specs.Walk.{by-modes, walk, room}
 use Rattle.tree.specs.WellFormed.{nodes, is-node, is-place, is-tree}
