@@ -28,7 +28,7 @@ enum Call<'a> {
 
 /// Lines for what random ones seldom bring up: stale (14), too deep (19), into itself (11), not empty (8), untagged (15), and moves of
 /// a tagged file onto one without a tag, the other way, and onto itself.
-const SELDOM: [&str; 21] = [
+const SELDOM: [&str; 22] = [
     "1,login,0,oak",
     "1,create,/u1/a,0600",
     "1,add,/u1/a,/rep/a,0",
@@ -48,8 +48,9 @@ const SELDOM: [&str; 21] = [
     "1,commit,/u1/e",
     "1,mv,/u1/a,/u1/a",
     "1,mv,/u1/a,/u1/e",
-    "1,create,/u1/a,0644",
-    "1,mv,/u1/a,/u1/e",
+    "1,mv,/u1/e,/u1/a",
+    "1,create,/u1/e,0644",
+    "1,mv,/u1/e,/u1/b",
 ];
 
 /// Comparisons, and how often each call gave each number.
