@@ -3,13 +3,13 @@
 -- The file there gets the moved one's payload, then the moved one is taken out. A file has nothing below it, so it stands where
 -- its payload does.
 use mathlib.Core.Path.{_≡_, refl, sym, _∙_, ap}
-use mathlib.Core.Option.{Option, some}
+use mathlib.Core.Option.{some}
 use mathlib.Core.Bool.{true, false}
 use Prim.Native.Nat.{ℕ}
 use native.Mathlib.Omega.{arith}
 use Rattle.buffers.specs.Cases.{case, contra, neither}
 use Rattle.accounts.specs.declared.Caller.{Caller}
-use Rattle.syntax.specs.Path.{Name, Path, root, _▹_, parent, last, same-path, reserved}
+use Rattle.syntax.specs.Path.{Name, Path, root, _▹_, parent, last, is-top, same-path, reserved}
 use Rattle.syntax.specs.PathLaws.{not-reserved}
 use Rattle.syntax.specs.WithinLaws.{same-path-sound, same-path-refl}
 use Rattle.syntax.specs.FormLaws.{answered}
@@ -17,10 +17,10 @@ use Rattle.tree.specs.declared.Cause.the-variants.{Access, Reserved, IntoItself
 use Rattle.tree.specs.Result.{done, Outcome}
 use Rattle.tree.specs.Outcomes.{gives, Ensures}
 use Rattle.tree.specs.GivesLaws.{any-outcome, done-with, then-check, then-guard, then-do}
-use Rattle.tree.specs.Forest.{Place, get, is-empty, update, place-at, alter, drop, Holds}
+use Rattle.tree.specs.Forest.{Place, is-empty, update, place-at, alter, drop, Holds}
 use Rattle.tree.specs.ForestLaws.{empty-is-nil}
 use Rattle.tree.specs.Node.{is-directory, Node}
-use Rattle.tree.specs.Walk.{by-modes, parent-walk}
+use Rattle.tree.specs.Walk.{by-modes}
 use Rattle.tree.specs.WellFormed.{nodes, is-place, is-tree}
 use Rattle.tree.specs.StepLaws.{parent-walked}
 use Rattle.tree.specs.PlaceLaws.{empty-size, nodes-below}
@@ -103,36 +103,22 @@ module _ (t : Place Node) (q : Path) (n : Name) (b : Path) (d g : Place Node) (w
     fewer = omega (arith, nodes-drop doubled q n d still-here, empty-size (d .below) alone, as-many);
   }
 
--- ---- the tree that a move leaves, what stands at b being found
-
-module _ (t : Place Node) where
-  moved-replaces : (q : Path) (n : Name) (b : Path) (d g : Place Node) → is-tree t ≡ true → place-at t (q ▹ n) ≡ some d → place-at t b ≡ some g
-      → same-path (q ▹ n) b ≡ false → (x : Place Node) → x ≡ d → (o : Option (Place Node)) → o ≡ some g → may-replace (x .here .kind) o ≡ done tt
-      → Replaced t (q ▹ n) b d g (moved t (q ▹ n) b x o)
-  unfolding moved parent last
-  moved-replaces q n b d g whole here there off x same o found r =
-      let files = both-files (d .here .kind) g (rw (same, found) at r) in
-      rw (same, found) (rw off (replaces t q n b d g whole here there off (files .1) (files .0)))
-
-  moved-stays : (a : Path) (d g : Place Node) (o : Option (Place Node)) → o ≡ some g → moved t a a d o ≡ t
-  unfolding moved
-  moved-stays a d g o found = rw found (rw (same-path-refl a))
-
 -- ---- the steps
 
-module _ (c : Caller) (m : ℕ) (t : Place Node) where
-  -- what stands at a path that may be moved to is the child of that name where the walk to its parent leads
-  found-there : (b : Path) (f : Place Node) → reserved b ≡ false → parent-walk (by-modes (c .account)) t b ≡ done f → place-at t b ≡ get (last b) (f .below)
-  found-there b f free k =
-      child-there t b f (not-reserved b free) (walked-at t (by-modes (c .account)) (parent b) f (parent-walked (by-modes (c .account)) t b k .0))
+-- a done `mv` has found a place that may go where b stands or nothing does, and leaves the tree with it moved there
+pub record Moves-to (t : Place Node) (a b : Path) (t′ : Place Node) : Type 0 where
+  pub place : Place Node
+  pub stands : place-at t a ≡ some place
+  pub below-top : is-top a ≡ false
+  pub fitting : may-replace (place .here .kind) (place-at t b) ≡ done tt
+  pub leaves : t′ ≡ moved t a b place (place-at t b)
 
-  mv-replaces : (a b : Path) (d g : Place Node) → is-tree t ≡ true → place-at t a ≡ some d → place-at t b ≡ some g → same-path a b ≡ false
-      → Ensures (λ o. Replaced t a b d g (o .state)) (run-mv c m t a b)
-  unfolding run-mv reserved
-  mv-replaces root b d g whole here there off = then-check Reserved tt _ λ i. contra refl (sym i)
-  mv-replaces (q ▹ n) b d g whole here there off =
+module _ (c : Caller) (m : ℕ) (t : Place Node) where
+  pub mv-moves : (a b : Path) → Ensures (λ o. Moves-to t a b (o .state)) (run-mv c m t a b)
+  unfolding run-mv
+  mv-moves a b =
       then-check Reserved tt _ λ i.
-      then-do _ λ x w.
+      then-do _ λ d w.
       then-do _ λ f k.
       then-guard (any-outcome _) λ r.
       then-do _ λ _ _.
@@ -140,28 +126,31 @@ module _ (c : Caller) (m : ℕ) (t : Place Node) where
       then-check Access tt _ λ _.
       then-check IntoItself tt _ λ _.
       then-check TooDeep tt _ λ _.
-      let found = sym (found-there b f (neither (reserved (q ▹ n)) (reserved b) i .1) k) ∙ there in
-      gives (moved-replaces t q n b d g whole here there off x (answered (sym here ∙ walked-at t (by-modes (c .account)) (q ▹ n) x w)) _ found r)
+      let j = by-modes (c .account) in
+      let free = neither (reserved a) (reserved b) i in
+      let there = child-there t b f (not-reserved b (free .1)) (walked-at t j (parent b) f (parent-walked j t b k .0)) in
+      gives (record {
+        place = d;
+        stands = walked-at t j a d w;
+        below-top = not-reserved a (free .0);
+        fitting = rw there r;
+        leaves = rw there;
+      })
 
-  mv-stays : (a : Path) → Ensures (λ o. o .state ≡ t) (run-mv c m t a a)
-  unfolding run-mv
-  mv-stays a =
-      then-check Reserved tt _ λ i.
-      then-do _ λ x w.
-      then-do _ λ f k.
-      then-guard (any-outcome _) λ _.
-      then-do _ λ _ _.
-      then-check Access tt _ λ _.
-      then-check Access tt _ λ _.
-      then-check IntoItself tt _ λ _.
-      then-check TooDeep tt _ λ _.
-      gives (moved-stays t a x x _ (sym (found-there a f (neither (reserved a) (reserved a) i .1) k) ∙ walked-at t (by-modes (c .account)) a x w))
+  -- onto what stands at another path it replaces a file by a file
+  pub replaced : (a b : Path) (o : Outcome (Place Node)) (d g : Place Node) → is-tree t ≡ true → run-mv c m t a b ≡ done o
+      → place-at t a ≡ some d → place-at t b ≡ some g → same-path a b ≡ false → Replaced t a b d g (o .state)
+  unfolding moved parent last is-top
+  replaced root b o d g whole e here there off = contra refl (done-with (mv-moves root b) e .below-top)
+  replaced (q ▹ n) b o d g whole e here there off =
+      let v = done-with (mv-moves (q ▹ n) b) e in
+      let same = answered (sym here ∙ v .stands) in
+      let files = both-files (d .here .kind) g (rw (same, there) at (v .fitting)) in
+      rw (v .leaves, same, there) (rw off (replaces t q n b d g whole here there off (files .1) (files .0)))
 
--- a done `mv` onto what stands at another path replaces a file by a file
-pub replaced : (c : Caller) (m : ℕ) (t : Place Node) (a b : Path) (o : Outcome (Place Node)) (d g : Place Node) → is-tree t ≡ true
-    → run-mv c m t a b ≡ done o → place-at t a ≡ some d → place-at t b ≡ some g → same-path a b ≡ false → Replaced t a b d g (o .state)
-replaced c m t a b o d g whole e here there off = done-with (mv-replaces c m t a b d g whole here there off) e
-
--- and one onto itself leaves the tree as it was
-pub stays : (c : Caller) (m : ℕ) (t : Place Node) (a : Path) (o : Outcome (Place Node)) → run-mv c m t a a ≡ done o → o .state ≡ t
-stays c m t a o e = done-with (mv-stays c m t a) e
+  -- and onto itself it leaves the tree as it was
+  pub stays : (a : Path) (o : Outcome (Place Node)) → run-mv c m t a a ≡ done o → o .state ≡ t
+  unfolding moved
+  stays a o e =
+      let v = done-with (mv-moves a a) e in
+      rw (v .leaves, v .stands) (rw (same-path-refl a))
