@@ -183,12 +183,12 @@ module _ (c : Caller) (m : ℕ) (t : Place Node) (p : Path) (d : Place Node) (th
         }))
         (λ i. inl (drop-private t p d there v q n x e w s b z i)))
 
-    -- a file of another directory that becomes the file x, which stood in a third, leaves it
-    replaced-private : (q : Path) (n : Name) (x e : Place Node) (r : Path) (k : Name) (f g : Place Node)
+    -- the file x moved onto the file g leaves it: neither is a directory, and nothing is written in it
+    replaced-private : (q : Path) (n : Name) (x e : Place Node) (r : Path) (k : Name) (g : Place Node)
         → walk (by-modes (c .account)) t (q ▹ n) ≡ done x → walk (by-modes (c .account)) t q ≡ done e → allows (c .account) W (e .here) ≡ true
         → walk (by-modes (c .account)) t (r ▹ k) ≡ done g → is-directory (g .here .kind) ≡ false → is-directory (x .here .kind) ≡ false
         → within (q ▹ n) (r ▹ k) ≡ false → place-at (update q (drop n) (update (r ▹ k) (alter (λ y. x .here)) t)) p ≡ some d
-    replaced-private q n x e r k f g w i b there-too plain file off =
+    replaced-private q n x e r k g w i b there-too plain file off =
         let j = by-modes (c .account) in
         let no-file : (o : Path) (y : Place Node) → walk j t o ≡ done y → is-directory (y .here .kind) ≡ false → within p o ≡ false =
         λ o y u l. private-outside t p d there v (λ z. not (is-directory (z .kind))) (ap not (v .directory)) o y u (ap not l) in
@@ -221,7 +221,7 @@ module _ (c : Caller) (m : ℕ) (t : Place Node) (p : Path) (d : Place Node) (th
         let files = both-files (x .here .kind) y u in
         case (same-path (q ▹ n) (r ▹ k))
         (λ z. rw z (in-place there))
-        (λ z. rw z (in-place (replaced-private q n x e r k f y w i b (walks-on j t r k (l .0) (l .1) found) (files .0) (files .1) (neither-lies (q ▹ n) (r ▹ k) o z))))
+        (λ z. rw z (in-place (replaced-private q n x e r k y w i b (walks-on j t r k (l .0) (l .1) found) (files .0) (files .1) (neither-lies (q ▹ n) (r ▹ k) o z))))
 
     mv-private : (a b : Path) → Ensures (λ o. Unaltered (c .account) t d p (shell (mv a b)) (o .state)) (run-mv c m t a b)
     unfolding run-mv reserved parent last
