@@ -1,5 +1,5 @@
-// The room for a new child: the walk to its directory, the search for its name there, and the test of w. All commands, and
-// root for the initial tree, find room by the one function `room_for`.
+// The room for a new child: the walk to its directory, the search for its name there, and the test of w. Every node that is made
+// or put in, by a command or by root for the initial tree, gets its room from the one function `room_for`.
 ghost use mathlib.Core.Path.{_≡_};
 ghost use Prim.Native.Nat.{_<_};
 ghost use lib.ListN.{length};
