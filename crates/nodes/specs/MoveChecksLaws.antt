@@ -10,23 +10,20 @@ use borrow.Author.Tests.{not-true, leb-true, le-leb, lt-leb, eqb-true, eqb-false
 use lib.Dec.{eqb, leb}
 use lib.ListN.{length}
 use Rattle.buffers.specs.Cases.{case, contra, neither}
-use Rattle.buffers.specs.Text.{Text, same-text}
-use Rattle.buffers.specs.TextLaws.{same-text-sound, same-text-refl}
+use Rattle.buffers.specs.Text.{Text}
 use Rattle.accounts.specs.declared.Account.{Account}
 use Rattle.accounts.specs.declared.Caller.{Caller}
 use Rattle.accounts.specs.declared.Right.the-variants.{W}
-use Rattle.syntax.specs.Path.{Path, root, _▹_, path, path-text, parent, last, depth, is-top, same-path, within, lies-below, reserved, most-names}
+use Rattle.syntax.specs.Path.{Path, root, _▹_, path, parent, last, depth, is-top, same-path, within, lies-below, reserved, most-names}
 use Rattle.syntax.specs.PathLaws.{not-reserved, parent-depth, parent-and-last}
 use Rattle.syntax.specs.PathTextLaws.{top-by-length, below-by-length, within-by-text}
-use Rattle.syntax.specs.ParentLaws.{text-of-path}
-use Rattle.syntax.specs.FormLaws.{answered}
-use Rattle.syntax.specs.WithinLaws.{same-path-refl, same-path-sound, lies, lies-top, lies-within}
+use Rattle.syntax.specs.WithinLaws.{same-path-refl, lies, lies-top, lies-within, apart-below}
 use Rattle.tree.specs.declared.Kind.{Kind}
 use Rattle.tree.specs.declared.Kind.the-variants.{File, Directory}
 use Rattle.tree.specs.declared.Cause.{Cause}
 use Rattle.tree.specs.declared.Cause.the-variants.{Access, Exists, WrongKind, Reserved, IntoItself, TooDeep}
 use Rattle.tree.specs.Result.{Result, refused, done, _>>=_, _>>_, require}
-use Rattle.tree.specs.ResultLaws.{done-then, refused-then, done-bind, refused-bind, require-true, require-false, then-then, then-bind, bind-bind}
+use Rattle.tree.specs.ResultLaws.{done-then, refused-then, done-bind, refused-bind, require-true, require-false, then-then, then-bind, bind-bind, both-checked}
 use Rattle.tree.specs.Outcomes.{gives, Ensures}
 use Rattle.tree.specs.GivesLaws.{any-outcome, done-with, then-check, then-guard, then-do}
 use Rattle.tree.specs.Forest.{Place, get, place-at, height}
@@ -35,10 +32,9 @@ use Rattle.tree.specs.Walk.{by-modes, walk, parent-walk}
 use Rattle.tree.specs.JudgeLaws.{file-is-none, directory-is-one}
 use Rattle.tree.specs.StepLaws.{parent-walked}
 use Rattle.tree.specs.RoomLaws.{walked-above}
-use Rattle.tree.specs.ForestLaws.{empty-is-nil}
-use Rattle.tree.specs.PlaceLaws.{leaf-below}
+use Rattle.tree.specs.PlaceLaws.{empty-height}
 use Rattle.tree.specs.WellFormed.{is-tree}
-use Rattle.tree.specs.UpdateLaws.{walked-at, height-below, leaf-height}
+use Rattle.tree.specs.UpdateLaws.{place-at-last, walked-at, height-below}
 use Rattle.tree.specs.OtherPathLaws.{alone-at}
 use Rattle.tree.specs.WellFormedLaws.{entered-directory, tree-parts, place-parts, place-below}
 use Rattle.tree.specs.Rows.{Row}
@@ -50,7 +46,7 @@ use Rattle.walks.specs.RowBelow.{height-in}
 use Rattle.walks.specs.RowBelowLaws.{at-height}
 use Rattle.walks.specs.WalkBytes.{Came}
 use Rattle.shell.specs.Steps.{may-replace, moved, run-mv}
-use Rattle.shell.specs.ReplacingLaws.{child-there, no-same}
+use Rattle.shell.specs.ReplacingLaws.{no-same}
 use Rattle.nodes.specs.declared.Move.{Move}
 use Rattle.nodes.specs.declared.Move.the-variants.{Into, Onto, Itself, Refused}
 use Rattle.nodes.specs.NodeChecks.{text-within}
@@ -63,21 +59,11 @@ unfolding is-top
 within-top root q e = lies-within (lies-top q)
 within-top (p ▹ n) q e = contra e refl
 
-module _ (s u : Text) (p q : Path) (reads : path s ≡ some p) (other : path u ≡ some q) where
-  pub within-told : text-within s u ≡ within p q
-  unfolding text-within
-  within-told = case (eqb (length s) 1)
-      (λ t. rw t (sym (within-top p q (top-by-length s p reads (eqb-true (length s) 1 t)))))
-      (λ t. rw t (sym (within-by-text s u p q reads other (below-by-length s p reads (eqb-false (length s) 1 t)))))
-
-  pub same-told : same-text s u ≡ same-path p q
-  same-told = case (same-text s u)
-      (λ e. e ∙ sym (rw (answered (sym reads ∙ ap path (same-text-sound s u e) ∙ other)) (same-path-refl p)))
-      (λ e. case (same-path p q)
-      (λ i.
-      let one : s ≡ u = text-of-path s p reads ∙ ap path-text (same-path-sound p q i) ∙ sym (text-of-path u q other) in
-      contra (ap (same-text s) (sym one) ∙ same-text-refl s) e)
-      (λ i. e ∙ sym i))
+pub within-told : (s u : Text) (p q : Path) → path s ≡ some p → path u ≡ some q → text-within s u ≡ within p q
+unfolding text-within
+within-told s u p q reads other = case (eqb (length s) 1)
+    (λ t. rw t (sym (within-top p q (top-by-length s p reads (eqb-true (length s) 1 t)))))
+    (λ t. rw t (sym (within-by-text s u p q reads other (below-by-length s p reads (eqb-false (length s) 1 t)))))
 
 -- ---- the steps are the checks, and then the change
 
@@ -97,23 +83,17 @@ module _ (c : Caller) (t : Place Node) (p q : Path) where
 
 -- ---- what the checks come to
 
--- another path lies below one if it lies within it
-apart-below : (p q : Path) → same-path p q ≡ false → lies-below p q ≡ within p q
-unfolding lies-below
-apart-below p q s = case (within p q) (λ i. rw (i, s)) (λ i. rw i)
-
 -- a file that stands has nothing below it, so nothing that stands lies there
 file-apart : (t : Place Node) → is-tree t ≡ true → (p q : Path) (d g : Place Node) → place-at t p ≡ some d → place-at t q ≡ some g → is-directory (d .here .kind) ≡ false
     → (lies-below p q ≡ false) × (leb (depth q + height (d .below)) most-names ≡ true)
 unfolding lies-below most-names
 file-apart t whole p q d g stands there file =
     let v = tree-parts t whole in
-    let bare = place-parts d (place-below t p d (v .whole) stands) .childless file in
-    let flat : height (d .below) ≡ 0 = ap height (empty-is-nil (d .below) bare ∙ sym (leaf-below (d .here))) ∙ leaf-height (d .here) in (
+    let bare = place-parts d (place-below t p d (v .whole) stands) .childless file in (
       case (within p q)
           (λ i. rw (i, alone-at t (lies p q i) d stands bare g there, same-path-refl q))
           (λ i. rw i),
-      le-leb (depth q + height (d .below)) 6 (omega (arith, flat, height-below t q g there, v .low)),
+      le-leb (depth q + height (d .below)) 6 (omega (arith, empty-height (d .below) bare, height-below t q g there, v .low)),
     )
 
 -- a place below `/` is that of its last name in its parent
@@ -121,11 +101,6 @@ at-path : {b : List ℕ} {t : Place Node} {i : ℕ} {g : Place Node} (q : Path) 
 at-path {t = t} q below a =
     let e = parent-and-last q below in
     record { tree = a .tree; there = ap (place-at t) e ∙ a .there; row = a .row ∙ ap (index-of t) (sym e) }
-
--- two checks for one cause are one
-both-checked : {A : Type 0} (x y : Bool) (why : Cause) (r : Result A) → (require x why >> (require y why >> r)) ≡ (require (x && y) why >> r)
-both-checked true y why r = rw (require-true, done-then)
-both-checked false y why r = rw (require-false, refused-then, refused-then)
 
 module _ (a : Account) (t : Place Node) (p q : Path) where
   -- 9
@@ -166,7 +141,7 @@ module _ (a : Account) (t : Place Node) (p q : Path) where
         unfolding row-into may-replace move-to
         moving-into free i =
             let below = not-reserved q k in
-            let apart = apart-below p q (no-same t p q (w .at .there) (child-there t q (v .place) below (v .at .there) ∙ free)) in
+            let apart = apart-below p q (no-same t p q (w .at .there) (place-at-last t q (v .place) below (v .at .there) ∙ free)) in
             let deep : row-at b directory .depth + 1 ≡ depth q = omega (arith, ap (λ (r : Row Node). r .depth) (at-row (v .at)), parent-depth q below) in
             sym (checks-left none free ∙ rw (done-then, apart, at-height (w .at), deep, e, i, w .at .row))
 
@@ -357,7 +332,7 @@ module _ {b : List ℕ} {t : Place Node} (tree : Encodes b t) (a : Account) (p q
   found-onto e =
       let i = told-onto t p q (may-move a t p q) e in
       let m = moving-passed a t p q (i .2) in
-      let there = child-there t q (m .directory) (m .target-below-top) (walked-at t (by-modes a) (parent q) (m .directory) (m .there)) ∙ m .found in (
+      let there = place-at-last t q (m .directory) (m .target-below-top) (walked-at t (by-modes a) (parent q) (m .directory) (m .there)) ∙ m .found in (
         i .0,
         i .1,
         i .2,

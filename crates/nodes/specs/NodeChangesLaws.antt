@@ -11,6 +11,7 @@ use Rattle.accounts.specs.declared.Caller.{Caller}
 use Rattle.accounts.specs.declared.Gid.{Gid}
 use Rattle.syntax.specs.Path.{Name, Path, _▹_, parent, last, is-top, same-path, path}
 use Rattle.syntax.specs.PathLaws.{parent-and-last}
+use Rattle.syntax.specs.WithinLaws.{apart-below}
 use Rattle.tree.specs.declared.Kind.{Kind}
 use Rattle.tree.specs.Layout.{most-rows}
 use Rattle.tree.specs.Forest.{Place, is-empty, update, alter, put, drop, leaf, place-at}
@@ -18,7 +19,7 @@ use Rattle.tree.specs.Node.{is-directory, Node, new-group, new-node}
 use Rattle.tree.specs.Walk.{by-modes}
 use Rattle.tree.specs.NodeLaws.{new-node-is}
 use Rattle.tree.specs.PlaceLaws.{empty-size}
-use Rattle.tree.specs.UpdateLaws.{place-at-parent, walked-at}
+use Rattle.tree.specs.UpdateLaws.{place-at-last, place-at-parent, walked-at}
 use Rattle.tree.specs.WellFormed.{nodes}
 use Rattle.tree.specs.WellFormedLaws.{place-parts, place-node}
 use Rattle.tree.specs.SizeLaws.{tree-place}
@@ -37,7 +38,7 @@ use Rattle.gaps.specs.GapsLaws.{Standing, stands-child}
 use Rattle.moving.specs.Moving.{Movable, moved as moved-there}
 use Rattle.moving.specs.MovingLaws.{superuser-room, moved-is}
 use Rattle.shell.specs.Steps.{moved}
-use Rattle.shell.specs.ReplacingLaws.{both-files, same-files, child-there, neither-lies, no-same}
+use Rattle.shell.specs.ReplacingLaws.{both-files, same-files, no-same}
 use Rattle.nodes.specs.MoveChecksLaws.{Moves}
 
 -- ---- `create`, `mkdir`
@@ -80,7 +81,7 @@ module _ {b : List ℕ} {t : Place Node} {p q : Path} {row : ℕ} {d : Place Nod
   pub movable : Movable b row to
   movable =
       let above = walked-at t (by-modes a) (parent q) (m .directory) (m .there) in
-      let missing = child-there t q (m .directory) (m .target-below-top) above ∙ m .found in
+      let missing = place-at-last t q (m .directory) (m .target-below-top) above ∙ m .found in
       record {
         vacant = record {
           tree = t;
@@ -94,7 +95,7 @@ module _ {b : List ℕ} {t : Place Node} {p q : Path} {row : ℕ} {d : Place Nod
         place = d;
         stands = stands;
         from-below-top = m .below-top;
-        outside = neither-lies p q (m .outside) (no-same t p q (stands .there) missing);
+        outside = sym (apart-below p q (no-same t p q (stands .there) missing)) ∙ m .outside;
         low = m .low;
       }
 

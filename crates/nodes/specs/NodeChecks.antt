@@ -10,7 +10,7 @@ use Rattle.buffers.specs.Text.{Text, same-text}
 use Rattle.accounts.specs.declared.Account.{Account}
 use Rattle.accounts.specs.declared.Right.the-variants.{W}
 use Rattle.syntax.specs.Pieces.{bytes}
-use Rattle.syntax.specs.Path.{Path, path, parent, within, reserved}
+use Rattle.syntax.specs.Path.{Path, path, parent, reserved}
 use Rattle.syntax.specs.PathTextLaws.{text-goes-on-from}
 use Rattle.tree.specs.declared.Kind.{Kind}
 use Rattle.tree.specs.declared.Cause.the-variants.{Access, WrongKind, NotEmpty, Reserved, Full}

@@ -7,11 +7,11 @@ use mathlib.Core.Option.{some}
 use mathlib.Core.Bool.{true, false}
 use Prim.Native.Nat.{ℕ}
 use native.Mathlib.Omega.{arith}
-use Rattle.buffers.specs.Cases.{case, contra, neither}
+use Rattle.buffers.specs.Cases.{contra, neither}
 use Rattle.accounts.specs.declared.Caller.{Caller}
 use Rattle.syntax.specs.Path.{Name, Path, root, _▹_, parent, last, is-top, same-path, reserved}
 use Rattle.syntax.specs.PathLaws.{not-reserved}
-use Rattle.syntax.specs.WithinLaws.{same-path-sound, same-path-refl}
+use Rattle.syntax.specs.WithinLaws.{same-path-refl, differ-back}
 use Rattle.syntax.specs.FormLaws.{answered}
 use Rattle.tree.specs.declared.Cause.the-variants.{Access, Reserved, IntoItself, TooDeep}
 use Rattle.tree.specs.Result.{done, Outcome}
@@ -21,22 +21,19 @@ use Rattle.tree.specs.Forest.{Place, is-empty, update, place-at, alter, drop, H
 use Rattle.tree.specs.ForestLaws.{empty-is-nil}
 use Rattle.tree.specs.Node.{is-directory, Node}
 use Rattle.tree.specs.Walk.{by-modes}
-use Rattle.tree.specs.WellFormed.{nodes, is-place, is-tree}
+use Rattle.tree.specs.WellFormed.{is-place, is-tree}
 use Rattle.tree.specs.StepLaws.{parent-walked}
-use Rattle.tree.specs.PlaceLaws.{empty-size, nodes-below}
-use Rattle.tree.specs.UpdateLaws.{walked-at, size-update}
+use Rattle.tree.specs.PlaceLaws.{empty-size}
+use Rattle.tree.specs.UpdateLaws.{place-at-last, walked-at}
 use Rattle.tree.specs.WellFormedLaws.{place-parts, place-node}
 use Rattle.tree.specs.SizeLaws.{tree-place}
 use Rattle.tree.specs.ChangeLaws.{alter-at, keep-drop, nodes-drop}
-use Rattle.tree.specs.OtherPathLaws.{changed-at, drop-gone}
+use Rattle.tree.specs.OtherPathLaws.{drop-gone}
+use Rattle.tree.specs.AlterLaws.{bare-altered, nodes-bare}
 use Rattle.tree.specs.HoldsLaws.{holds-altered, holds-alter, holds-drop}
 use Rattle.shell.specs.Steps.{may-replace, moved, run-mv}
-use Rattle.shell.specs.ReplacingLaws.{both-files, same-files, child-there}
+use Rattle.shell.specs.ReplacingLaws.{both-files, same-files}
 use Rattle.shell.specs.Replaced.{Replaced}
-
--- of two paths that differ the second differs from the first
-differ-back : (a b : Path) → same-path a b ≡ false → same-path b a ≡ false
-differ-back a b off = case (same-path b a) (λ s. contra (rw (same-path-sound b a s) (same-path-refl a)) off) (λ s. s)
 
 -- ---- files
 
@@ -78,20 +75,6 @@ module _ (t : Place Node) (q : Path) (n : Name) (b : Path) (d g : Place Node) (w
   there-too : Holds doubled b (d .here)
   there-too = holds-altered b (record { place = g; stands = there; here = refl }) (λ x. d .here)
 
-  -- it has as many nodes: the file d is where the file g was
-  as-many : nodes doubled ≡ nodes t
-  as-many =
-      let becomes : alter (λ x. d .here) g ≡ d =
-      answered (sym (file-stands doubled b d doubled-whole in-range file there-too) ∙ changed-at t b (alter (λ x. d .here)) g there) in
-      omega (
-        arith,
-        rw becomes at (size-update t b (alter (λ x. d .here)) g there),
-        nodes-below doubled,
-        nodes-below t,
-        empty-size (d .below) alone,
-        empty-size (g .below) (place-parts g (tree-place t b g whole there .0) .childless onto-file),
-      )
-
   -- and without the one at q the file is replaced
   replaces : Replaced t (q ▹ n) b d g (update q (drop n) doubled)
   replaces = record {
@@ -100,7 +83,7 @@ module _ (t : Place Node) (q : Path) (n : Name) (b : Path) (d g : Place Node) (w
     stands = file-stands _ b d (keep-drop doubled q n doubled-whole) in-range file (holds-drop b q there-too n d still-here alone (differ-back (q ▹ n) b off));
     gone = drop-gone doubled doubled-whole q n;
     others = λ p x off-a off-b k. holds-drop p q (holds-alter p b k (λ y. d .here) off-b) n d still-here alone off-a;
-    fewer = omega (arith, nodes-drop doubled q n d still-here, empty-size (d .below) alone, as-many);
+    fewer = omega (arith, nodes-drop doubled q n d still-here, empty-size (d .below) alone, nodes-bare doubled t (bare-altered b (λ x. d .here) t));
   }
 
 -- ---- the steps
@@ -128,7 +111,7 @@ module _ (c : Caller) (m : ℕ) (t : Place Node) where
       then-check TooDeep tt _ λ _.
       let j = by-modes (c .account) in
       let free = neither (reserved a) (reserved b) i in
-      let there = child-there t b f (not-reserved b (free .1)) (walked-at t j (parent b) f (parent-walked j t b k .0)) in
+      let there = place-at-last t b f (not-reserved b (free .1)) (walked-at t j (parent b) f (parent-walked j t b k .0)) in
       gives (record {
         place = d;
         stands = walked-at t j a d w;

@@ -4,8 +4,7 @@ use mathlib.Core.Option.{Option, none, some}
 use mathlib.Core.Bool.{false, not}
 use borrow.Author.Tests.{not-true}
 use Rattle.buffers.specs.Cases.{case, contra}
-use Rattle.syntax.specs.Path.{Path, parent, last, is-top, same-path, within, lies-below}
-use Rattle.syntax.specs.PathLaws.{parent-and-last}
+use Rattle.syntax.specs.Path.{Path, same-path}
 use Rattle.syntax.specs.WithinLaws.{same-path-sound}
 use Rattle.syntax.specs.FormLaws.{no-answer}
 use Rattle.tree.specs.declared.Kind.{Kind}
@@ -16,10 +15,9 @@ use Rattle.tree.specs.Result.{done, require}
 use Rattle.tree.specs.ResultLaws.{required, then-done}
 use Rattle.tree.specs.Outcomes.{gives, Refuses}
 use Rattle.tree.specs.GivesLaws.{require-refuses, only-refuses, weaker, then-check}
-use Rattle.tree.specs.Forest.{Place, get, place-at}
+use Rattle.tree.specs.Forest.{Place, place-at}
 use Rattle.tree.specs.Node.{Node, is-directory}
 use Rattle.tree.specs.JudgeLaws.{directory-is-one}
-use Rattle.tree.specs.UpdateLaws.{place-at-child}
 use Rattle.shell.specs.Steps.{may-replace}
 
 -- it is refused by the causes 6 and 7 alone
@@ -40,15 +38,6 @@ pub same-files : (k l : Kind) → is-directory k ≡ false → is-directory l �
 same-files File File a b = refl
 same-files File Directory a b = contra directory-is-one b
 same-files Directory l a b = contra directory-is-one a
-
--- what does not lie below a path and is another lies outside it
-pub neither-lies : (a b : Path) → lies-below a b ≡ false → same-path a b ≡ false → within a b ≡ false
-unfolding lies-below
-neither-lies a b i s = case (within a b) (λ w. contra (rw (w, s)) i) (λ w. w)
-
--- what stands at a path below `/` is the child of its last name in its parent
-pub child-there : (t : Place Node) (b : Path) (f : Place Node) → is-top b ≡ false → place-at t (parent b) ≡ some f → place-at t b ≡ get (last b) (f .below)
-child-there t b f below above = ap (place-at t) (parent-and-last b below) ∙ place-at-child t (parent b) (last b) f above
 
 -- where something stands and nothing stands are two paths
 pub no-same : (t : Place Node) {x : Place Node} (a b : Path) → place-at t a ≡ some x → place-at t b ≡ none → same-path a b ≡ false

@@ -31,11 +31,11 @@ use Rattle.tree.specs.JudgeLaws.{file-is-none, directory-is-one}
 use Rattle.tree.specs.StepLaws.{parent-walked}
 use Rattle.tree.specs.RoomLaws.{room-found}
 use Rattle.tree.specs.PlaceLaws.{leaf-size}
-use Rattle.tree.specs.UpdateLaws.{walked-at, leaf-height}
+use Rattle.tree.specs.UpdateLaws.{place-at-last, walked-at, leaf-height}
 use Rattle.tree.specs.NodeLaws.{new-node-fits, node-of-owner, node-of-group, node-of-mode, node-of-content, kind-of-set-owner, kind-of-set-group, kind-of-set-mode, kind-of-set-content}
 use Rattle.tree.specs.WellFormedLaws.{most-nodes-is, place-node, leaf-place, entered-directory, walked-place}
 use Rattle.tree.specs.ChangeLaws.{alter-at, keep-alter, keep-put, keep-drop, keep-move}
-use Rattle.shell.specs.ReplacingLaws.{both-files, same-files, child-there}
+use Rattle.shell.specs.ReplacingLaws.{both-files, same-files}
 use Rattle.shell.specs.Steps.{fit, may-replace, moved, run-create, run-read, run-write, run-rm, run-mv, run-chmod, run-chgrp, run-chown, run-shell}
 
 -- a mode below 01000 is one, without set-gid
@@ -111,7 +111,7 @@ module _ (c : Caller) (m : ℕ) (t : Place Node) where
         keep-move (by-modes (c .account)) t a n (parent b) (last b) d f h e w dir free (last-is-name b g top) (omega (arith, parent-depth b top))
     moved-keeps a n b d f g top e w dir l (some x) there r =
         let k = both-files (d .here .kind) x r in
-        let at = child-there t b f top (walked-at t (by-modes (c .account)) (parent b) f w) ∙ there in
+        let at = place-at-last t b f top (walked-at t (by-modes (c .account)) (parent b) f w) ∙ there in
         case (same-path (a ▹ n) b)
         (λ i. rw i h)
         (λ i. rw i (keep-drop _ a n (alter-at t b x (λ y. d .here) h at (node-at (a ▹ n) d e) (same-files (d .here .kind) (x .here .kind) (k .1) (k .0)))))

@@ -18,7 +18,7 @@ use Rattle.accounts.specs.declared.Account.{Account}
 use Rattle.accounts.specs.Access.{is-root, same-uid, may-group, may-other, grants-none}
 use Rattle.syntax.specs.Number.{octal}
 use Rattle.syntax.specs.Path.{Name, Path, root, _▹_, parent, last, is-top, same-path, within, lies-below, reserved}
-use Rattle.syntax.specs.WithinLaws.{same-path-sound, outside-differs, top-not-below}
+use Rattle.syntax.specs.WithinLaws.{same-path-sound, outside-differs, apart-below, top-not-below}
 use Rattle.syntax.specs.FormLaws.{answered}
 use Rattle.commands.specs.Command.{Shell-command, create, mkdir, read, write, rm, rmdir, mv, chmod, chgrp, chown, shell, some-path}
 use Rattle.tree.specs.declared.Kind.{Kind}
@@ -37,7 +37,7 @@ use Rattle.tree.specs.JudgeLaws.{directory-not-file, allows-is, kind-by-modes, 
 use Rattle.tree.specs.StepLaws.{was-unused, walks-on, parent-walked}
 use Rattle.tree.specs.UpdateLaws.{place-at-child, walked-at}
 use Rattle.tree.specs.OtherPathLaws.{alter-keeps, put-keeps, drop-empty-keeps, drop-gone, move-keeps, move-carries, walk-outside, walk-shut, parent-walk-shut}
-use Rattle.shell.specs.ReplacingLaws.{both-files, neither-lies, no-same}
+use Rattle.shell.specs.ReplacingLaws.{both-files, no-same}
 use Rattle.shell.specs.Steps.{may-replace, moved, run-create, run-read, run-write, run-rm, run-mv, run-chmod, run-chgrp, run-chown, run-shell}
 use Rattle.shell.specs.Privacy.{Private, Writes, Unaltered, in-place, moved-along, taken-out, walks-first}
 
@@ -211,7 +211,7 @@ module _ (c : Caller) (m : ℕ) (t : Place Node) (p : Path) (d : Place Node) (th
         let l = parent-walked j t (r ▹ k) s .0 in
         let h = walked-at t j r f l in
         let missing = place-at-child t r k f h ∙ free in
-        let off = neither-lies (q ▹ n) (r ▹ k) o (no-same t (q ▹ n) (r ▹ k) (walked-at t j (q ▹ n) x w) missing) in
+        let off = sym (apart-below (q ▹ n) (r ▹ k) (no-same t (q ▹ n) (r ▹ k) (walked-at t j (q ▹ n) x w) missing)) ∙ o in
         case (within (q ▹ n) p)
         (λ y. moved-along (record { place = e; stands = walked-at t j q e i; allowed = b }) y (move-carries t p d q n x r f k there missing off (walked-at t j (q ▹ n) x w) h y))
         (λ y. in-place (move-keeps t p d q n x r f k there missing off (written-outside t p d there v q e i b) (written-outside t p d there v r f l g) y))
@@ -221,7 +221,7 @@ module _ (c : Caller) (m : ℕ) (t : Place Node) (p : Path) (d : Place Node) (th
         let files = both-files (x .here .kind) y u in
         case (same-path (q ▹ n) (r ▹ k))
         (λ z. rw z (in-place there))
-        (λ z. rw z (in-place (replaced-private q n x e r k y w i b (walks-on j t r k (l .0) (l .1) found) (files .0) (files .1) (neither-lies (q ▹ n) (r ▹ k) o z))))
+        (λ z. rw z (in-place (replaced-private q n x e r k y w i b (walks-on j t r k (l .0) (l .1) found) (files .0) (files .1) (sym (apart-below (q ▹ n) (r ▹ k) z) ∙ o))))
 
     mv-private : (a b : Path) → Ensures (λ o. Unaltered (c .account) t d p (shell (mv a b)) (o .state)) (run-mv c m t a b)
     unfolding run-mv reserved parent last

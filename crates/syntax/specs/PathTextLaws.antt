@@ -1,4 +1,4 @@
--- What the text of a path tells of the path: whether it is `/`, whether it is reserved, and whether it lies within another.
+-- What the text of a path tells of the path: whether it is `/`, whether it is reserved, and whether it is another or lies within it.
 use mathlib.Core.Path.{_≡_, refl, sym, ap, _∙_}
 use mathlib.Core.List.{_∷_, _++_}
 use mathlib.Core.Logic.{_⊎_, inl, inr}
@@ -15,8 +15,8 @@ use Rattle.buffers.specs.Text.{Text, same-text, every}
 use Rattle.buffers.specs.TextLaws.{same-text-refl, same-text-sound}
 use Rattle.syntax.specs.Pieces.{bytes}
 use Rattle.syntax.specs.FormLaws.{answered}
-use Rattle.syntax.specs.Path.{Name, Path, root, _▹_, last, depth, is-top, within, rep, reserved, name-byte, is-name, most-names, has-names, is-path, path, names-text, path-text}
-use Rattle.syntax.specs.WithinLaws.{Lies, itself, deeper, lies, lies-within}
+use Rattle.syntax.specs.Path.{Name, Path, root, _▹_, last, depth, is-top, same-path, within, rep, reserved, name-byte, is-name, most-names, has-names, is-path, path, names-text, path-text}
+use Rattle.syntax.specs.WithinLaws.{Lies, itself, deeper, same-path-sound, same-path-refl, lies, lies-within}
 use Rattle.syntax.specs.PathLaws.{name-length, path-of-text, path-is-path, last-is-name, text-lies, lies-text}
 use Rattle.syntax.specs.ParentLaws.{text-of-path}
 
@@ -175,3 +175,15 @@ module _ (s u : Text) (p q : Path) (reads : path s ≡ some p) (other : path u �
       (λ i. case (text-goes-on-from s u)
       (λ g. contra (lies-within (on-lies (how-it-goes-on s u g))) i)
       (λ g. i ∙ sym g))
+
+-- ---- a path that is another
+
+-- two paths are one if their texts are
+pub same-by-text : (s u : Text) (p q : Path) → path s ≡ some p → path u ≡ some q → same-path p q ≡ same-text s u
+same-by-text s u p q reads other = case (same-path p q)
+    (λ i.
+    let one : s ≡ u = text-of-path s p reads ∙ ap path-text (same-path-sound p q i) ∙ sym (text-of-path u q other) in
+    i ∙ sym (ap (same-text s) (sym one) ∙ same-text-refl s))
+    (λ i. case (same-text s u)
+    (λ e. contra (rw (answered (sym reads ∙ ap path (same-text-sound s u e) ∙ other)) (same-path-refl p)) i)
+    (λ e. i ∙ sym e))

@@ -62,6 +62,15 @@ unfolding within
 outside-differs p root e = e
 outside-differs p (q ▹ n) e = case (same-path p (q ▹ n)) (λ t. contra (rw t refl) e) (λ t. t)
 
+-- of two paths that differ the second differs from the first
+pub differ-back : (p q : Path) → same-path p q ≡ false → same-path q p ≡ false
+differ-back p q e = case (same-path q p) (λ s. contra (rw (same-path-sound q p s) (same-path-refl p)) e) (λ s. s)
+
+-- another path lies below one if it lies within it
+pub apart-below : (p q : Path) → same-path p q ≡ false → lies-below p q ≡ within p q
+unfolding lies-below
+apart-below p q e = case (within p q) (λ i. rw (i, e)) (λ i. rw i)
+
 -- `/` lies below no path
 pub top-not-below : {P : Type 0} (p : Path) → lies-below p root ≡ true → P
 unfolding lies-below within

@@ -103,7 +103,7 @@ update-id p t = by-option (place-at t p) (λ e. update-none t p (λ d. d) e) (λ
 
 module _ {A : Type 0} where
   -- a payload altered leaves it
-  bare-altered : (p : Path) (g : A → A) (t : Place A) → bare (update p (alter g) t) ≡ bare t
+  pub bare-altered : (p : Path) (g : A → A) (t : Place A) → bare (update p (alter g) t) ≡ bare t
   unfolding alter map-place
   bare-altered p g t = sym (update-map blank (λ d. d) (alter g) (λ d. refl) p t) ∙ update-id p (bare t)
 

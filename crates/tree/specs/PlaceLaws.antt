@@ -3,7 +3,7 @@ use mathlib.Core.Path.{_≡_, refl}
 use mathlib.Core.Bool.{true}
 use Prim.Native.Nat.{suc}
 use Rattle.syntax.specs.Path.{Name, root}
-use Rattle.tree.specs.Forest.{Forest, nil, Place, is-empty, insert, under, update, put, leaf, size}
+use Rattle.tree.specs.Forest.{Forest, nil, Place, is-empty, insert, under, update, put, leaf, size, height}
 use Rattle.tree.specs.ForestLaws.{empty-is-nil}
 use Rattle.tree.specs.WellFormed.{nodes}
 
@@ -27,6 +27,11 @@ module _ {A : Type 0} where
   pub empty-size : (F : Forest A) → is-empty F ≡ true → size F ≡ 0
   unfolding size
   empty-size F e = rw (empty-is-nil F e)
+
+  -- and no path leads further
+  pub empty-height : (F : Forest A) → is-empty F ≡ true → height F ≡ 0
+  unfolding height
+  empty-height F e = rw (empty-is-nil F e)
 
   -- the nodes of a tree are `/` and those below
   pub nodes-below : (d : Place A) → nodes d ≡ suc (size (d .below))

@@ -1,7 +1,7 @@
 -- Laws of outcomes: what has been done where something is done, and how a refusal and what is done go on.
 use mathlib.Core.Path.{_≡_, refl, sym, ap}
 use mathlib.Core.Option.{Option, none, some}
-use mathlib.Core.Bool.{Bool, true, false}
+use mathlib.Core.Bool.{Bool, true, false, _&&_}
 use Rattle.buffers.specs.Cases.{contra}
 use Rattle.tree.specs.declared.Cause.{Cause}
 use Rattle.tree.specs.Result.{Result, refused, done, _>>=_, _>>_, require, present, absent}
@@ -90,13 +90,11 @@ pub require-false : (why : Cause) → require false why ≡ refused why
 unfolding require
 require-false why = refl
 
--- two checks for one cause come in either order
-pub checks-swap : {A : Type 0} (x y : Bool) (why : Cause) (r : Result A) → (require x why >> (require y why >> r)) ≡ (require y why >> (require x why >> r))
+-- two checks for one cause are one
+pub both-checked : {A : Type 0} (x y : Bool) (why : Cause) (r : Result A) → (require x why >> (require y why >> r)) ≡ (require (x && y) why >> r)
 unfolding _>>_ require
-checks-swap true true why r = refl
-checks-swap true false why r = refl
-checks-swap false true why r = refl
-checks-swap false false why r = refl
+both-checked true y why r = refl
+both-checked false y why r = refl
 
 -- checks one after another are grouped either way
 pub then-then : {A : Type 0} (a b : Result (Unit {0})) (c : Result A) → ((a >> b) >> c) ≡ (a >> (b >> c))

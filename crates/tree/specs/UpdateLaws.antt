@@ -2,9 +2,11 @@
 -- height follow those of the place.
 use mathlib.Core.Path.{_≡_, refl, sym, _∙_, ap}
 use mathlib.Core.Option.{Option, none, some}
+use mathlib.Core.Bool.{false}
 use Prim.Native.Nat.{ℕ, _+_, _-_, _≤_}
 use native.Mathlib.Omega.{arith}
-use Rattle.syntax.specs.Path.{Name, Path, root, _▹_, depth}
+use Rattle.buffers.specs.Cases.{contra}
+use Rattle.syntax.specs.Path.{Name, Path, root, _▹_, parent, last, depth, is-top}
 use Rattle.syntax.specs.Form.{_>>=_}
 use Rattle.syntax.specs.FormLaws.{no-answer, answered}
 use Rattle.tree.specs.Result.{done}
@@ -30,6 +32,12 @@ module _ {A : Type 0} (t : Place A) where
   pub place-at-child : (p : Path) (n : Name) (d : Place A) → place-at t p ≡ some d → place-at t (p ▹ n) ≡ get n (d .below)
   unfolding place-at _>>=_
   place-at-child p n d e = rw e
+
+  -- so what stands below the top is the child of its last name in its parent
+  pub place-at-last : (p : Path) (d : Place A) → is-top p ≡ false → place-at t (parent p) ≡ some d → place-at t p ≡ get (last p) (d .below)
+  unfolding is-top parent last
+  place-at-last root d below e = contra refl below
+  place-at-last (p ▹ n) d below e = place-at-child p n d e
 
   -- and what is there is a child
   pub place-at-parent : (p : Path) (n : Name) (d : Place A) → place-at t (p ▹ n) ≡ some d → (c : Place A) × (place-at t p ≡ some c) × (get n (c .below) ≡ some d)

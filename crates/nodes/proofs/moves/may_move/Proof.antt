@@ -5,7 +5,7 @@ use mathlib.Core.Bool.{false}
 use denote.Ref.{now}
 use borrow.Author.Needs.{needs}
 use Rattle.syntax.specs.Path.{Path, path, reserved}
-use Rattle.syntax.specs.PathTextLaws.{text-begins}
+use Rattle.syntax.specs.PathTextLaws.{text-begins, same-by-text}
 use Rattle.tree.specs.RowScan.{child-in}
 use Rattle.tree.specs.RowAt.{all-rows}
 use Rattle.tree.specs.TreeBytesLaws.{at-used, at-found, at-missing}
@@ -13,7 +13,7 @@ use Rattle.walks.specs.WalkBytesLaws.{walk-to, walk-not, parent-walk-to, parent
 use Rattle.gaps.specs.GapsLaws.{last-in-text, place-row}
 use Rattle.nodes.specs.NodeChecksLaws.{reserved-told}
 use Rattle.nodes.specs.MoveChecks.{judged}
-use Rattle.nodes.specs.MoveChecksLaws.{within-told, same-told, moving-reserved, moving-stops, target-stops, moving-into, moving-onto, answer-refused}
+use Rattle.nodes.specs.MoveChecksLaws.{within-told, moving-reserved, moving-stops, target-stops, moving-into, moving-onto, answer-refused}
 use Rattle.nodes.proofs.moves.may_move.Statement.{statement}
 use Rattle.nodes.proofs.moves.may_move.Tie as tie
 
@@ -128,7 +128,7 @@ returns-5 c t p q tree from to =
     let f = at-found (v .at) _ (sym (c .before .before .before .target .given .1) ∙ c .before .before .before .before .before .find-child .ensures ∙ ap (child-in (all-rows (now (a .tree))) _) name) in
     c .judge-onto .ensures
     ∙ ap judged (moving-onto (a .account) t p q (r .0) (r .1) w v (c .before .before .before .before .before .before .before .may-write-both .ensures) (f .1) (f .2)
-    (c .before .same .ensures ∙ same-told (now (a .from)) (now (a .to)) p q from to))
+    (c .before .same .ensures ∙ sym (same-by-text (now (a .from)) (now (a .to)) p q from to)))
 
 returns-6 : tie.Need-returns-6
 returns-6 c t p q tree from to =
