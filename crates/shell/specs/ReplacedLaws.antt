@@ -88,16 +88,16 @@ module _ (t : Place Node) (q : Path) (n : Name) (b : Path) (d g : Place Node) (w
 
 -- ---- the steps
 
--- a done `mv` has found a place that may go where b stands or nothing does, and leaves the tree with it moved there
-pub record Moves-to (t : Place Node) (a b : Path) (t′ : Place Node) : Type 0 where
-  pub place : Place Node
-  pub stands : place-at t a ≡ some place
-  pub below-top : is-top a ≡ false
-  pub fitting : may-replace (place .here .kind) (place-at t b) ≡ done tt
-  pub leaves : t′ ≡ moved t a b place (place-at t b)
+-- a done `mv` has found a place that may go where what stands at b does, and leaves the tree with it moved there
+record Moves-to (t : Place Node) (a b : Path) (t′ : Place Node) : Type 0 where
+  place : Place Node
+  stands : place-at t a ≡ some place
+  below-top : is-top a ≡ false
+  fitting : may-replace (place .here .kind) (place-at t b) ≡ done tt
+  leaves : t′ ≡ moved t a b place (place-at t b)
 
 module _ (c : Caller) (m : ℕ) (t : Place Node) where
-  pub mv-moves : (a b : Path) → Ensures (λ o. Moves-to t a b (o .state)) (run-mv c m t a b)
+  mv-moves : (a b : Path) → Ensures (λ o. Moves-to t a b (o .state)) (run-mv c m t a b)
   unfolding run-mv
   mv-moves a b =
       then-check Reserved tt _ λ i.
