@@ -9,9 +9,9 @@ use Rattle.syntax.specs.Path.{Path, parent, last, depth, same-path, lies-below,
 use Rattle.tree.specs.declared.Kind.{Kind}
 use Rattle.tree.specs.declared.Cause.the-variants.{Access, Exists, WrongKind, Reserved, IntoItself, TooDeep}
 use Rattle.tree.specs.Result.{Result, refused, done, _>>=_, _>>_, require}
-use Rattle.tree.specs.Forest.{Place, get, height}
+use Rattle.tree.specs.Forest.{Place, height}
 use Rattle.tree.specs.Node.{is-directory, Node, allows}
-use Rattle.tree.specs.Walk.{by-modes, walk, parent-walk}
+use Rattle.tree.specs.Walk.{by-modes, sought, walk, parent-walk}
 use Rattle.tree.specs.RowPlaces.{index-of}
 use Rattle.shell.specs.Steps.{may-replace}
 use Rattle.nodes.specs.declared.Move.{Move}
@@ -23,7 +23,7 @@ may-move a t p q = do
   require (not (reserved p || reserved q)) Reserved
   d ← walk (by-modes a) t p
   f ← parent-walk (by-modes a) t q
-  let there = get (last q) (f .below)
+  there ← sought (last q) (f .below)
   may-replace (d .here .kind) there
   e ← walk (by-modes a) t (parent p)
   require (allows a W (e .here)) Access

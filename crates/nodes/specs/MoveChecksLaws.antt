@@ -30,7 +30,7 @@ use Rattle.tree.specs.Forest.{Place, get, place-at, height}
 use Rattle.tree.specs.Node.{is-directory, Node, allows}
 use Rattle.tree.specs.Walk.{by-modes, walk, parent-walk}
 use Rattle.tree.specs.JudgeLaws.{file-is-none, directory-is-one}
-use Rattle.tree.specs.StepLaws.{parent-walked}
+use Rattle.tree.specs.StepLaws.{sought-is, was-sought, parent-walked}
 use Rattle.tree.specs.RoomLaws.{walked-above}
 use Rattle.tree.specs.PlaceLaws.{empty-height}
 use Rattle.tree.specs.WellFormed.{is-tree}
@@ -83,7 +83,7 @@ module _ (c : Caller) (t : Place Node) (p q : Path) where
 
 -- ---- what the checks come to
 
--- a file that stands has nothing below it, so nothing that stands lies there
+-- a file that stands has nothing below it, so nothing that stands lies there, and it comes no deeper than what it replaces
 file-apart : (t : Place Node) → is-tree t ≡ true → (p q : Path) (d g : Place Node) → place-at t p ≡ some d → place-at t q ≡ some g → is-directory (d .here .kind) ≡ false
     → (lies-below p q ≡ false) × (leb (depth q + height (d .below)) most-names ≡ true)
 unfolding lies-below most-names
@@ -131,7 +131,7 @@ module _ (a : Account) (t : Place Node) (p q : Path) where
       unfolding may-move
       checks-left o there =
           let up = walked-above (by-modes a) t p (w .walked) (w .over-at .there) in
-          rw (at-here (w .over-at), at-here (v .at), h, k, require-true, done-then, w .walked, done-bind, v .walked, done-bind, there, up)
+          rw (at-here (w .over-at), at-here (v .at), h, k, require-true, done-then, w .walked, done-bind, v .walked, done-bind, sought-is (last q) (v .place .below), done-bind, there, up)
           (simp (then-bind, done-bind, both-checked))
 
       module _ {may : Bool} (e : may ≡ writable) where
@@ -179,6 +179,7 @@ module _ (a : Account) (t : Place Node) (p q : Path) where
       then-check Reserved tt _ λ h.
       then-do _ λ d e.
       then-do _ λ f k.
+      then-do _ λ z s.
       then-guard (any-outcome _) λ r.
       then-do _ λ _ _.
       then-check Access tt _ λ _.
@@ -194,7 +195,7 @@ module _ (a : Account) (t : Place Node) (p q : Path) where
         directory = f;
         there = w .0;
         enterable = entered-directory a (f .here) (w .1);
-        found = refl;
+        found = was-sought (last q) (f .below) s;
         fitting = r;
         outside = not-true (lies-below p q) o;
         low = leb-true (depth q + height (d .below)) most-names l;
@@ -211,7 +212,7 @@ unfolding judged
 judged-refused e = rw e
 
 -- and checks that have passed
-pub judged-done : {w : Result Move} {m : Move} → w ≡ done m → m ≡ judged w
+judged-done : {w : Result Move} {m : Move} → w ≡ done m → m ≡ judged w
 unfolding judged
 judged-done e = rw e
 
@@ -292,7 +293,7 @@ module _ (t : Place Node) (p q : Path) where
       (λ s. let i : Refused k ≡ Onto (index-of t p) (index-of t q) = e ∙ answer-done d (some g) ∙ rw s in contra {b = true} refl (cc))
 
   -- or passed, and nothing stands there
-  pub told-into : (w : Result (Place Node × Option (Place Node))) {row : ℕ} → Told (Into row) w → (d : Place Node) × (w ≡ done (d, none)) × (row ≡ index-of t p)
+  told-into : (w : Result (Place Node × Option (Place Node))) {row : ℕ} → Told (Into row) w → (d : Place Node) × (w ≡ done (d, none)) × (row ≡ index-of t p)
   unfolding move-to
   told-into (refused why) {row} e = let i : Into row ≡ Refused why = e ∙ sym (answer-refused refl) in contra {b = true} refl (cc)
   told-into (done (d, none)) {row} e = let i : Into row ≡ Into (index-of t p) = e ∙ answer-done d none in (d, refl, cc)
@@ -301,7 +302,7 @@ module _ (t : Place Node) (p q : Path) where
       (λ s. let i : Into row ≡ Onto (index-of t p) (index-of t q) = e ∙ answer-done d (some g) ∙ rw s in contra {b = true} refl (cc))
 
   -- or another file stands there
-  pub told-onto : (w : Result (Place Node × Option (Place Node))) {row target : ℕ} → Told (Onto row target) w
+  told-onto : (w : Result (Place Node × Option (Place Node))) {row target : ℕ} → Told (Onto row target) w
       → (d : Place Node) × (g : Place Node) × (w ≡ done (d, some g)) × (same-path p q ≡ false) × ((row ≡ index-of t p) × (target ≡ index-of t q))
   unfolding move-to
   told-onto (refused why) {row} {target} e = let i : Onto row target ≡ Refused why = e ∙ sym (answer-refused refl) in contra {b = true} refl (cc)

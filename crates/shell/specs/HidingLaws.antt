@@ -6,7 +6,7 @@ use mathlib.Core.Bool.{Bool, true, false, _&&_, _||_, not}
 use Prim.Native.Nat.{ℕ, _+_}
 use borrow.Author.Tests.{not-true}
 use Rattle.buffers.specs.Cases.{case, contra, neither}
-use Rattle.buffers.specs.Text.{Text, same-text}
+use Rattle.buffers.specs.Text.{Text}
 use Rattle.accounts.specs.declared.Caller.{Caller}
 use Rattle.accounts.specs.declared.Uid.{Uid}
 use Rattle.accounts.specs.declared.Gid.{Gid}
@@ -15,8 +15,8 @@ use Rattle.accounts.specs.declared.Right.the-variants.{R, W, X}
 use Rattle.accounts.specs.Groups.{member}
 use Rattle.accounts.specs.Access.{is-root, same-uid}
 use Rattle.syntax.specs.Number.{set-gid}
-use Rattle.syntax.specs.Path.{Name, Path, root, _▹_, parent, last, is-top, same-path, rep, reserved}
-use Rattle.syntax.specs.PathLaws.{parent-and-last, not-reserved}
+use Rattle.syntax.specs.Path.{Path, parent, last, is-top, same-path, rep, reserved}
+use Rattle.syntax.specs.PathLaws.{not-reserved}
 use Rattle.commands.specs.Command.{Shell-command, create, mkdir, read, write, rm, rmdir, mv, chmod, chgrp, chown}
 use Rattle.tree.specs.declared.Kind.{Kind}
 use Rattle.tree.specs.declared.Kind.the-variants.{File, Directory}
@@ -28,9 +28,11 @@ use Rattle.tree.specs.Forest.{Place, get, is-empty, update}
 use Rattle.tree.specs.Node.{is-directory, same-kind, Node, allows, owns}
 use Rattle.tree.specs.Walk.{Judge, by-modes, walk, parent-walk, room}
 use Rattle.tree.specs.WellFormed.{nodes}
+use Rattle.tree.specs.ResultLaws.{done-bind}
+use Rattle.tree.specs.StepLaws.{sought-is}
 use Rattle.tree.specs.JudgeLaws.{passes-by-modes, room-by-modes, owns-is}
-use Rattle.tree.specs.Graft.{graft, Outside, further, Seen, at-top, at-rep, outside, Passed}
-use Rattle.tree.specs.GraftLaws.{get-graft-other, update-outside, outside-here, outside-rep, seen-here, seen-alike, seen-names, seen-outside, unused-graft, walk-graft, parent-walk-graft}
+use Rattle.tree.specs.Graft.{graft, Outside, Seen, Passed}
+use Rattle.tree.specs.GraftLaws.{update-outside, outside-here, outside-rep, seen-here, seen-alike, seen-names, seen-outside, unused-graft, walk-graft, parent-walk-graft, sought-graft, outside-child}
 use Rattle.shell.specs.Steps.{text-of, fit, moved, run-create, run-read, run-write, run-rm, run-mv, run-chmod, run-chgrp, run-chown, run-shell}
 
 -- a caller without rights at `/rep`, who neither writes in `/` nor owns one of the two
@@ -125,19 +127,6 @@ module _ (c : Caller) (e f : Place Node) (top : Node) (out : Kept-out c top (f .
   unfolding text-of
   text-alike s i = rw (seen-names (allows (c .account) R) (shut R) s i, seen-here alike s)
 
-  -- the child that is seen of both is the same, but for `/rep`
-  seen-child : {p : Path} {d d′ : Place Node} → Seen e f t p d d′ → judge .passes (d .here) ≡ true → (n : Name) → (p ≡ root → same-text n rep ≡ false)
-      → get n (d .below) ≡ get n (d′ .below)
-  seen-child at-top i n h = get-graft-other e t n (h refl)
-  seen-child (at-rep s) i n h = contra i not-passed
-  seen-child (outside o) i n h = refl
-
-  get-alike : (b : Path) → reserved b ≡ false → {d d′ : Place Node} → Passed judge e f t (parent b) d d′ → get (last b) (d .below) ≡ get (last b) (d′ .below)
-  unfolding reserved parent last is-top
-  get-alike root r u = contra refl r
-  get-alike (root ▹ n) r u = seen-child (u .seen) (u .passes) n (λ _. r)
-  get-alike (p ▹ k ▹ n) r u = seen-child (u .seen) (u .passes) n (λ q. contra (ap is-top q) refl)
-
   module _ (m m′ : ℕ) (count : nodes (graft e t) + m ≡ nodes t + m′) where
     -- there is room for a new node in both or in neither, and it is outside `/rep`
     pub room-alike : (p : Path) → Agree (λ d d′. (d .here ≡ d′ .here) × Outside (parent p)) (room (by-modes (c .account)) (graft e t) p) (room (by-modes (c .account)) t p)
@@ -194,7 +183,7 @@ module _ (c : Caller) (e f : Place Node) (top : Node) (out : Kept-out c top (f .
     moved-alike a b d none i k l = update-beside (update-beside start (parent a) i _) (parent b) k _
     moved-alike a b d (some g) i k l = case (same-path a b)
         (λ s. rw s start)
-        (λ s. rw s (update-beside (update-beside start b (rw (parent-and-last b l) (further {p = parent b} {n = last b} k)) _) (parent a) i _))
+        (λ s. rw s (update-beside (update-beside start b (outside-child b l k) _) (parent a) i _))
 
     mv-alike : (a b : Path) → Agree (Alike e f top) (run-mv c m (graft e t) a b) (run-mv c m′ t a b)
     unfolding run-mv
@@ -203,7 +192,7 @@ module _ (c : Caller) (e f : Place Node) (top : Node) (out : Kept-out c top (f .
         let r = neither (reserved a) (reserved b) i in
         bind (walk-alike a) λ d d′ s.
         bind (parent-walk-alike b) λ k k′ u.
-        rw (seen-alike s (r .0), get-alike b (r .1) u) (
+        rw (seen-alike s (r .0), sought-graft not-passed b (r .1) u, sought-is (last b) (k′ .below), done-bind, done-bind) (
         guard refl λ _.
         bind (walk-alike (parent a)) λ l l′ v.
         check Access (test (allows (c .account) W) v) λ w.

@@ -22,7 +22,7 @@ use Rattle.tree.specs.ForestLaws.{empty-is-nil}
 use Rattle.tree.specs.Node.{is-directory, Node}
 use Rattle.tree.specs.Walk.{by-modes}
 use Rattle.tree.specs.WellFormed.{is-place, is-tree}
-use Rattle.tree.specs.StepLaws.{parent-walked}
+use Rattle.tree.specs.StepLaws.{was-sought, parent-walked}
 use Rattle.tree.specs.PlaceLaws.{empty-size}
 use Rattle.tree.specs.UpdateLaws.{place-at-last, walked-at}
 use Rattle.tree.specs.WellFormedLaws.{place-parts, place-node}
@@ -88,7 +88,7 @@ module _ (t : Place Node) (q : Path) (n : Name) (b : Path) (d g : Place Node) (w
 
 -- ---- the steps
 
--- a done `mv` has found a place that may go where what stands at b does, and leaves the tree with it moved there
+-- a done `mv` has found a place at a that may go to b, whatever stands there, and leaves the tree with it moved
 record Moves-to (t : Place Node) (a b : Path) (t′ : Place Node) : Type 0 where
   place : Place Node
   stands : place-at t a ≡ some place
@@ -103,6 +103,7 @@ module _ (c : Caller) (m : ℕ) (t : Place Node) where
       then-check Reserved tt _ λ i.
       then-do _ λ d w.
       then-do _ λ f k.
+      then-do _ λ o s.
       then-guard (any-outcome _) λ r.
       then-do _ λ _ _.
       then-check Access tt _ λ _.
@@ -111,7 +112,7 @@ module _ (c : Caller) (m : ℕ) (t : Place Node) where
       then-check TooDeep tt _ λ _.
       let j = by-modes (c .account) in
       let free = neither (reserved a) (reserved b) i in
-      let there = place-at-last t b f (not-reserved b (free .1)) (walked-at t j (parent b) f (parent-walked j t b k .0)) in
+      let there = place-at-last t b f (not-reserved b (free .1)) (walked-at t j (parent b) f (parent-walked j t b k .0)) ∙ was-sought (last b) (f .below) s in
       gives (record {
         place = d;
         stands = walked-at t j a d w;

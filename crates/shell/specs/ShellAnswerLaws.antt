@@ -20,7 +20,7 @@ use Rattle.tree.specs.Forest.{Place, place-at}
 use Rattle.tree.specs.Node.{Node}
 use Rattle.tree.specs.Walk.{by-modes, walk, parent-walk, room}
 use Rattle.tree.specs.JudgeLaws.{room-by-modes}
-use Rattle.tree.specs.WalkRefusalLaws.{unused-refuses, walk-refuses, parent-walk-refuses}
+use Rattle.tree.specs.WalkRefusalLaws.{unused-refuses, sought-refuses, walk-refuses, parent-walk-refuses}
 use Rattle.tree.specs.WellFormed.{is-tree}
 use Rattle.tree.specs.UpdateLaws.{walked-at}
 use Rattle.shell.specs.ReplacingLaws.{replace-refuses}
@@ -91,7 +91,8 @@ module _ (c : Caller) (m : ℕ) (t : Place Node) where
         then-check Reserved refl _ λ _.
         then-step (walks a) λ d _.
         then-step (parent-walks b) λ f _.
-        then-guard (replace-refuses refl refl (d .here .kind) _) λ _.
+        then-step (sought-refuses (last b) (f .below)) λ o _.
+        then-guard (replace-refuses refl refl (d .here .kind) o) λ _.
         then-step (walks (parent a)) λ e _.
         then-check Access refl _ λ _.
         then-check Access refl _ λ _.

@@ -28,7 +28,7 @@ use Rattle.tree.specs.Node.{is-directory, Node, set-owner, set-group, set-mode,
 use Rattle.tree.specs.Walk.{by-modes, walk, room}
 use Rattle.tree.specs.WellFormed.{nodes, is-node, is-place, is-tree}
 use Rattle.tree.specs.JudgeLaws.{file-is-none, directory-is-one}
-use Rattle.tree.specs.StepLaws.{parent-walked}
+use Rattle.tree.specs.StepLaws.{was-sought, parent-walked}
 use Rattle.tree.specs.RoomLaws.{room-found}
 use Rattle.tree.specs.PlaceLaws.{leaf-size}
 use Rattle.tree.specs.UpdateLaws.{place-at-last, walked-at, leaf-height}
@@ -123,6 +123,7 @@ module _ (c : Caller) (m : ℕ) (t : Place Node) where
         then-check Reserved tt _ λ i.
         then-do _ λ d e.
         then-do _ λ f k.
+        then-do _ λ o s.
         then-guard (any-outcome _) λ r.
         then-do _ λ _ _.
         then-check Access tt _ λ _.
@@ -131,7 +132,7 @@ module _ (c : Caller) (m : ℕ) (t : Place Node) where
         then-check TooDeep tt _ λ l.
         let to = parent-walked (by-modes (c .account)) t b k in
         let top = not-reserved b (neither (reserved (a ▹ n)) (reserved b) i .1) in
-        gives (moved-keeps a n b d f g top e (to .0) (entered-directory (c .account) (f .here) (to .1)) (leb-true (depth b + height (d .below)) 6 l) _ refl r)
+        gives (moved-keeps a n b d f g top e (to .0) (entered-directory (c .account) (f .here) (to .1)) (leb-true (depth b + height (d .below)) 6 l) o (was-sought (last b) (f .below) s) r)
 
     chmod-keeps : (p : Path) (mode : ℕ) → is-mode mode ≡ true → Keeps (run-chmod c m t p mode)
     unfolding run-chmod

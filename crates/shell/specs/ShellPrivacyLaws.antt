@@ -34,7 +34,7 @@ use Rattle.tree.specs.WellFormed.{is-tree}
 use Rattle.tree.specs.WellFormedLaws.{place-parts, walked-place}
 use Rattle.tree.specs.ResultLaws.{done-then, refused-bind, require-true}
 use Rattle.tree.specs.JudgeLaws.{directory-not-file, allows-is, kind-by-modes, passes-by-modes, room-by-modes, owns-is}
-use Rattle.tree.specs.StepLaws.{was-unused, walks-on, parent-walked}
+use Rattle.tree.specs.StepLaws.{was-unused, was-sought, walks-on, parent-walked}
 use Rattle.tree.specs.UpdateLaws.{place-at-child, walked-at}
 use Rattle.tree.specs.OtherPathLaws.{alter-keeps, put-keeps, drop-empty-keeps, drop-gone, move-keeps, move-carries, walk-outside, walk-shut, parent-walk-shut}
 use Rattle.shell.specs.ReplacingLaws.{both-files, no-same}
@@ -231,13 +231,14 @@ module _ (c : Caller) (m : ℕ) (t : Place Node) (p : Path) (d : Place Node) (th
         then-check Reserved tt _ λ _.
         then-do (walk (by-modes (c .account)) t (q ▹ n)) λ x w.
         then-do (parent-walk (by-modes (c .account)) t (r ▹ k)) λ f s.
+        then-do _ λ z y.
         then-guard (any-outcome _) λ u.
         then-do (walk (by-modes (c .account)) t q) λ e i.
         then-check Access tt _ λ b.
         then-check Access tt _ λ g.
         then-check IntoItself tt _ λ o.
         then-check TooDeep tt _ λ _.
-        gives (moved-private q n x e r k f w i b s g (not-true (lies-below (q ▹ n) (r ▹ k)) o) _ refl u)
+        gives (moved-private q n x e r k f w i b s g (not-true (lies-below (q ▹ n) (r ▹ k)) o) z (was-sought k (f .below) y) u)
 
     chmod-private : (q : Path) (mode : ℕ) → Ensures (λ o. place-at (o .state) p ≡ some d) (run-chmod c m t q mode)
     unfolding run-chmod

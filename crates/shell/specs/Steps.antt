@@ -22,9 +22,9 @@ use Rattle.tree.specs.declared.Kind.{Kind}
 use Rattle.tree.specs.declared.Kind.the-variants.{File, Directory}
 use Rattle.tree.specs.declared.Cause.the-variants.{Access, Exists, WrongKind, NotEmpty, Reserved, Full, IntoItself, TooDeep}
 use Rattle.tree.specs.Result.{Result, done, _>>=_, _>>_, require, Outcome}
-use Rattle.tree.specs.Forest.{Place, get, is-empty, update, alter, put, drop, leaf, height, names}
+use Rattle.tree.specs.Forest.{Place, is-empty, update, alter, put, drop, leaf, height, names}
 use Rattle.tree.specs.Node.{is-directory, same-kind, Node, allows, set-owner, set-group, set-mode, set-content, owns, new-node}
-use Rattle.tree.specs.Walk.{by-modes, walk, parent-walk, room}
+use Rattle.tree.specs.Walk.{by-modes, sought, walk, parent-walk, room}
 use Rattle.tree.specs.WellFormed.{most-nodes, nodes}
 
 -- a file's content, or a directory's names in byte order parted by commas
@@ -104,7 +104,7 @@ module _ (c : Caller) (elsewhere : ℕ) (t : Place Node) where
     require (not (reserved a || reserved b)) Reserved
     d ← walks a
     f ← parent-walks b
-    let there = get (last b) (f .below)
+    there ← sought (last b) (f .below)
     may-replace (d .here .kind) there
     e ← walks (parent a)
     require (can W e) Access

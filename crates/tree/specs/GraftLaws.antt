@@ -8,13 +8,13 @@ use native.Mathlib.Omega.{arith}
 use Rattle.buffers.specs.Cases.{case, contra}
 use Rattle.buffers.specs.Text.{same-text}
 use Rattle.buffers.specs.TextLaws.{same-text-refl, same-text-sound}
-use Rattle.syntax.specs.Path.{Name, Path, root, _▹_, parent, rep, in-rep, reserved}
+use Rattle.syntax.specs.Path.{Name, Path, root, _▹_, parent, last, is-top, rep, in-rep, reserved}
 use Rattle.tree.specs.Result.{done, _>>=_, _>>_, present, absent}
 use Rattle.tree.specs.Outcomes.{Agree, both}
 use Rattle.tree.specs.AgreeLaws.{itself, bind, guard}
 use Rattle.tree.specs.Forest.{Place, get, at, under, update, size, names}
 use Rattle.tree.specs.ForestLaws.{differ-sym, get-at, get-at-other, names-at, at-at, size-at, at-twice, at-id}
-use Rattle.tree.specs.Walk.{Judge, look, unused, enter, walk, parent-walk}
+use Rattle.tree.specs.Walk.{Judge, look, unused, sought, enter, walk, parent-walk}
 use Rattle.tree.specs.StepLaws.{entered}
 use Rattle.tree.specs.WellFormed.{nodes}
 use Rattle.tree.specs.Graft.{graft, Outside, first, further, Seen, at-top, at-rep, outside, Passed}
@@ -136,6 +136,26 @@ module _ {A : Type 0} where
     pub unused-graft : get rep (t .below) ≡ some f → {j : Judge A} → j .passes (e .here) ≡ false
         → {p : Path} {d d′ : Place A} → Passed j e f t p d d′ → (n : Name) → unused n (d .below) ≡ unused n (d′ .below)
     unused-graft there {j} shut w n = unused-seen there j shut (w .seen) (w .passes) n
+
+    seen-child : (j : Judge A) → j .passes (e .here) ≡ false → {p : Path} {d d′ : Place A} → Seen e f t p d d′ → j .passes (d .here) ≡ true
+        → (n : Name) → (p ≡ root → same-text n rep ≡ false) → get n (d .below) ≡ get n (d′ .below)
+    seen-child j shut at-top i n h = get-graft-other e t n (h refl)
+    seen-child j shut (at-rep s) i n h = contra i shut
+    seen-child j shut (outside o) i n h = refl
+
+    -- and what is sought for a path that is not reserved is the same
+    pub sought-graft : {j : Judge A} → j .passes (e .here) ≡ false → (b : Path) → reserved b ≡ false
+        → {d d′ : Place A} → Passed j e f t (parent b) d d′ → sought (last b) (d .below) ≡ sought (last b) (d′ .below)
+    unfolding sought reserved parent last is-top
+    sought-graft {j} shut root r w = contra refl r
+    sought-graft {j} shut (root ▹ n) r w = ap done (seen-child j shut (w .seen) (w .passes) n (λ _. r))
+    sought-graft {j} shut (p ▹ k ▹ n) r w = ap done (seen-child j shut (w .seen) (w .passes) n (λ q. contra (ap is-top q) refl))
+
+-- what is below a directory outside is outside
+pub outside-child : (b : Path) → is-top b ≡ false → Outside (parent b) → Outside b
+unfolding is-top parent
+outside-child root l o = contra refl l
+outside-child (p ▹ n) l o = further o
 
 -- ---- walks that may not pass `/rep`
 

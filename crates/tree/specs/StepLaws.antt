@@ -1,6 +1,6 @@
 -- Laws of a walk's steps: what each has found where it is done, and when it is done.
 use mathlib.Core.Path.{_≡_, refl, sym, _∙_}
-use mathlib.Core.Option.{none, some}
+use mathlib.Core.Option.{Option, none, some}
 use mathlib.Core.Bool.{true}
 use Rattle.syntax.specs.Path.{Name, Path, root, _▹_, parent}
 use Rattle.tree.specs.declared.Cause.the-variants.{Missing, NotDirectory, Access, Exists}
@@ -8,7 +8,7 @@ use Rattle.tree.specs.Result.{done, _>>=_, _>>_, require, present}
 use Rattle.tree.specs.ResultLaws.{present-some, was-absent, required, bind-done, then-done, done-then, done-bind}
 use Rattle.tree.specs.Forest.{Forest, Place, get}
 use Rattle.tree.specs.Node.{is-directory}
-use Rattle.tree.specs.Walk.{Judge, look, unused, enter, walk, parent-walk}
+use Rattle.tree.specs.Walk.{Judge, look, unused, sought, enter, walk, parent-walk}
 
 module _ {A : Type 0} where
   -- the child that was found
@@ -25,6 +25,15 @@ module _ {A : Type 0} where
   pub was-unused : (n : Name) (F : Forest A) → unused n F ≡ done tt → get n F ≡ none
   unfolding unused
   was-unused n F i = was-absent (get n F) Exists i
+
+  -- what is sought is found or is not there
+  pub sought-is : (n : Name) (F : Forest A) → sought n F ≡ done (get n F)
+  unfolding sought
+  sought-is n F = refl
+
+  pub was-sought : (n : Name) (F : Forest A) {o : Option (Place A)} → sought n F ≡ done o → get n F ≡ o
+  unfolding sought
+  was-sought n F i = cc
 
   module _ (j : Judge A) where
     -- what was entered is a directory that may be passed

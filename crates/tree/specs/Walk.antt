@@ -3,6 +3,7 @@
 -- `walk` goes by the path's last name: the walk to its parent, then one step. `literal-walk` is document 01's walk, name by
 -- name; `walk-is-literal` and `parent-walk-is-literal` (in WalkLaws) say that from a directory they are the same.
 use mathlib.Core.List.{List, [], _∷_}
+use mathlib.Core.Option.{Option}
 use mathlib.Core.Bool.{Bool, _&&_, _||_, not}
 use Rattle.accounts.specs.declared.Right.the-variants.{R, W, X}
 use Rattle.accounts.specs.declared.Account.{Account}
@@ -29,12 +30,16 @@ by-modes a = record {
   writable = allows a W;
 }
 
--- the two searches for a name in a directory: the child (3 if missing), and the test that there is none (6)
+-- the searches for a name in a directory, and no others: the child (3 if missing); the test that there is none (6); what stands
+-- there, if anything
 unfoldable pub look : {A : Type 0} → Name → Forest A → Result (Place A)
 look n f = present (get n f) Missing
 
 unfoldable pub unused : {A : Type 0} → Name → Forest A → Result (Unit {0})
 unused n f = absent (get n f) Exists
+
+unfoldable pub sought : {A : Type 0} → Name → Forest A → Result (Option (Place A))
+sought n f = done (get n f)
 
 -- into a directory: a file in mid-path 4, x 5
 unfoldable pub enter : {A : Type 0} → Judge A → A → Result (Unit {0})

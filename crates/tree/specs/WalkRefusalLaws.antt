@@ -6,7 +6,7 @@ use Rattle.tree.specs.declared.Cause.the-variants.{Missing, NotDirectory
 use Rattle.tree.specs.Outcomes.{gives, Refuses}
 use Rattle.tree.specs.GivesLaws.{only-refuses, weaker, present-refuses, absent-refuses, require-refuses, then-step, then-check, then-guard}
 use Rattle.tree.specs.Forest.{Forest, Place, get}
-use Rattle.tree.specs.Walk.{Judge, look, unused, enter, walk, parent-walk}
+use Rattle.tree.specs.Walk.{Judge, look, unused, sought, enter, walk, parent-walk}
 
 module _ {A : Type 0} {R : Cause → Type 0} where
   -- the search for a child is refused 3
@@ -18,6 +18,11 @@ module _ {A : Type 0} {R : Cause → Type 0} where
   pub unused-refuses : R Exists → (n : Name) (F : Forest A) → Refuses R (unused n F)
   unfolding unused
   unused-refuses exists n F = absent-refuses Exists exists (get n F)
+
+  -- that for what stands there, if anything, is not refused
+  pub sought-refuses : (n : Name) (F : Forest A) → Refuses R (sought n F)
+  unfolding sought
+  sought-refuses n F = gives refl
 
   module _ (directory : R NotDirectory) (access : R Access) (j : Judge A) where
     -- a step into a directory is refused 4 or 5
