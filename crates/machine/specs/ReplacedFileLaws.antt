@@ -1,4 +1,4 @@
--- A done `mv` onto what stands in the store: a file by a file, or itself.
+-- What a done `mv` leaves of a store where something stands at its target: a file replaced by a file, or all as it was.
 use mathlib.Core.Path.{_≡_, ap}
 use mathlib.Core.Option.{some}
 use mathlib.Core.Bool.{true, false}

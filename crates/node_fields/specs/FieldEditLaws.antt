@@ -119,7 +119,7 @@ module _ (t : Place Node) (p : Path) (d : Place Node) (h : is-tree t ≡ true) (
   length-before-tag x = length-append (row-head (row-there p x)) (name-of (row-there p (d .here))) ∙ omega (arith, length-row-head (row-there p x), length-name)
 
   -- how many bytes stand before what follows the name and a stretch T
-  length-so-far : (x : Node) (T : List ℕ) (k : ℕ) → length T ≡ k → length (row-head (row-there p x) ++ (name-of (row-there p (d .here)) ++ T)) ≡ 16 + k
+  length-so-far : (x : Node) (T : List ℕ) (k : ℕ) → length T ≡ k → length (row-head (row-there p x) ++ (name-of (row-there p (d .here)) ++ T)) ≡ tag-offset + k
   length-so-far x T k l =
       length-append (row-head (row-there p x)) (name-of (row-there p (d .here)) ++ T) ∙ omega (arith, length-row-head (row-there p x), length-append (name-of (row-there p (d .here))) T, length-name)
 
@@ -183,13 +183,13 @@ module _ (t : Place Node) (p : Path) (d : Place Node) (h : is-tree t ≡ true) (
 
 -- ---- at the row of a place
 
--- what stands in a field of the tree's own bytes and index
+-- what is read in the tree's own bytes at the path's index is read in b at i
 pub read-there : {b : List ℕ} {t : Place Node} {p : Path} {i : ℕ} {d : Place Node} → At b t p i d
     → (k n : ℕ) (s : List ℕ) → field-bytes (encode-tree t) (index-of t p) k n ≡ s → field-bytes b i k n ≡ s
 read-there {b} {t} {p} {i} a k n s e = ap (λ (c : List ℕ). field-bytes c i k n) (a .tree .bytes) ∙ ap (λ (j : ℕ). field-bytes (encode-tree t) j k n) (a .row) ∙ e
 
 module _ {b : List ℕ} {t : Place Node} {p : Path} {i : ℕ} {d : Place Node} (a : At b t p i d) where
-  -- and what a field written makes of them
+  -- and what is written there
   pub there-too : (k : ℕ) (s : List ℕ) (g : Node → Node) → field-put (encode-tree t) (index-of t p) k s ≡ encode-tree (update p (alter g) t)
       → field-put b i k s ≡ encode-tree (update p (alter g) t)
   there-too k s g e = ap (λ (c : List ℕ). field-put c i k s) (a .tree .bytes) ∙ ap (λ (j : ℕ). field-put (encode-tree t) j k s) (a .row) ∙ e

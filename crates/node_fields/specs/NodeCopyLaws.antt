@@ -116,7 +116,7 @@ module _ {b : List ℕ} {t : Place Node} {p : Path} {i : ℕ} {d : Place Node} (
 
 -- ---- the whole node
 
--- the node at q becomes that at p, which keeps its name and what is below it. What stands behind the name is read when the
+-- the place at p gets the node at q, and keeps its name and what is below it. What stands behind the name is read when the
 -- attributes have been written, which leaves it.
 pub node-law : {b : List ℕ} {t : Place Node} {p q : Path} {i j : ℕ} {d g : Place Node} → At b t q i d → At b t p j g → d .here .kind ≡ g .here .kind
     → node-copied b i j ≡ encode-tree (update p (alter (λ n. d .here)) t)

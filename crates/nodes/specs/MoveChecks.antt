@@ -34,7 +34,7 @@ may-move a t p q = do
 
 -- ---- what the code answers
 
--- the move to a path where that stands
+-- how a move from p to q is told, by what stands at q
 unfoldable pub move-to : Place Node → Path → Path → Option (Place Node) → Move
 move-to t p q none = Into (index-of t p)
 move-to t p q (some g) = cond (same-path p q) Itself (Onto (index-of t p) (index-of t q))
@@ -48,9 +48,9 @@ judged (done m) = m
 abbrev pub move-from : Place Node → Path → Path → Result (Place Node × Option (Place Node)) → Result Move
 move-from t p q w = w >>= λ m. done (move-to t p q (m .1))
 
--- ---- what the code judges at rows, once it has found what stands where a row goes: w on both directories is told, as is whether
--- both paths are one, or the one lies within the other, and how deep what is moved would reach
+-- ---- what the code judges at rows, once it has found what stands where a row goes; w on both directories is told
 
+-- onto the node of another row; whether both paths are one is told
 unfoldable pub row-onto : Kind → Kind → Bool → Bool → ℕ → ℕ → Result Move
 row-onto kind there writable same row target = do
   require (not (is-directory there)) Exists
@@ -58,6 +58,7 @@ row-onto kind there writable same row target = do
   require writable Access
   done (cond same Itself (Onto row target))
 
+-- to where nothing stands; whether that lies within what is moved is told, and how deep this would reach
 unfoldable pub row-into : Bool → Bool → ℕ → ℕ → Result Move
 row-into writable inside deep row = do
   require writable Access

@@ -1,4 +1,5 @@
--- The checks of the commands that make, remove and move nodes, in the steps' order, apart from the change that each then makes.
+-- The checks of the commands that make and remove nodes, in the steps' order, apart from the change that each then makes; and what
+-- the texts of paths tell.
 use mathlib.Core.Path.{_≡_}
 use mathlib.Core.List.{List}
 use mathlib.Core.Option.{some}

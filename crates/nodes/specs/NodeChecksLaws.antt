@@ -1,4 +1,4 @@
--- The checks of the commands that make, remove and move nodes: the steps are these and then the change, what each comes to, and what
+-- The checks of the commands that make and remove nodes: the steps are these and then the change, what each comes to, and what
 -- holds where all have passed.
 use mathlib.Core.Path.{_≡_, sym, _∙_, ap}
 use mathlib.Core.List.{List}

@@ -9,7 +9,8 @@ pub use moves::mv;
 pub use removing::rm;
 use tree::Cause;
 
-// What a move comes to: a row goes where nothing stands, or over the file of another row; a file onto itself stays; or why none may.
+// What a move comes to: a row goes where nothing stands, or over the file of another row; a file onto itself stays; or why it
+// may not be made.
 enum Move {
     Into { row: usize },
     Onto { row: usize, target: usize },

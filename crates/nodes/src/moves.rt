@@ -121,7 +121,7 @@ fn may_move(tree: &[u8], account: Account, from: &[u8], to: &[u8]) -> Move
     }
 }
 
-// Moves a node with all below it; a file over a file becomes it under its name, tag and all.
+// Moves a node with all below it; onto a file it takes that file's place, with its own tag.
 pub fn mv(tree: &mut [u8], caller: Caller, from: &[u8], to: &[u8]) -> Answer
     requires { ⌜ Whole (now tree) ⌝ }
     requires { ⌜ Path-text (now from) ⌝ }

@@ -1,5 +1,6 @@
--- Document 01's shell commands, computed on a small tree: every number that a command can give, which of two failing checks
--- decides, and what a done command leaves. Both machines run these steps, so demand 3 cannot tell whether they are right.
+-- Document 01's shell commands but `mv`, which has `MovingCases`, computed on a small tree: every number that a command can give,
+-- which of two failing checks decides, and what a done command leaves. Both machines run these steps, so demand 3 cannot tell
+-- whether they are right.
 use mathlib.Core.Path.{_≡_, refl}
 use mathlib.Core.List.{List, [], _∷_, _++_, map}
 use mathlib.Core.Option.{Option, none, some}
@@ -69,7 +70,7 @@ person u = record {
 who : Uid → Caller
 who u = cond (is-root u) root-caller (person u)
 
-pub attributes : Kind → ℕ → ℕ → ℕ → String → Node
+attributes : Kind → ℕ → ℕ → ℕ → String → Node
 attributes kind owner group mode content = record {
   kind = kind;
   owner = record { 0 = owner };

@@ -10,8 +10,8 @@ use Rattle.tree.specs.Forest.{nil, node, Place, leaf}
 use Rattle.tree.specs.Node.{Node, set-revision, set-tag}
 use Rattle.shell.specs.Cases.{Case, _gives_, _shows_, all-done, directory, file, run-on, Answered, standing, after-cases, compute}
 
--- ---- either is `/` or `/rep` 9; walk a; parent walk b; b a directory 6; a a directory and b a file 7; w on both parents 5; b below a 11;
--- too deep 19
+-- ---- either is `/` or `/rep` 9; walk a; parent walk b; a directory at b 6; a directory at a and a file at b 7; w on both parents 5;
+-- b below a 11; too deep 19
 moving : List Case
 moving =
     all-done "1,mkdir,/u1/d,0755\n1,mkdir,/u1/d/e,0555\n1,create,/u1/a,0600\n1,mkdir,/u1/n,0600" ++ (
@@ -73,7 +73,7 @@ deepening-answered = refl
 
 -- ---- a file onto a file
 
--- a file with a tag, one without, which differ in every attribute, and a directory with a file that nobody may write in
+-- two files that differ in all but their kind, one with a tag; and a file in a directory in which nobody may write
 tagged : Node
 tagged = set-tag (record { path = record { folder = root; name = bytes "a" }; revision = 3 }) (file 1 1 0o600 "one")
 
@@ -119,7 +119,7 @@ carrying-leaves : map (left-of-pair carrying) ("/u1/a" ∷ "/u1/b" ∷ "/u1/d/c"
 unfolding compute pair tagged untagged carrying
 carrying-leaves = refl
 
--- w on either parent is asked, and onto itself too; then nothing changes
+-- w on both parents is asked, onto itself too; then nothing changes
 staying : List Case
 staying =
     "1,mv,/u1/a,/u1/d/c" gives 5 ∷

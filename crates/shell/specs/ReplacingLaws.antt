@@ -1,4 +1,4 @@
--- What `mv` goes by where something may stand: a file that a file replaces.
+-- Laws of `may-replace`: what it refuses by, and what has passed it.
 use mathlib.Core.Path.{_≡_, refl, sym, _∙_, ap}
 use mathlib.Core.Option.{Option, none, some}
 use mathlib.Core.Bool.{false, not}
@@ -20,7 +20,7 @@ use Rattle.tree.specs.Node.{Node, is-directory}
 use Rattle.tree.specs.JudgeLaws.{directory-is-one}
 use Rattle.shell.specs.Steps.{may-replace}
 
--- it is refused by the causes 6 and 7 alone
+-- it refuses by 6 and 7 alone
 pub replace-refuses : {R : Cause → Type 0} → R Exists → R WrongKind → (kind : Kind) (o : Option (Place Node)) → Refuses R (may-replace kind o)
 unfolding may-replace
 replace-refuses e w kind none = gives refl

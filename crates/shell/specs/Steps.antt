@@ -1,4 +1,5 @@
--- Document 01's shell commands, each a list of checks in its order and for its causes, then the tree after it.
+-- The shell commands of document 01, `mv` as request 3 of document 02 has it, each a list of checks in their order and for their
+-- causes, then the tree after it.
 --
 -- The tree is that in which persons walk. Nodes that exist elsewhere count towards the 256 too: none in the store, which is one
 -- tree, and the entries in the abstract machine.
@@ -35,8 +36,8 @@ text-of d = cond (is-directory (d .here .kind)) (joined comma (names (d .below))
 unfoldable pub longest-text : ℕ
 longest-text = 2294
 
--- whether something of that kind may be moved where this stands: a directory there is 6; a file there a file replaces, and a
--- directory does not, 7
+-- whether a node of that kind may be moved to where this stands: onto a directory 6, a directory onto a file 7; a file onto a file
+-- may, and all where nothing stands
 unfoldable pub may-replace : Kind → Option (Place Node) → Result (Unit {0})
 may-replace kind none = done tt
 may-replace kind (some g) = do

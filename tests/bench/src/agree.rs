@@ -26,8 +26,8 @@ enum Call<'a> {
     Listing(usize),
 }
 
-/// Lines for what random ones seldom bring up: stale (14), too deep (19), into itself (11), not empty (8), untagged (15), and moves of
-/// a tagged file onto one without a tag, the other way, and onto itself.
+/// Lines for what random ones seldom bring up: stale (14), too deep (19), into itself (11), not empty (8), untagged (15), and
+/// moves of a tagged file onto one without a tag, the other way, and onto itself.
 const SELDOM: [&str; 22] = [
     "1,login,0,oak",
     "1,create,/u1/a,0600",

@@ -314,7 +314,7 @@ fn root(trial: &mut Trial) {
 /// Files at every place around two directories with something in them: rows below, above and between.
 const PLACES: [&str; 8] = ["/a", "/u1/_", "/u1/d/a", "/u1/d/z", "/u1/e", "/u1/e0", "/u2/d/a", "/z"];
 
-/// Each file onto each other one: the one moved has its own content there, and all others stand as they were.
+/// Each file onto each, itself too: the one moved has its own content there, and all others stand as they were.
 fn places(trial: &mut Trial) {
     for from in PLACES {
         for onto in PLACES {
