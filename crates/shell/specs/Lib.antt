@@ -3,6 +3,7 @@ pub mod WholePathsLaws
 pub mod Steps
 pub mod Replaced
 pub mod ReplacingLaws
+pub mod PassedMoveLaws
 pub mod ReplacedLaws
 pub mod Replies
 pub mod ReplyLaws

@@ -7,22 +7,19 @@ use mathlib.Core.Option.{some}
 use mathlib.Core.Bool.{true, false}
 use Prim.Native.Nat.{ℕ}
 use native.Mathlib.Omega.{arith}
-use Rattle.buffers.specs.Cases.{contra, neither}
+use Rattle.buffers.specs.Cases.{contra}
 use Rattle.accounts.specs.declared.Caller.{Caller}
-use Rattle.syntax.specs.Path.{Name, Path, root, _▹_, parent, last, is-top, same-path, reserved}
-use Rattle.syntax.specs.PathLaws.{not-reserved}
+use Rattle.syntax.specs.Path.{Name, Path, root, _▹_, parent, last, is-top, same-path}
 use Rattle.syntax.specs.WithinLaws.{same-path-refl, differ-back}
 use Rattle.syntax.specs.FormLaws.{answered}
-use Rattle.tree.specs.declared.Cause.the-variants.{Access, Reserved, IntoItself, TooDeep}
 use Rattle.tree.specs.Result.{done, Outcome}
-use Rattle.tree.specs.Outcomes.{gives, Ensures}
-use Rattle.tree.specs.GivesLaws.{any-outcome, done-with, then-check, then-guard, then-do}
+use Rattle.tree.specs.GivesLaws.{done-with}
 use Rattle.tree.specs.Forest.{Place, is-empty, update, place-at, alter, drop, Holds}
 use Rattle.tree.specs.ForestLaws.{empty-is-nil}
 use Rattle.tree.specs.Node.{is-directory, Node}
 use Rattle.tree.specs.Walk.{by-modes}
 use Rattle.tree.specs.WellFormed.{is-place, is-tree}
-use Rattle.tree.specs.StepLaws.{was-sought, parent-walked}
+use Rattle.tree.specs.StepLaws.{parent-walked}
 use Rattle.tree.specs.PlaceLaws.{empty-size}
 use Rattle.tree.specs.UpdateLaws.{place-at-last, walked-at}
 use Rattle.tree.specs.WellFormedLaws.{place-parts, place-node}
@@ -31,8 +28,9 @@ use Rattle.tree.specs.ChangeLaws.{alter-at, keep-drop, nodes-drop}
 use Rattle.tree.specs.OtherPathLaws.{drop-gone}
 use Rattle.tree.specs.AlterLaws.{bare-altered, nodes-bare}
 use Rattle.tree.specs.HoldsLaws.{holds-altered, holds-alter, holds-drop}
-use Rattle.shell.specs.Steps.{may-replace, moved, run-mv}
+use Rattle.shell.specs.Steps.{moved, run-mv}
 use Rattle.shell.specs.ReplacingLaws.{both-files, same-files}
+use Rattle.shell.specs.PassedMoveLaws.{Passed-move, mv-passed}
 use Rattle.shell.specs.Replaced.{Replaced}
 
 -- ---- files
@@ -88,53 +86,28 @@ module _ (t : Place Node) (q : Path) (n : Name) (b : Path) (d g : Place Node) (w
 
 -- ---- the steps
 
--- a done `mv` has found a place at a that may go to b, whatever stands there, and leaves the tree with it moved
-record Moves-to (t : Place Node) (a b : Path) (t′ : Place Node) : Type 0 where
-  place : Place Node
-  stands : place-at t a ≡ some place
-  below-top : is-top a ≡ false
-  fitting : may-replace (place .here .kind) (place-at t b) ≡ done tt
-  leaves : t′ ≡ moved t a b place (place-at t b)
-
 module _ (c : Caller) (m : ℕ) (t : Place Node) where
-  mv-moves : (a b : Path) → Ensures (λ o. Moves-to t a b (o .state)) (run-mv c m t a b)
-  unfolding run-mv
-  mv-moves a b =
-      then-check Reserved tt _ λ i.
-      then-do _ λ d w.
-      then-do _ λ f k.
-      then-do _ λ o s.
-      then-guard (any-outcome _) λ r.
-      then-do _ λ _ _.
-      then-check Access tt _ λ _.
-      then-check Access tt _ λ _.
-      then-check IntoItself tt _ λ _.
-      then-check TooDeep tt _ λ _.
+  -- what has been found at the target is what stands there
+  stood : {a b : Path} {t′ : Place Node} (v : Passed-move c t a b t′) → v .there ≡ place-at t b
+  stood {b = b} v =
       let j = by-modes (c .account) in
-      let free = neither (reserved a) (reserved b) i in
-      let there = place-at-last t b f (not-reserved b (free .1)) (walked-at t j (parent b) f (parent-walked j t b k .0)) ∙ was-sought (last b) (f .below) s in
-      gives (record {
-        place = d;
-        stands = walked-at t j a d w;
-        below-top = not-reserved a (free .0);
-        fitting = rw there r;
-        leaves = rw there;
-      })
+      sym (place-at-last t b (v .directory) (v .target-below-top) (walked-at t j (parent b) (v .directory) (parent-walked j t b (v .entered) .0)) ∙ v .found)
 
   -- onto what stands at another path it replaces a file by a file
   pub replaced : (a b : Path) (o : Outcome (Place Node)) (d g : Place Node) → is-tree t ≡ true → run-mv c m t a b ≡ done o
       → place-at t a ≡ some d → place-at t b ≡ some g → same-path a b ≡ false → Replaced t a b d g (o .state)
   unfolding moved parent last is-top
-  replaced root b o d g whole e here there off = contra refl (done-with (mv-moves root b) e .below-top)
+  replaced root b o d g whole e here there off = contra refl (done-with (mv-passed c m t root b) e .below-top)
   replaced (q ▹ n) b o d g whole e here there off =
-      let v = done-with (mv-moves (q ▹ n) b) e in
-      let same = answered (sym here ∙ v .stands) in
-      let files = both-files (d .here .kind) g (rw (same, there) at (v .fitting)) in
-      rw (v .leaves, same, there) (rw off (replaces t q n b d g whole here there off (files .1) (files .0)))
+      let v = done-with (mv-passed c m t (q ▹ n) b) e in
+      let same = answered (sym here ∙ walked-at t (by-modes (c .account)) (q ▹ n) (v .place) (v .led)) in
+      let found = stood v ∙ there in
+      let files = both-files (d .here .kind) g (rw (same, found) at (v .fitting)) in
+      rw (v .leaves, same, found) (rw off (replaces t q n b d g whole here there off (files .1) (files .0)))
 
   -- and onto itself it leaves the tree as it was
   pub stays : (a : Path) (o : Outcome (Place Node)) → run-mv c m t a a ≡ done o → o .state ≡ t
   unfolding moved
   stays a o e =
-      let v = done-with (mv-moves a a) e in
-      rw (v .leaves, v .stands) (rw (same-path-refl a))
+      let v = done-with (mv-passed c m t a a) e in
+      rw (v .leaves, stood v ∙ walked-at t (by-modes (c .account)) a (v .place) (v .led)) (rw (same-path-refl a))

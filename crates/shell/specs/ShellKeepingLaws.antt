@@ -1,34 +1,34 @@
 -- No shell command makes a well-formed tree ill-formed, whoever calls, root too.
-use mathlib.Core.Path.{_≡_, refl, sym, _∙_}
+use mathlib.Core.Path.{_≡_, refl, _∙_}
 use mathlib.Core.Option.{Option, none, some}
 use mathlib.Core.Bool.{true, false, _||_, not}
 use Prim.Native.Nat.{ℕ, suc, _+_, _/_, _≤_}
 use native.Mathlib.Omega.{arith}
 use lib.Dec.{ltb}
 use borrow.Author.Tests.{not-true, leb-true, ltb-true, ne-eqb}
-use Rattle.buffers.specs.Cases.{case, and-both, contra, neither}
+use Rattle.buffers.specs.Cases.{case, and-both, contra}
 use Rattle.buffers.specs.Text.{Text}
 use Rattle.accounts.specs.declared.Caller.{Caller}
 use Rattle.accounts.specs.declared.Uid.{Uid}
 use Rattle.accounts.specs.declared.Gid.{Gid}
 use Rattle.accounts.specs.Caller.{is-caller}
 use Rattle.syntax.specs.Number.{set-gid, is-mode}
-use Rattle.syntax.specs.Path.{Name, Path, root, _▹_, parent, last, depth, is-top, same-path, reserved, is-path, most-names}
-use Rattle.syntax.specs.PathLaws.{path-depth, last-is-name, parent-depth, not-reserved}
+use Rattle.syntax.specs.Path.{Name, Path, root, _▹_, parent, last, depth, is-top, same-path, is-path, most-names}
+use Rattle.syntax.specs.PathLaws.{path-depth, last-is-name, parent-depth}
 use Rattle.syntax.specs.Field.{is-content}
 use Rattle.commands.specs.Command.{Shell-command, create, mkdir, read, write, rm, rmdir, mv, chmod, chgrp, chown, is-shell-command}
 use Rattle.tree.specs.declared.Kind.{Kind}
 use Rattle.tree.specs.declared.Kind.the-variants.{File, Directory}
-use Rattle.tree.specs.declared.Cause.the-variants.{Access, WrongKind, NotEmpty, Reserved, Full, IntoItself, TooDeep}
+use Rattle.tree.specs.declared.Cause.the-variants.{Access, WrongKind, NotEmpty, Reserved, Full}
 use Rattle.tree.specs.Result.{Result, done, Outcome}
 use Rattle.tree.specs.Outcomes.{gives, Ensures}
-use Rattle.tree.specs.GivesLaws.{any-outcome, then-check, then-guard, then-do}
+use Rattle.tree.specs.GivesLaws.{weaker, then-check, then-do}
 use Rattle.tree.specs.Forest.{Place, get, update, put, leaf, size, height}
 use Rattle.tree.specs.Node.{is-directory, Node, set-owner, set-group, set-mode, set-content, new-node}
 use Rattle.tree.specs.Walk.{by-modes, walk, room}
 use Rattle.tree.specs.WellFormed.{nodes, is-node, is-place, is-tree}
 use Rattle.tree.specs.JudgeLaws.{file-is-none, directory-is-one}
-use Rattle.tree.specs.StepLaws.{was-sought, parent-walked}
+use Rattle.tree.specs.StepLaws.{parent-walked}
 use Rattle.tree.specs.RoomLaws.{room-found}
 use Rattle.tree.specs.PlaceLaws.{leaf-size}
 use Rattle.tree.specs.UpdateLaws.{place-at-last, walked-at, leaf-height}
@@ -36,6 +36,7 @@ use Rattle.tree.specs.NodeLaws.{new-node-fits, node-of-owner, node-of-group, no
 use Rattle.tree.specs.WellFormedLaws.{most-nodes-is, place-node, leaf-place, entered-directory, walked-place}
 use Rattle.tree.specs.ChangeLaws.{alter-at, keep-alter, keep-put, keep-drop, keep-move}
 use Rattle.shell.specs.ReplacingLaws.{both-files, same-files}
+use Rattle.shell.specs.PassedMoveLaws.{mv-passed}
 use Rattle.shell.specs.Steps.{fit, may-replace, moved, run-create, run-read, run-write, run-rm, run-mv, run-chmod, run-chgrp, run-chown, run-shell}
 
 -- a mode below 01000 is one, without set-gid
@@ -117,22 +118,13 @@ module _ (c : Caller) (m : ℕ) (t : Place Node) where
         (λ i. rw i (keep-drop _ a n (alter-at t b x (λ y. d .here) h at (node-at (a ▹ n) d e) (same-files (d .here .kind) (x .here .kind) (k .1) (k .0)))))
 
     mv-keeps : (a b : Path) → is-path b ≡ true → Keeps (run-mv c m t a b)
-    unfolding run-mv reserved most-names
-    mv-keeps root b g = then-check Reserved tt _ λ i. contra refl (sym i)
-    mv-keeps (a ▹ n) b g =
-        then-check Reserved tt _ λ i.
-        then-do _ λ d e.
-        then-do _ λ f k.
-        then-do _ λ o s.
-        then-guard (any-outcome _) λ r.
-        then-do _ λ _ _.
-        then-check Access tt _ λ _.
-        then-check Access tt _ λ _.
-        then-check IntoItself tt _ λ _.
-        then-check TooDeep tt _ λ l.
-        let to = parent-walked (by-modes (c .account)) t b k in
-        let top = not-reserved b (neither (reserved (a ▹ n)) (reserved b) i .1) in
-        gives (moved-keeps a n b d f g top e (to .0) (entered-directory (c .account) (f .here) (to .1)) (leb-true (depth b + height (d .below)) 6 l) o (was-sought (last b) (f .below) s) r)
+    unfolding is-top most-names
+    mv-keeps root b g = weaker (λ o v. contra refl (v .below-top)) (mv-passed c m t root b)
+    mv-keeps (a ▹ n) b g = weaker
+        (λ o v.
+        let to = parent-walked (by-modes (c .account)) t b (v .entered) in
+        rw (v .leaves) (moved-keeps a n b (v .place) (v .directory) g (v .target-below-top) (v .led) (to .0) (entered-directory (c .account) (v .directory .here) (to .1)) (v .low) (v .there) (v .found) (v .fitting)))
+        (mv-passed c m t (a ▹ n) b)
 
     chmod-keeps : (p : Path) (mode : ℕ) → is-mode mode ≡ true → Keeps (run-chmod c m t p mode)
     unfolding run-chmod

@@ -2,10 +2,9 @@
 -- every other one leaves it unaltered.
 use mathlib.Core.Path.{_≡_, refl, sym, _∙_, ap}
 use mathlib.Core.Option.{Option, none, some}
-use mathlib.Core.Bool.{Bool, true, false, _&&_, _||_, not, or-true}
+use mathlib.Core.Bool.{Bool, true, false, _&&_, _||_, not}
 use mathlib.Core.Logic.{_⊎_, inl, inr, ⊎-elim}
 use Prim.Native.Nat.{ℕ}
-use borrow.Author.Tests.{not-true}
 use Rattle.buffers.specs.Cases.{case, contra}
 use Rattle.buffers.specs.Text.{Text}
 use Rattle.accounts.specs.declared.Caller.{Caller}
@@ -23,7 +22,7 @@ use Rattle.syntax.specs.FormLaws.{answered}
 use Rattle.commands.specs.Command.{Shell-command, create, mkdir, read, write, rm, rmdir, mv, chmod, chgrp, chown, shell, some-path}
 use Rattle.tree.specs.declared.Kind.{Kind}
 use Rattle.tree.specs.declared.Kind.the-variants.{File, Directory}
-use Rattle.tree.specs.declared.Cause.the-variants.{Access, Exists, WrongKind, NotEmpty, Reserved, Full, IntoItself, TooDeep}
+use Rattle.tree.specs.declared.Cause.the-variants.{Access, Exists, WrongKind, NotEmpty, Reserved, Full}
 use Rattle.tree.specs.Result.{Result, refused, done, _>>=_}
 use Rattle.tree.specs.Outcomes.{gives, Ensures}
 use Rattle.tree.specs.GivesLaws.{any-outcome, weaker, then-step, then-check, then-guard, then-do}
@@ -34,10 +33,11 @@ use Rattle.tree.specs.WellFormed.{is-tree}
 use Rattle.tree.specs.WellFormedLaws.{place-parts, walked-place}
 use Rattle.tree.specs.ResultLaws.{done-then, refused-bind, require-true}
 use Rattle.tree.specs.JudgeLaws.{directory-not-file, allows-is, kind-by-modes, passes-by-modes, room-by-modes, owns-is}
-use Rattle.tree.specs.StepLaws.{was-unused, was-sought, walks-on, parent-walked}
+use Rattle.tree.specs.StepLaws.{was-unused, walks-on, parent-walked}
 use Rattle.tree.specs.UpdateLaws.{place-at-child, walked-at}
 use Rattle.tree.specs.OtherPathLaws.{alter-keeps, put-keeps, drop-empty-keeps, drop-gone, move-keeps, move-carries, walk-outside, walk-shut, parent-walk-shut}
 use Rattle.shell.specs.ReplacingLaws.{both-files, no-same}
+use Rattle.shell.specs.PassedMoveLaws.{mv-passed}
 use Rattle.shell.specs.Steps.{may-replace, moved, run-create, run-read, run-write, run-rm, run-mv, run-chmod, run-chgrp, run-chown, run-shell}
 use Rattle.shell.specs.Privacy.{Private, Writes, Unaltered, in-place, moved-along, taken-out, walks-first}
 
@@ -224,21 +224,12 @@ module _ (c : Caller) (m : ℕ) (t : Place Node) (p : Path) (d : Place Node) (th
         (λ z. rw z (in-place (replaced-private q n x e r k y w i b (walks-on j t r k (l .0) (l .1) found) (files .0) (files .1) (sym (apart-below (q ▹ n) (r ▹ k) z) ∙ o))))
 
     mv-private : (a b : Path) → Ensures (λ o. Unaltered (c .account) t d p (shell (mv a b)) (o .state)) (run-mv c m t a b)
-    unfolding run-mv reserved parent last
-    mv-private root b = then-check Reserved tt _ λ i. contra i refl
-    mv-private (q ▹ n) root = then-check Reserved tt _ λ i. contra i (ap not (or-true (reserved (q ▹ n))))
-    mv-private (q ▹ n) (r ▹ k) =
-        then-check Reserved tt _ λ _.
-        then-do (walk (by-modes (c .account)) t (q ▹ n)) λ x w.
-        then-do (parent-walk (by-modes (c .account)) t (r ▹ k)) λ f s.
-        then-do _ λ z y.
-        then-guard (any-outcome _) λ u.
-        then-do (walk (by-modes (c .account)) t q) λ e i.
-        then-check Access tt _ λ b.
-        then-check Access tt _ λ g.
-        then-check IntoItself tt _ λ o.
-        then-check TooDeep tt _ λ _.
-        gives (moved-private q n x e r k f w i b s g (not-true (lies-below (q ▹ n) (r ▹ k)) o) z (was-sought k (f .below) y) u)
+    unfolding is-top parent last
+    mv-private root b = weaker (λ o z. contra refl (z .below-top)) (mv-passed c m t root b)
+    mv-private (q ▹ n) root = weaker (λ o z. contra refl (z .target-below-top)) (mv-passed c m t (q ▹ n) root)
+    mv-private (q ▹ n) (r ▹ k) = weaker
+        (λ o z. rw (z .leaves) (moved-private q n (z .place) (z .over) r k (z .directory) (z .led) (z .over-led) (z .over-writable) (z .entered) (z .writable) (z .outside) (z .there) (z .found) (z .fitting)))
+        (mv-passed c m t (q ▹ n) (r ▹ k))
 
     chmod-private : (q : Path) (mode : ℕ) → Ensures (λ o. place-at (o .state) p ≡ some d) (run-chmod c m t q mode)
     unfolding run-chmod
