@@ -93,7 +93,7 @@ module _ (c : Caller) (m : ℕ) (t : Place Node) where
       let j = by-modes (c .account) in
       sym (place-at-last t b (v .directory) (v .target-below-top) (walked-at t j (parent b) (v .directory) (parent-walked j t b (v .entered) .0)) ∙ v .found)
 
-  -- onto what stands at another path it replaces a file by a file
+  -- a done `mv` onto what stands at another path replaces a file by a file
   pub replaced : (a b : Path) (o : Outcome (Place Node)) (d g : Place Node) → is-tree t ≡ true → run-mv c m t a b ≡ done o
       → place-at t a ≡ some d → place-at t b ≡ some g → same-path a b ≡ false → Replaced t a b d g (o .state)
   unfolding moved parent last is-top
@@ -105,7 +105,7 @@ module _ (c : Caller) (m : ℕ) (t : Place Node) where
       let files = both-files (d .here .kind) g (rw (same, found) at (v .fitting)) in
       rw (v .leaves, same, found) (rw off (replaces t q n b d g whole here there off (files .1) (files .0)))
 
-  -- and onto itself it leaves the tree as it was
+  -- and one onto itself leaves the tree as it was
   pub stays : (a : Path) (o : Outcome (Place Node)) → run-mv c m t a a ≡ done o → o .state ≡ t
   unfolding moved
   stays a o e =
