@@ -7,7 +7,7 @@ use native.Mathlib.Omega.{arith}
 use lib.Dec.{eqb}
 use lib.ListN.{length, getD, take, drop, replicate, length-append, length-replicate, length-take}
 use lib.Seq.{take-at, drop-at, getD-at, getD-take, getD-drop, drop-cons, drop-drop, take-take}
-use borrow.Author.Tests.{not-true, eq-eqb, ne-eqb}
+use borrow.Author.Tests.{not-true, eqb-true, eqb-false, eq-eqb, ne-eqb}
 use Rattle.buffers.specs.Cases.{case, and-both}
 use Rattle.buffers.specs.Text.{Text, every, lacks}
 use Rattle.buffers.specs.Fields.{two-bytes, number-at, padded, unpadded, text-at}
@@ -102,6 +102,20 @@ part-of-take (suc k) w zero l h = let z : ⊥ = omega arith in absurd z
 part-of-take (suc k) w (suc n) [] h = refl
 part-of-take (suc k) w (suc n) (x ∷ l) h = part-of-take k w n l (omega arith)
 
+-- a byte of a text is that of its field, and so is the zero behind the last
+unpadded-byte : (l : List ℕ) (k : ℕ) → k ≤ length (unpadded l) → getD (unpadded l) k 0 ≡ getD l k 0
+unfolding unpadded
+unpadded-byte [] k h = refl
+unpadded-byte (x ∷ l) zero h = case (eqb x 0) (λ e. rw e (sym (eqb-true x 0 e))) (λ e. rw e)
+unpadded-byte (x ∷ l) (suc k) h = case (eqb x 0) (λ e. let z : suc k ≤ 0 = rw e at h in absurd (omega arith)) (λ e. rw e (unpadded-byte l k (omega (arith, rw e at h))))
+
+-- no byte of a text is zero
+unpadded-nonzero : (l : List ℕ) (k : ℕ) → k < length (unpadded l) → getD (unpadded l) k 0 ≡ 0 → ⊥
+unfolding unpadded
+unpadded-nonzero [] k h = absurd (omega arith)
+unpadded-nonzero (x ∷ l) zero h = case (eqb x 0) (λ e. let z : 0 < 0 = rw e at h in absurd (omega arith)) (λ e. rw e (eqb-false x 0 e))
+unpadded-nonzero (x ∷ l) (suc k) h = case (eqb x 0) (λ e. let z : suc k < 0 = rw e at h in absurd (omega arith)) (λ e. rw e (unpadded-nonzero l k (omega (arith, rw e at h))))
+
 -- ---- a value of n bytes that stands from o on
 
 module _ (b : List ℕ) (o n : ℕ) where
@@ -122,3 +136,16 @@ module _ (b : List ℕ) (o n : ℕ) where
   pub text-there : (k w : ℕ) → k + w ≤ n → text-at k w value ≡ text-at (o + k) w b
   unfolding text-at
   text-there k w h = ap unpadded (part-of-take k w n (drop o b) h ∙ ap (take w) (drop-drop k o b))
+
+-- ---- a text byte by byte
+
+module _ (s : List ℕ) (at w k : ℕ) where
+  -- a byte of a text stands in its field, and so does the zero behind the last, where the field goes on
+  pub text-byte : k < w → k ≤ length (text-at at w s) → getD (text-at at w s) k 0 ≡ getD s (at + k) 0
+  unfolding text-at
+  text-byte h l = unpadded-byte (take w (drop at s)) k l ∙ byte-there s at w k (at + k) h refl
+
+  -- no byte of a text is zero
+  pub text-nonzero : k < length (text-at at w s) → getD (text-at at w s) k 0 ≡ 0 → ⊥
+  unfolding text-at
+  text-nonzero h = unpadded-nonzero (take w (drop at s)) k h

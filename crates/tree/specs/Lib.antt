@@ -37,12 +37,16 @@ pub mod RowPlaces
 pub mod RowPlacesLaws
 pub mod RowChangesLaws
 pub mod RowScanLaws
+pub mod Search
+pub mod ComparedLaws
 pub mod Encoding
 pub mod RowBytesLaws
 pub mod EncodingLaws
 pub mod RowAt
 pub mod TreeBytes
 pub mod RowAtLaws
+pub mod SearchLaws
+pub mod TriedLaws
 pub mod TreeBytesLaws
 pub mod AlterLaws
 pub mod TagBytesLaws

@@ -28,6 +28,8 @@ use Rattle.tree.specs.RowPlaces.{index-of, Around, lesser}
 use Rattle.tree.specs.RowPlacesLaws.{around}
 use Rattle.tree.specs.RowChangesLaws.{tree-sorted}
 use Rattle.tree.specs.RowScanLaws.{row-of-place, depth-of-place, index-bound, subtree-span, child-in-rows, no-child-in-rows, missing-not-found}
+use Rattle.tree.specs.Search.{steps-in, tried}
+use Rattle.tree.specs.TriedLaws.{steps-are}
 use Rattle.tree.specs.Encoding.{Tag-told, row-bytes, encode-rows, encode-tree}
 use Rattle.tree.specs.RowBytesLaws.{tag-in-bytes}
 use Rattle.tree.specs.EncodingLaws.{fits, fits-parts, tree-fits, length-fitting, length-encode-tree}
@@ -155,6 +157,10 @@ module _ {b : List ℕ} {t : Place Node} {p : Path} {i : ℕ} {d : Place Node} (
     -- one that is not there would stand behind the lesser ones
     pub at-no-child : get n (d .below) ≡ none → child-in (all-rows b) i n ≡ Missing (suc (i + size (lesser n (d .below))))
     at-no-child g = rw (encoded-rows (a .tree), a .row) (no-child-in-rows stands n g)
+
+    -- the steps of the search are those of the children tried
+    pub at-steps : steps-in (all-rows b) i n ≡ tried n (d .below)
+    at-steps = rw (encoded-rows (a .tree), a .row) (steps-are stands n)
 
     -- what is found is a child
     pub at-found : {j : ℕ} → Found j ≡ child-in (all-rows b) i n → (c : Place Node) × (get n (d .below) ≡ some c) × At b t (p ▹ n) j c

@@ -1,9 +1,12 @@
 // The file tree as rows in preorder in a lent buffer of 58,114 bytes; docs/FORMAT.md has the layout.
+mod children;
 mod kinds;
 mod layout;
 mod rows;
 mod scan;
 
+pub use children::find_child;
+pub use children::search_child;
 pub use kinds::is_directory;
 pub use layout::BEHIND_NAME;
 pub use layout::CONTENT;
@@ -40,7 +43,6 @@ pub use rows::owner_at;
 pub use rows::revision_at;
 pub use rows::tag_path_at;
 pub use rows::tag_revision_at;
-pub use scan::find_child;
 pub use scan::subtree_end;
 
 // What a node is.
@@ -77,4 +79,10 @@ pub enum Cause {
 pub enum Child {
     Found(usize),
     Missing(usize),
+}
+
+// What a search for a child found, and its steps: the bytes of names that it compared.
+pub struct Search {
+    pub child: Child,
+    pub steps: usize,
 }
