@@ -1,4 +1,4 @@
-//! Links the proved library: from PATTERNS_LIB_DIR, else from the repository's target/staticlib.
+//! Links the proved libraries: from PATTERNS_LIB_DIR, else from the repository's target/staticlib.
 
 use std::env;
 use std::path::Path;
@@ -9,7 +9,9 @@ fn main() {
         let here = env::var("CARGO_MANIFEST_DIR").expect("cargo names the package's directory");
         Path::new(&here).join("../../target/staticlib").display().to_string()
     });
-    println!("cargo:rerun-if-changed={dir}/libexports.a");
     println!("cargo:rustc-link-search=native={dir}");
-    println!("cargo:rustc-link-lib=static=exports");
+    for library in ["exports", "search_export"] {
+        println!("cargo:rerun-if-changed={dir}/lib{library}.a");
+        println!("cargo:rustc-link-lib=static={library}");
+    }
 }

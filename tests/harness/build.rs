@@ -1,4 +1,4 @@
-//! Says where the library lies: PATTERNS_LIB_DIR, or the repository's own place for it.
+//! Says where the libraries lie: PATTERNS_LIB_DIR, or the repository's own place for them.
 
 use std::path::PathBuf;
 
@@ -9,7 +9,9 @@ fn main() {
         Ok(named) => PathBuf::from(named),
         Err(_) => here.join("../../target/staticlib"),
     };
-    println!("cargo:rerun-if-changed={}", place.join("libexports.a").display());
     println!("cargo:rustc-link-search=native={}", place.display());
-    println!("cargo:rustc-link-lib=static=exports");
+    for library in ["exports", "search_export"] {
+        println!("cargo:rerun-if-changed={}", place.join(format!("lib{library}.a")).display());
+        println!("cargo:rustc-link-lib=static={library}");
+    }
 }

@@ -50,16 +50,20 @@ pub fn search_child(tree: &[u8], at: usize, name: &[u8]) -> Search
         'bytes: while k < name.len() {
             let a = name_byte(tree, i, k);
             let b = name[k];
-            if a == b && a != 0 {
-                k += 1;
-                continue 'bytes;
+            if a != b {
+                steps += k + 1;
+                if b < a {
+                    break 'children;
+                }
+                i += 1;
+                continue 'children;
             }
-            steps += k + 1;
-            if b < a {
-                break 'children;
+            if a == 0 {
+                steps += k + 1;
+                i += 1;
+                continue 'children;
             }
-            i += 1;
-            continue 'children;
+            k += 1;
         }
         steps += k + 1;
         if name_byte(tree, i, k) == 0 {

@@ -59,7 +59,7 @@ fn row(name: &str, nodes: usize, times: Times, first: Times, slow: bool) {
 }
 
 /// What timing nothing takes.
-fn overhead() -> f64 {
+pub fn overhead() -> f64 {
     let least = (0..2000).map(|_| Instant::now().elapsed()).min().unwrap_or_default();
     least.as_nanos() as f64
 }
@@ -97,4 +97,19 @@ fn call_library(case: &Case, store: &mut [u8], into: &mut [u8]) -> u32 {
         Call::LastLine => library::listing(store, nodes(store) - 1, into),
     }
     .number
+}
+
+/// The least nanoseconds of two calls that leave what they work on as it was, in turns.
+pub fn least(mut ours: impl FnMut() -> u64, mut theirs: impl FnMut() -> u64) -> (f64, f64) {
+    let timed = |call: &mut dyn FnMut() -> u64| {
+        let start = Instant::now();
+        std::hint::black_box(call());
+        start.elapsed().as_nanos() as f64
+    };
+    let mut best = (f64::MAX, f64::MAX);
+    for _ in 0..20 * BATCHES {
+        best.0 = best.0.min(timed(&mut ours));
+        best.1 = best.1.min(timed(&mut theirs));
+    }
+    best
 }

@@ -127,7 +127,8 @@ pub fn nodes(store: &[u8]) -> usize {
     u16::from_le_bytes([store[7422], store[7423]]).into()
 }
 
-fn do_line(store: &mut [u8], line: &str) {
+/// A line that must be done.
+pub fn do_line(store: &mut [u8], line: &str) {
     let answer = plain::run(store, line.as_bytes(), &mut [0; ANSWER]);
     assert_eq!(answer.number, 0, "{line}");
 }

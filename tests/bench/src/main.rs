@@ -2,6 +2,7 @@
 //!
 //!     bench agree [--seed S] [--lines N]     random setups and lines through both
 //!     bench bench                            nanoseconds a call
+//!     bench searches                         nanoseconds of the search for a child
 //!     bench program < input                  the program by plain Rust, for tests/vectors
 
 mod agree;
@@ -12,6 +13,9 @@ mod library;
 mod plain;
 mod program;
 mod random;
+#[path = "../../search.rs"]
+mod search;
+mod searches;
 
 use std::process::ExitCode;
 
@@ -31,12 +35,16 @@ fn main() -> ExitCode {
             bench::bench();
             ExitCode::SUCCESS
         }
+        Some("searches") => {
+            searches::searches();
+            ExitCode::SUCCESS
+        }
         Some("program") => {
             program::program();
             ExitCode::SUCCESS
         }
         _ => {
-            eprintln!("usage: bench agree [--seed S] [--lines N] | bench bench | bench program");
+            eprintln!("usage: bench agree [--seed S] [--lines N] | bench bench | bench searches | bench program");
             ExitCode::FAILURE
         }
     }

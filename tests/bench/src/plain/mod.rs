@@ -7,6 +7,7 @@ mod listing;
 mod number;
 mod repository;
 mod rows;
+mod search;
 mod setup;
 mod shell;
 mod sound;
@@ -17,6 +18,7 @@ pub use crate::library::{Answer, NO_VALUE};
 use number::{Number, NO_FORM, SHORT_ANSWER, UNKNOWN_CALLER, UNSOUND};
 use rows::Store;
 pub use rows::CONTENT_LIMIT;
+pub use search::search;
 
 pub const STORE: usize = 65536;
 pub const ANSWER: usize = 4096;

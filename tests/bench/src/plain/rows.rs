@@ -60,6 +60,7 @@ pub trait Fields {
     fn mode(&self) -> u16;
     fn revision(&self) -> u16;
     fn name(&self) -> u64;
+    fn name_bytes(&self) -> &[u8; 8];
     fn tag_path(&self) -> &[u8; 49];
     fn tag_revision(&self) -> u16;
     fn content(&self) -> &[u8; CONTENT_LIMIT];
@@ -109,7 +110,10 @@ impl Fields for Row {
         u16::from_le_bytes(*part(self, 6))
     }
     fn name(&self) -> u64 {
-        u64::from_be_bytes(*part(self, 8))
+        u64::from_be_bytes(*self.name_bytes())
+    }
+    fn name_bytes(&self) -> &[u8; 8] {
+        part(self, 8)
     }
     fn tag_path(&self) -> &[u8; 49] {
         part(self, 16)

@@ -5,11 +5,8 @@ use native.Mathlib.Omega.{arith}
 use native.Mathlib.Numerals.{add-one}
 use mathlib.Core.Path.{_≡_, refl, sym, _∙_, ap}
 use mathlib.Core.List.{List}
-use mathlib.Core.Logic.{⊎-elim}
-use lib.Dec.{eqb}
 use lib.ListN.{length, getD}
 use denote.Ref.{now}
-use borrow.Author.Tests.{eqb-true, eqb-false, not-true, not-false}
 use Rattle.buffers.specs.declared.Order.{Order}
 use Rattle.buffers.specs.declared.Order.the-variants.{Before, Same, After}
 use Rattle.buffers.specs.Text.{Text}
@@ -206,15 +203,6 @@ name-byte-requires c κs = omega arith
 shared-slice-read-b : tie.Need-shared-slice-read-b Inv-bytes μ-bytes Inv-children μ-children
 shared-slice-read-b c = omega arith
 
-add-k : tie.Need-add-k Inv-bytes μ-bytes Inv-children μ-children
-add-k c = omega arith
-
-bytes-less : tie.Need-bytes-less Inv-bytes μ-bytes Inv-children μ-children
-bytes-less c = omega arith
-
-bytes-again : tie.Need-bytes-again Inv-bytes μ-bytes Inv-children μ-children
-bytes-again c = more (c .before .before .before .before .before .bytes .inv) (c .before .before .before .name-byte .ensures) refl (omega arith) (c .before .if3 .taken) (eqb-false (c .before .before .before .name-byte .result) 0 (not-true (eqb (c .before .before .before .name-byte .result) 0) (c .if4 .taken)))
-
 add-steps : tie.Need-add-steps Inv-bytes μ-bytes Inv-children μ-children
 add-steps c = omega arith
 
@@ -230,10 +218,7 @@ children-less-2 c = omega arith
 children-again-2 : tie.Need-children-again-2 Inv-bytes μ-bytes Inv-children μ-children
 children-again-2 c =
     let v = c .before .before .before .before .before .bytes .inv in
-    let a = c .before .before .before .name-byte .result in
-    let ends : a ≡ getD (now (c .before .before .before .before .before .before .before .before .before .before .before .before .before .before .before .args .name)) (c .before .before .before .before .before .bytes .k) 0 → a ≡ 0 =
-    ⊎-elim (λ w e. eqb-true a 0 (not-false (eqb a 0) (w .1 .left))) (λ w e. absurd (w .left e)) (c .before .if3 .came) in
-    let d = stands-before (v .compared) (nonzero v) (omega arith) (omega arith) (λ e. omega (arith, ends (omega arith))) in
+    let d = stands-before (v .compared) (nonzero v) (omega arith) (omega arith) (λ e. omega arith) in
     past (v .outer) (v .lt) (child-steps v d) refl (child-stands v d) (omega (arith, short v))
 
 add-steps-3 : tie.Need-add-steps-3 Inv-bytes μ-bytes Inv-children μ-children
@@ -241,6 +226,33 @@ add-steps-3 c = omega arith
 
 add-steps-4 : tie.Need-add-steps-4 Inv-bytes μ-bytes Inv-children μ-children
 add-steps-4 c = omega arith
+
+add-i-4 : tie.Need-add-i-4 Inv-bytes μ-bytes Inv-children μ-children
+add-i-4 c = omega arith
+
+children-less-3 : tie.Need-children-less-3 Inv-bytes μ-bytes Inv-children μ-children
+children-less-3 c = omega arith
+
+children-again-3 : tie.Need-children-again-3 Inv-bytes μ-bytes Inv-children μ-children
+children-again-3 c =
+    let v = c .before .before .before .before .before .bytes .inv in
+    let d = stands-before (v .compared) (nonzero v) (omega arith) (omega arith) (λ e. omega arith) in
+    past (v .outer) (v .lt) (child-steps v d) refl (child-stands v d) (omega (arith, short v))
+
+add-k : tie.Need-add-k Inv-bytes μ-bytes Inv-children μ-children
+add-k c = omega arith
+
+bytes-less : tie.Need-bytes-less Inv-bytes μ-bytes Inv-children μ-children
+bytes-less c = omega arith
+
+bytes-again : tie.Need-bytes-again Inv-bytes μ-bytes Inv-children μ-children
+bytes-again c = more (c .before .before .before .before .before .bytes .inv) (c .before .before .before .name-byte .ensures) refl (omega arith) (omega arith) (c .if5 .left)
+
+add-steps-5 : tie.Need-add-steps-5 Inv-bytes μ-bytes Inv-children μ-children
+add-steps-5 c = omega arith
+
+add-steps-6 : tie.Need-add-steps-6 Inv-bytes μ-bytes Inv-children μ-children
+add-steps-6 c = omega arith
 
 name-byte-requires-2 : tie.Need-name-byte-requires-2 Inv-bytes μ-bytes Inv-children μ-children
 name-byte-requires-2 c κs = omega arith
@@ -294,9 +306,6 @@ search-child-spec =
     bytes-holds
     name-byte-requires
     shared-slice-read-b
-    add-k
-    bytes-less
-    bytes-again
     add-steps
     add-steps-2
     add-i-3
@@ -304,6 +313,14 @@ search-child-spec =
     children-again-2
     add-steps-3
     add-steps-4
+    add-i-4
+    children-less-3
+    children-again-3
+    add-k
+    bytes-less
+    bytes-again
+    add-steps-5
+    add-steps-6
     name-byte-requires-2
     returns
     returns-2
