@@ -2,6 +2,8 @@
 ghost use mathlib.Core.Path.{_≡_};
 ghost use Prim.Native.Nat.{_≤_};
 ghost use lib.ListN.{length, getD};
+ghost use Rattle.tree.specs.declared.Child.the-variants.{Missing};
+ghost use Rattle.tree.specs.declared.Search.{Search};
 ghost use Rattle.tree.specs.RowScan.{child-in};
 ghost use Rattle.tree.specs.Search.{search-in};
 ghost use Rattle.tree.specs.RowAt.{row-at, all-rows};
@@ -27,6 +29,16 @@ fn name_byte(tree: &[u8], i: usize, k: usize) -> u8
     0
 }
 
+// No child has the name, and one would stand at that row.
+fn missing(i: usize, steps: usize) -> Search
+    ensures { λ r. ⌜ _≡_ {A = Search} r (record { child = Missing i; steps = steps }) ⌝ }
+{
+    Search {
+        child: Child::Missing(i),
+        steps,
+    }
+}
+
 // The child of a place, or where it would stand, and the steps of the search. At the first byte that differs it is done with a child: a
 // lesser one is passed, a greater one stands behind the one sought.
 pub fn search_child(tree: &[u8], at: usize, name: &[u8]) -> Search
@@ -36,48 +48,41 @@ pub fn search_child(tree: &[u8], at: usize, name: &[u8]) -> Search
     let n = count(tree);
     let depth = depth_at(tree, at) as usize + 1;
     let mut steps: usize = 0;
-    let mut i = at + 1;
-    'children: while i < n {
+    'children: for i in at + 1..n {
         let d = depth_at(tree, i) as usize;
         if d < depth {
-            break 'children;
+            return missing(i, steps);
         }
         if depth < d {
-            i += 1;
             continue 'children;
         }
         let mut k: usize = 0;
-        'bytes: while k < name.len() {
+        'bytes: loop {
             let a = name_byte(tree, i, k);
+            steps += 1;
+            if k == name.len() {
+                if a == 0 {
+                    return Search {
+                        child: Child::Found(i),
+                        steps,
+                    };
+                }
+                return missing(i, steps);
+            }
             let b = name[k];
             if a != b {
-                steps += k + 1;
                 if b < a {
-                    break 'children;
+                    return missing(i, steps);
                 }
-                i += 1;
                 continue 'children;
             }
             if a == 0 {
-                steps += k + 1;
-                i += 1;
                 continue 'children;
             }
             k += 1;
         }
-        steps += k + 1;
-        if name_byte(tree, i, k) == 0 {
-            return Search {
-                child: Child::Found(i),
-                steps,
-            };
-        }
-        break 'children;
     }
-    Search {
-        child: Child::Missing(i),
-        steps,
-    }
+    missing(n, steps)
 }
 
 // The child of a place, or where it would stand.

@@ -82,10 +82,11 @@ module _ {tree : List ℕ} {at : ℕ} {name : Text} {n depth steps i : ℕ} (g :
     finds e = whole tree at name (child-turns h e q) (f ∙ steps-turn h e q)
 
   -- behind the last row
-  over : n ≤ i → _≡_ {A = Search} (record { child = Missing i; steps = steps }) (search-in (all-rows tree) at name)
+  over : n ≤ i → _≡_ {A = Search} (record { child = Missing n; steps = steps }) (search-in (all-rows tree) at name)
   over h =
+      let e : n ≡ i = omega (arith, g .le) in
       whole tree at name
-      (sym (child-left-end tree depth name i (omega (arith, g .all))) ∙ g .goes)
+      (ap Missing e ∙ sym (child-left-end tree depth name i (omega (arith, g .all))) ∙ g .goes)
       (omega (arith, g .sums, steps-left-end tree depth name i (omega (arith, g .all))))
 
 -- behind the row of the place all of the search is left
@@ -101,50 +102,67 @@ starts tree at name {n} {depth} h e all few =
       sums = rw add-one (omega (arith, steps-left-all tree at depth name h e));
     }
 
--- at a child's row the first k bytes of its name are alike
-record Inner (tree : List ℕ) (at : ℕ) (name : Text) (n depth i₀ steps i k : ℕ) : Type 0 where
+-- at a child's row the first k bytes of its name are alike, each a step
+record Inner (tree : List ℕ) (at : ℕ) (name : Text) (n depth steps₀ i₀ steps i k : ℕ) : Type 0 where
   same : i ≡ i₀
   lt : i < n
   row : Has-row tree i
   level : row-at tree i .depth ≡ depth
+  counted : steps ≡ steps₀ + k
   compared : Compared (row-at tree i .name) name k
-  outer : Going tree at name n depth steps i
+  outer : Going tree at name n depth steps₀ i
 
 begins : {tree : List ℕ} {at : ℕ} {name : Text} {n depth steps i : ℕ} → Going tree at name n depth steps i → i < n → Has-row tree i → row-at tree i .depth ≡ depth
-    → Inner tree at name n depth i steps i 0
+    → Inner tree at name n depth steps i steps i 0
 begins {tree} {name = name} {i = i} g h r e =
-    record { same = refl; lt = h; row = r; level = e; compared = compared-none (row-at tree i .name) name; outer = g }
+    record { same = refl; lt = h; row = r; level = e; counted = omega arith; compared = compared-none (row-at tree i .name) name; outer = g }
 
-module _ {tree : List ℕ} {at : ℕ} {name : Text} {n depth i₀ steps i k : ℕ} (v : Inner tree at name n depth i₀ steps i k) where
+module _ {tree : List ℕ} {at : ℕ} {name : Text} {n depth steps₀ i₀ steps i k : ℕ} (v : Inner tree at name n depth steps₀ i₀ steps i k) where
   nonzero : k < length (row-at tree i .name) → getD (row-at tree i .name) k 0 ≡ 0 → ⊥
   nonzero h = name-nonzero tree i k h
 
   short : k ≤ name-width
   short = omega (arith, v .compared .in-first, row-name-fits tree i)
 
+  few-steps : steps ≤ suc name-width * most-rows + name-width
+  few-steps = omega (arith, v .counted, v .outer .small, v .outer .few, v .lt, short)
+
   -- one byte more is alike
   more : {a b : ℕ} → a ≡ getD (row-at tree i .name) k 0 → b ≡ getD name k 0 → k < length name → a ≡ b → (a ≡ 0 → ⊥)
-      → Inner tree at name n depth i₀ steps i (k + 1)
+      → Inner tree at name n depth steps₀ i₀ (steps + 1) i (k + 1)
   more p q l e z =
       record {
         same = v .same;
         lt = v .lt;
         row = v .row;
         level = v .level;
+        counted = omega (arith, v .counted);
         compared = one-more (v .compared) nonzero l (omega arith) (λ y. z (omega arith));
         outer = v .outer;
       }
 
-  -- where the next byte has decided, the row stands as the names do, and takes a step for it
+  -- where the next byte decides, it is one step more, and the row stands as the names do
   module _ {o : Order} (d : Decided (row-at tree i .name) name k o) where
-    child-stands : order-in depth name (row-at tree i) ≡ o
-    child-stands = order-beside depth name (row-at tree i) (v .level) ∙ d .order
-
     child-steps : steps-at depth name (row-at tree i) ≡ k + 1
     child-steps = steps-beside depth name (row-at tree i) (v .level) ∙ omega (arith, d .count)
 
+    child-order : order-in depth name (row-at tree i) ≡ o
+    child-order = order-beside depth name (row-at tree i) (v .level) ∙ d .order
+
+    one-step : steps + 1 ≡ steps₀ + (k + 1)
+    one-step = omega (arith, v .counted)
+
+  passed : Decided (row-at tree i .name) name k Before → Going tree at name n depth (steps + 1) (i + 1)
+  passed d = past (v .outer) (v .lt) (child-steps d) (one-step d) (child-order d) (omega (arith, short))
+
+  found : Decided (row-at tree i .name) name k Same → _≡_ {A = Search} (record { child = Found i; steps = steps + 1 }) (search-in (all-rows tree) at name)
+  found d = finds (v .outer) (v .lt) (child-steps d) (one-step d) (child-order d)
+
+  stopped : Decided (row-at tree i .name) name k After → _≡_ {A = Search} (record { child = Missing i; steps = steps + 1 }) (search-in (all-rows tree) at name)
+  stopped d = stops (v .outer) (v .lt) (child-steps d) (one-step d) (child-order d)
+
 abbrev Inv-bytes : tie.InvT-bytes
-Inv-bytes tree at name n depth steps₀ i₀ d k₀ steps i k = Inner tree at name n depth i₀ steps i k
+Inv-bytes tree at name n depth steps₀ i₀ d k₀ steps i k = Inner tree at name n depth steps₀ i₀ steps i k
 
 abbrev μ-bytes : tie.MeasureT-bytes
 μ-bytes tree at name n depth steps₀ i₀ d k₀ steps i k = length name - k
@@ -181,6 +199,15 @@ depth-at-requires-2 c κs = omega arith
 cast-d : tie.Need-cast-d Inv-bytes μ-bytes Inv-children μ-children
 cast-d c = omega arith
 
+missing-requires : tie.Need-missing-requires Inv-bytes μ-bytes Inv-children μ-children
+missing-requires c κs = omega arith
+
+returns : tie.Need-returns Inv-bytes μ-bytes Inv-children μ-children
+returns c =
+    let a = c .before .before .before .before .before .before .before .before .before .args in
+    let r = row-at (now (a .tree)) (c .before .before .before .before .children .i) in
+    c .missing .ensures ∙ stops (c .before .before .before .before .children .inv) (omega arith) (steps-aside _ (now (a .name)) r (λ e. omega arith)) (omega arith) (order-above _ (now (a .name)) r (omega arith))
+
 add-i-2 : tie.Need-add-i-2 Inv-bytes μ-bytes Inv-children μ-children
 add-i-2 c = omega arith
 
@@ -190,9 +217,8 @@ children-less c = omega arith
 children-again : tie.Need-children-again Inv-bytes μ-bytes Inv-children μ-children
 children-again c =
     let a = c .before .before .before .before .before .before .before .before .before .args in
-    let g = c .before .before .before .before .children .inv in
     let r = row-at (now (a .tree)) (c .before .before .before .before .children .i) in
-    past g (omega arith) (steps-aside _ (now (a .name)) r (λ e. omega arith)) (omega arith) (order-below _ (now (a .name)) r (omega arith)) (omega arith)
+    past (c .before .before .before .before .children .inv) (omega arith) (steps-aside _ (now (a .name)) r (λ e. omega arith)) (omega arith) (order-below _ (now (a .name)) r (omega arith)) (omega arith)
 
 bytes-holds : tie.Need-bytes-holds Inv-bytes μ-bytes Inv-children μ-children
 bytes-holds c = begins (c .before .before .before .before .children .inv) (omega arith) (record { room = omega arith }) (omega arith)
@@ -200,14 +226,26 @@ bytes-holds c = begins (c .before .before .before .before .children .inv) (omega
 name-byte-requires : tie.Need-name-byte-requires Inv-bytes μ-bytes Inv-children μ-children
 name-byte-requires c κs = omega arith
 
+add-steps : tie.Need-add-steps Inv-bytes μ-bytes Inv-children μ-children
+add-steps c = omega (arith, few-steps (c .before .bytes .inv))
+
+returns-2 : tie.Need-returns-2 Inv-bytes μ-bytes Inv-children μ-children
+returns-2 c = let v = c .before .before .before .bytes .inv in found v (both-end (v .compared) (nonzero v) (omega arith) (omega arith))
+
+missing-requires-2 : tie.Need-missing-requires-2 Inv-bytes μ-bytes Inv-children μ-children
+missing-requires-2 c κs = omega arith
+
+returns-3 : tie.Need-returns-3 Inv-bytes μ-bytes Inv-children μ-children
+returns-3 c = let v = c .before .before .before .before .bytes .inv in c .missing2 .ensures ∙ stopped v (second-ends (v .compared) (nonzero v) (omega arith) (λ z. omega arith))
+
 shared-slice-read-b : tie.Need-shared-slice-read-b Inv-bytes μ-bytes Inv-children μ-children
 shared-slice-read-b c = omega arith
 
-add-steps : tie.Need-add-steps Inv-bytes μ-bytes Inv-children μ-children
-add-steps c = omega arith
+missing-requires-3 : tie.Need-missing-requires-3 Inv-bytes μ-bytes Inv-children μ-children
+missing-requires-3 c κs = omega arith
 
-add-steps-2 : tie.Need-add-steps-2 Inv-bytes μ-bytes Inv-children μ-children
-add-steps-2 c = omega arith
+returns-4 : tie.Need-returns-4 Inv-bytes μ-bytes Inv-children μ-children
+returns-4 c = let v = c .before .before .before .before .before .before .bytes .inv in c .missing3 .ensures ∙ stopped v (stands-after (v .compared) (nonzero v) (omega arith) (omega arith))
 
 add-i-3 : tie.Need-add-i-3 Inv-bytes μ-bytes Inv-children μ-children
 add-i-3 c = omega arith
@@ -216,16 +254,7 @@ children-less-2 : tie.Need-children-less-2 Inv-bytes μ-bytes Inv-children μ-ch
 children-less-2 c = omega arith
 
 children-again-2 : tie.Need-children-again-2 Inv-bytes μ-bytes Inv-children μ-children
-children-again-2 c =
-    let v = c .before .before .before .before .before .bytes .inv in
-    let d = stands-before (v .compared) (nonzero v) (omega arith) (omega arith) (λ e. omega arith) in
-    past (v .outer) (v .lt) (child-steps v d) refl (child-stands v d) (omega (arith, short v))
-
-add-steps-3 : tie.Need-add-steps-3 Inv-bytes μ-bytes Inv-children μ-children
-add-steps-3 c = omega arith
-
-add-steps-4 : tie.Need-add-steps-4 Inv-bytes μ-bytes Inv-children μ-children
-add-steps-4 c = omega arith
+children-again-2 c = let v = c .before .before .before .before .before .bytes .inv in passed v (stands-before (v .compared) (nonzero v) (omega arith) (omega arith) (λ e. omega arith))
 
 add-i-4 : tie.Need-add-i-4 Inv-bytes μ-bytes Inv-children μ-children
 add-i-4 c = omega arith
@@ -234,10 +263,7 @@ children-less-3 : tie.Need-children-less-3 Inv-bytes μ-bytes Inv-children μ-ch
 children-less-3 c = omega arith
 
 children-again-3 : tie.Need-children-again-3 Inv-bytes μ-bytes Inv-children μ-children
-children-again-3 c =
-    let v = c .before .before .before .before .before .bytes .inv in
-    let d = stands-before (v .compared) (nonzero v) (omega arith) (omega arith) (λ e. omega arith) in
-    past (v .outer) (v .lt) (child-steps v d) refl (child-stands v d) (omega (arith, short v))
+children-again-3 c = let v = c .before .before .before .before .before .bytes .inv in passed v (stands-before (v .compared) (nonzero v) (omega arith) (omega arith) (λ e. omega arith))
 
 add-k : tie.Need-add-k Inv-bytes μ-bytes Inv-children μ-children
 add-k c = omega arith
@@ -246,43 +272,13 @@ bytes-less : tie.Need-bytes-less Inv-bytes μ-bytes Inv-children μ-children
 bytes-less c = omega arith
 
 bytes-again : tie.Need-bytes-again Inv-bytes μ-bytes Inv-children μ-children
-bytes-again c = more (c .before .before .before .before .before .bytes .inv) (c .before .before .before .name-byte .ensures) refl (omega arith) (omega arith) (c .if5 .left)
+bytes-again c = more (c .before .before .before .before .before .bytes .inv) (c .before .before .before .before .name-byte .ensures) refl (omega arith) (omega arith) (c .if7 .left)
 
-add-steps-5 : tie.Need-add-steps-5 Inv-bytes μ-bytes Inv-children μ-children
-add-steps-5 c = omega arith
-
-add-steps-6 : tie.Need-add-steps-6 Inv-bytes μ-bytes Inv-children μ-children
-add-steps-6 c = omega arith
-
-name-byte-requires-2 : tie.Need-name-byte-requires-2 Inv-bytes μ-bytes Inv-children μ-children
-name-byte-requires-2 c κs = omega arith
-
-returns : tie.Need-returns Inv-bytes μ-bytes Inv-children μ-children
-returns c =
-    let v = c .before .before .before .bytes .inv in
-    let d = both-end (v .compared) (nonzero v) (omega arith) (omega arith) in
-    finds (v .outer) (v .lt) (child-steps v d) refl (child-stands v d)
-
-returns-2 : tie.Need-returns-2 Inv-bytes μ-bytes Inv-children μ-children
-returns-2 c = over (c .before .children .inv) (omega arith)
-
-returns-3 : tie.Need-returns-3 Inv-bytes μ-bytes Inv-children μ-children
-returns-3 c =
-    let a = c .before .before .before .before .before .before .before .before .args in
-    let r = row-at (now (a .tree)) (c .before .before .before .children .i) in
-    stops (c .before .before .before .children .inv) (omega arith) (steps-aside _ (now (a .name)) r (λ e. omega arith)) (omega arith) (order-above _ (now (a .name)) r (omega arith))
-
-returns-4 : tie.Need-returns-4 Inv-bytes μ-bytes Inv-children μ-children
-returns-4 c =
-    let v = c .before .before .before .before .before .bytes .inv in
-    let d = stands-after (v .compared) (nonzero v) (omega arith) (omega arith) in
-    stops (v .outer) (v .lt) (child-steps v d) refl (child-stands v d)
+missing-requires-4 : tie.Need-missing-requires-4 Inv-bytes μ-bytes Inv-children μ-children
+missing-requires-4 c κs = omega arith
 
 returns-5 : tie.Need-returns-5 Inv-bytes μ-bytes Inv-children μ-children
-returns-5 c =
-    let v = c .before .before .before .bytes .inv in
-    let d = second-ends (v .compared) (nonzero v) (omega arith) (λ z. omega arith) in
-    stops (v .outer) (v .lt) (child-steps v d) refl (child-stands v d)
+returns-5 c = c .missing4 .ensures ∙ over (c .before .before .children .inv) (omega arith)
 
 pub search-child-spec : {M : Type 1} → statement M
 search-child-spec =
@@ -300,30 +296,28 @@ search-child-spec =
     children-holds
     depth-at-requires-2
     cast-d
+    missing-requires
+    returns
     add-i-2
     children-less
     children-again
     bytes-holds
     name-byte-requires
-    shared-slice-read-b
     add-steps
-    add-steps-2
+    returns-2
+    missing-requires-2
+    returns-3
+    shared-slice-read-b
+    missing-requires-3
+    returns-4
     add-i-3
     children-less-2
     children-again-2
-    add-steps-3
-    add-steps-4
     add-i-4
     children-less-3
     children-again-3
     add-k
     bytes-less
     bytes-again
-    add-steps-5
-    add-steps-6
-    name-byte-requires-2
-    returns
-    returns-2
-    returns-3
-    returns-4
+    missing-requires-4
     returns-5)
