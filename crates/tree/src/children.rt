@@ -57,30 +57,29 @@ pub fn search_child(tree: &[u8], at: usize, name: &[u8]) -> Search
             continue 'children;
         }
         let mut k: usize = 0;
-        'bytes: loop {
+        'bytes: while k < name.len() {
             let a = name_byte(tree, i, k);
-            steps += 1;
-            if k == name.len() {
-                if a == 0 {
-                    return Search {
-                        child: Child::Found(i),
-                        steps,
-                    };
-                }
-                return missing(i, steps);
-            }
             let b = name[k];
             if a != b {
+                steps += k + 1;
                 if b < a {
                     return missing(i, steps);
                 }
                 continue 'children;
             }
             if a == 0 {
+                steps += k + 1;
                 continue 'children;
             }
             k += 1;
         }
+        if name_byte(tree, i, k) == 0 {
+            return Search {
+                child: Child::Found(i),
+                steps: steps + k + 1,
+            };
+        }
+        return missing(i, steps + k + 1);
     }
     missing(n, steps)
 }

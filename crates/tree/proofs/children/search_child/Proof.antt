@@ -102,46 +102,41 @@ starts tree at name {n} {depth} h e all few =
       sums = rw add-one (omega (arith, steps-left-all tree at depth name h e));
     }
 
--- at a child's row the first k bytes of its name are alike, each a step
-record Inner (tree : List ℕ) (at : ℕ) (name : Text) (n depth steps₀ i₀ steps i k : ℕ) : Type 0 where
+-- at a child's row the first k bytes of its name are alike
+record Inner (tree : List ℕ) (at : ℕ) (name : Text) (n depth i₀ steps i k : ℕ) : Type 0 where
   same : i ≡ i₀
   lt : i < n
   row : Has-row tree i
   level : row-at tree i .depth ≡ depth
-  counted : steps ≡ steps₀ + k
   compared : Compared (row-at tree i .name) name k
-  outer : Going tree at name n depth steps₀ i
+  outer : Going tree at name n depth steps i
 
 begins : {tree : List ℕ} {at : ℕ} {name : Text} {n depth steps i : ℕ} → Going tree at name n depth steps i → i < n → Has-row tree i → row-at tree i .depth ≡ depth
-    → Inner tree at name n depth steps i steps i 0
+    → Inner tree at name n depth i steps i 0
 begins {tree} {name = name} {i = i} g h r e =
-    record { same = refl; lt = h; row = r; level = e; counted = omega arith; compared = compared-none (row-at tree i .name) name; outer = g }
+    record { same = refl; lt = h; row = r; level = e; compared = compared-none (row-at tree i .name) name; outer = g }
 
-module _ {tree : List ℕ} {at : ℕ} {name : Text} {n depth steps₀ i₀ steps i k : ℕ} (v : Inner tree at name n depth steps₀ i₀ steps i k) where
+module _ {tree : List ℕ} {at : ℕ} {name : Text} {n depth i₀ steps i k : ℕ} (v : Inner tree at name n depth i₀ steps i k) where
   nonzero : k < length (row-at tree i .name) → getD (row-at tree i .name) k 0 ≡ 0 → ⊥
   nonzero h = name-nonzero tree i k h
 
   short : k ≤ name-width
   short = omega (arith, v .compared .in-first, row-name-fits tree i)
 
-  few-steps : steps ≤ suc name-width * most-rows + name-width
-  few-steps = omega (arith, v .counted, v .outer .small, v .outer .few, v .lt, short)
-
   -- one byte more is alike
   more : {a b : ℕ} → a ≡ getD (row-at tree i .name) k 0 → b ≡ getD name k 0 → k < length name → a ≡ b → (a ≡ 0 → ⊥)
-      → Inner tree at name n depth steps₀ i₀ (steps + 1) i (k + 1)
+      → Inner tree at name n depth i₀ steps i (k + 1)
   more p q l e z =
       record {
         same = v .same;
         lt = v .lt;
         row = v .row;
         level = v .level;
-        counted = omega (arith, v .counted);
         compared = one-more (v .compared) nonzero l (omega arith) (λ y. z (omega arith));
         outer = v .outer;
       }
 
-  -- where the next byte decides, it is one step more, and the row stands as the names do
+  -- where the next byte decides, the row stands as the names do, and takes a step for it
   module _ {o : Order} (d : Decided (row-at tree i .name) name k o) where
     child-steps : steps-at depth name (row-at tree i) ≡ k + 1
     child-steps = steps-beside depth name (row-at tree i) (v .level) ∙ omega (arith, d .count)
@@ -149,20 +144,19 @@ module _ {tree : List ℕ} {at : ℕ} {name : Text} {n depth steps₀ i₀ steps
     child-order : order-in depth name (row-at tree i) ≡ o
     child-order = order-beside depth name (row-at tree i) (v .level) ∙ d .order
 
-    one-step : steps + 1 ≡ steps₀ + (k + 1)
-    one-step = omega (arith, v .counted)
+  passed : Decided (row-at tree i .name) name k Before → Going tree at name n depth (steps + (k + 1)) (i + 1)
+  passed d = past (v .outer) (v .lt) (child-steps d) refl (child-order d) (omega (arith, short))
 
-  passed : Decided (row-at tree i .name) name k Before → Going tree at name n depth (steps + 1) (i + 1)
-  passed d = past (v .outer) (v .lt) (child-steps d) (one-step d) (child-order d) (omega (arith, short))
+  found : {sum : ℕ} → sum ≡ steps + (k + 1) → Decided (row-at tree i .name) name k Same
+      → _≡_ {A = Search} (record { child = Found i; steps = sum }) (search-in (all-rows tree) at name)
+  found f d = finds (v .outer) (v .lt) (child-steps d) f (child-order d)
 
-  found : Decided (row-at tree i .name) name k Same → _≡_ {A = Search} (record { child = Found i; steps = steps + 1 }) (search-in (all-rows tree) at name)
-  found d = finds (v .outer) (v .lt) (child-steps d) (one-step d) (child-order d)
-
-  stopped : Decided (row-at tree i .name) name k After → _≡_ {A = Search} (record { child = Missing i; steps = steps + 1 }) (search-in (all-rows tree) at name)
-  stopped d = stops (v .outer) (v .lt) (child-steps d) (one-step d) (child-order d)
+  stopped : {sum : ℕ} → sum ≡ steps + (k + 1) → Decided (row-at tree i .name) name k After
+      → _≡_ {A = Search} (record { child = Missing i; steps = sum }) (search-in (all-rows tree) at name)
+  stopped f d = stops (v .outer) (v .lt) (child-steps d) f (child-order d)
 
 abbrev Inv-bytes : tie.InvT-bytes
-Inv-bytes tree at name n depth steps₀ i₀ d k₀ steps i k = Inner tree at name n depth steps₀ i₀ steps i k
+Inv-bytes tree at name n depth steps₀ i₀ d k₀ steps i k = Inner tree at name n depth i₀ steps i k
 
 abbrev μ-bytes : tie.MeasureT-bytes
 μ-bytes tree at name n depth steps₀ i₀ d k₀ steps i k = length name - k
@@ -226,26 +220,20 @@ bytes-holds c = begins (c .before .before .before .before .children .inv) (omega
 name-byte-requires : tie.Need-name-byte-requires Inv-bytes μ-bytes Inv-children μ-children
 name-byte-requires c κs = omega arith
 
-add-steps : tie.Need-add-steps Inv-bytes μ-bytes Inv-children μ-children
-add-steps c = omega (arith, few-steps (c .before .bytes .inv))
+shared-slice-read-b : tie.Need-shared-slice-read-b Inv-bytes μ-bytes Inv-children μ-children
+shared-slice-read-b c = omega arith
 
-returns-2 : tie.Need-returns-2 Inv-bytes μ-bytes Inv-children μ-children
-returns-2 c = let v = c .before .before .before .bytes .inv in found v (both-end (v .compared) (nonzero v) (omega arith) (omega arith))
+add-steps : tie.Need-add-steps Inv-bytes μ-bytes Inv-children μ-children
+add-steps c = omega arith
+
+add-steps-2 : tie.Need-add-steps-2 Inv-bytes μ-bytes Inv-children μ-children
+add-steps-2 c = omega arith
 
 missing-requires-2 : tie.Need-missing-requires-2 Inv-bytes μ-bytes Inv-children μ-children
 missing-requires-2 c κs = omega arith
 
-returns-3 : tie.Need-returns-3 Inv-bytes μ-bytes Inv-children μ-children
-returns-3 c = let v = c .before .before .before .before .bytes .inv in c .missing2 .ensures ∙ stopped v (second-ends (v .compared) (nonzero v) (omega arith) (λ z. omega arith))
-
-shared-slice-read-b : tie.Need-shared-slice-read-b Inv-bytes μ-bytes Inv-children μ-children
-shared-slice-read-b c = omega arith
-
-missing-requires-3 : tie.Need-missing-requires-3 Inv-bytes μ-bytes Inv-children μ-children
-missing-requires-3 c κs = omega arith
-
-returns-4 : tie.Need-returns-4 Inv-bytes μ-bytes Inv-children μ-children
-returns-4 c = let v = c .before .before .before .before .before .before .bytes .inv in c .missing3 .ensures ∙ stopped v (stands-after (v .compared) (nonzero v) (omega arith) (omega arith))
+returns-2 : tie.Need-returns-2 Inv-bytes μ-bytes Inv-children μ-children
+returns-2 c = let v = c .before .before .before .before .before .before .bytes .inv in c .missing2 .ensures ∙ stopped v refl (stands-after (v .compared) (nonzero v) (omega arith) (omega arith))
 
 add-i-3 : tie.Need-add-i-3 Inv-bytes μ-bytes Inv-children μ-children
 add-i-3 c = omega arith
@@ -255,6 +243,12 @@ children-less-2 c = omega arith
 
 children-again-2 : tie.Need-children-again-2 Inv-bytes μ-bytes Inv-children μ-children
 children-again-2 c = let v = c .before .before .before .before .before .bytes .inv in passed v (stands-before (v .compared) (nonzero v) (omega arith) (omega arith) (λ e. omega arith))
+
+add-steps-3 : tie.Need-add-steps-3 Inv-bytes μ-bytes Inv-children μ-children
+add-steps-3 c = omega arith
+
+add-steps-4 : tie.Need-add-steps-4 Inv-bytes μ-bytes Inv-children μ-children
+add-steps-4 c = omega arith
 
 add-i-4 : tie.Need-add-i-4 Inv-bytes μ-bytes Inv-children μ-children
 add-i-4 c = omega arith
@@ -272,7 +266,31 @@ bytes-less : tie.Need-bytes-less Inv-bytes μ-bytes Inv-children μ-children
 bytes-less c = omega arith
 
 bytes-again : tie.Need-bytes-again Inv-bytes μ-bytes Inv-children μ-children
-bytes-again c = more (c .before .before .before .before .before .bytes .inv) (c .before .before .before .before .name-byte .ensures) refl (omega arith) (omega arith) (c .if7 .left)
+bytes-again c = more (c .before .before .before .before .before .bytes .inv) (c .before .before .before .name-byte .ensures) refl (omega arith) (omega arith) (c .if5 .left)
+
+name-byte-requires-2 : tie.Need-name-byte-requires-2 Inv-bytes μ-bytes Inv-children μ-children
+name-byte-requires-2 c κs = omega arith
+
+add-t24 : tie.Need-add-t24 Inv-bytes μ-bytes Inv-children μ-children
+add-t24 c = omega arith
+
+add-t25 : tie.Need-add-t25 Inv-bytes μ-bytes Inv-children μ-children
+add-t25 c = omega arith
+
+returns-3 : tie.Need-returns-3 Inv-bytes μ-bytes Inv-children μ-children
+returns-3 c = let v = c .before .before .before .bytes .inv in found v (omega arith) (both-end (v .compared) (nonzero v) (omega arith) (omega arith))
+
+add-missing : tie.Need-add-missing Inv-bytes μ-bytes Inv-children μ-children
+add-missing c = omega arith
+
+add-missing-2 : tie.Need-add-missing-2 Inv-bytes μ-bytes Inv-children μ-children
+add-missing-2 c = omega arith
+
+missing-requires-3 : tie.Need-missing-requires-3 Inv-bytes μ-bytes Inv-children μ-children
+missing-requires-3 c κs = omega arith
+
+returns-4 : tie.Need-returns-4 Inv-bytes μ-bytes Inv-children μ-children
+returns-4 c = let v = c .before .before .before .before .bytes .inv in c .missing3 .ensures ∙ stopped v (omega arith) (second-ends (v .compared) (nonzero v) (omega arith) (λ z. omega arith))
 
 missing-requires-4 : tie.Need-missing-requires-4 Inv-bytes μ-bytes Inv-children μ-children
 missing-requires-4 c κs = omega arith
@@ -303,21 +321,29 @@ search-child-spec =
     children-again
     bytes-holds
     name-byte-requires
-    add-steps
-    returns-2
-    missing-requires-2
-    returns-3
     shared-slice-read-b
-    missing-requires-3
-    returns-4
+    add-steps
+    add-steps-2
+    missing-requires-2
+    returns-2
     add-i-3
     children-less-2
     children-again-2
+    add-steps-3
+    add-steps-4
     add-i-4
     children-less-3
     children-again-3
     add-k
     bytes-less
     bytes-again
+    name-byte-requires-2
+    add-t24
+    add-t25
+    returns-3
+    add-missing
+    add-missing-2
+    missing-requires-3
+    returns-4
     missing-requires-4
     returns-5)
