@@ -16,8 +16,15 @@ mod mutate;
 mod onto;
 mod random;
 mod rng;
+#[path = "../../search.rs"]
+mod search;
 mod setups;
 mod states;
+mod steps;
+mod steps_hand;
+mod steps_kinds;
+mod steps_model;
+mod steps_trees;
 mod stories;
 mod table;
 mod tally;
@@ -31,7 +38,7 @@ use std::process::ExitCode;
 /// The seed of a run that names none, so that a red run can be repeated.
 const SEED: u64 = 1;
 
-const USAGE: &str = "harness random [--seed S] [--lines N] | damage [--seed S] | edges | vectors DIR";
+const USAGE: &str = "harness random [--seed S] [--lines N] | damage [--seed S] | steps [--seed S] | edges | vectors DIR";
 
 fn main() -> ExitCode {
     let arguments: Vec<String> = std::env::args().skip(1).collect();
@@ -53,6 +60,7 @@ fn run(arguments: &[String]) -> Result<tally::Tally, String> {
             Ok(random::random(seed(options)?, lines))
         }
         ("damage", options) => Ok(damage::damage(seed(options)?)),
+        ("steps", options) => Ok(steps::steps(seed(options)?)),
         ("edges", []) => Ok(edges::edges(1)),
         ("vectors", [directory]) => vectors::vectors(Path::new(directory)).map_err(|problem| problem.to_string()),
         _ => Err(USAGE.to_string()),

@@ -63,7 +63,7 @@ fn grow(rng: &mut Rng, state: &mut State, wanted: usize) {
 }
 
 /// Gives a node random attributes; below `/rep` mostly such as entries have.
-fn attributes(rng: &mut Rng, state: &mut State, path: &Path) {
+pub fn attributes(rng: &mut Rng, state: &mut State, path: &Path) {
     let entry = path[..].first().is_some_and(|name| name == b"rep");
     let people: Vec<u8> = state.people.keys().copied().chain([0]).collect();
     let tag = rng.percent(60).then(|| any_tag(rng, state));
