@@ -52,3 +52,4 @@ pub mod AlterLaws
 pub mod TagBytesLaws
 pub mod Compute
 pub mod LargestTrees
+pub mod SearchCases

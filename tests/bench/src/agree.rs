@@ -1,8 +1,10 @@
-//! Random setups and lines through the library and plain Rust: number, value and both whole buffers after each call.
+//! Random setups and lines through the library and plain Rust: number, value and both whole buffers after each call; and searches
+//! for a child.
 
 use crate::library;
-use crate::plain::{self, Answer, ANSWER, STORE};
+use crate::plain::{self, Answer, ANSWER, STORE, TREE};
 use crate::random::Random;
+use crate::search::search;
 
 const SHOWN: usize = 20;
 
@@ -152,8 +154,10 @@ fn step(random: &mut Random, buffers: &mut Buffers, tally: &mut Tally) {
         let mut spoilt = buffers.clone();
         spoil(random, &mut spoilt.store, nodes);
         both(&mut spoilt, &Call::Run(&line), tally);
+        search_both(random, &spoilt.store, nodes, tally);
     }
     if random.once_in(10) {
+        search_both(random, &buffers.store, nodes, tally);
         both(buffers, &Call::Listing(random.below(nodes + 2)), tally);
     }
     if random.once_in(50) {
@@ -163,6 +167,21 @@ fn step(random: &mut Random, buffers: &mut Buffers, tally: &mut Tally) {
     buffers.into.resize(length, 0xa5);
     both(buffers, &Call::Run(&line), tally);
     buffers.into.resize(ANSWER, 0xa5);
+}
+
+/// A search by both for some of the bytes in which a row has its name, below any row or past the last.
+fn search_both(random: &mut Random, store: &[u8], nodes: usize, tally: &mut Tally) {
+    let Some(tree) = store.get(TREE..) else { return };
+    let named = 2 + 227 * random.below(nodes) + 8;
+    let Some(name) = tree.get(named..named + random.below(10)) else { return };
+    let at = random.below(nodes + 1);
+    let (ours, theirs) = (search(tree, at, name), plain::search(tree, at, name));
+    if ours == theirs {
+        tally.passed += 1;
+    } else {
+        tally.failed += 1;
+        println!("search below {at} for {name:?}: library {ours:?}, plain {theirs:?}");
+    }
 }
 
 /// A listing with a short answer buffer, or of a spoilt store.

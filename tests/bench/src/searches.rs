@@ -1,12 +1,11 @@
 //! What the search for a child takes beside the same pass in plain Rust, and what a `read` takes that makes many steps.
 
 use crate::bench::{least, overhead};
-use crate::plain::{self, ANSWER, STORE};
+use crate::plain::{self, ANSWER, STORE, TREE};
 use crate::search::{search, Child, Search};
 use crate::{cases, library};
 
 const SETUP: &[u8] = b"p,1,1\nend\n";
-const TREE: usize = 7422;
 
 /// A place with many children, or places below one another, and the names that are sought from `/` on.
 struct Walk {

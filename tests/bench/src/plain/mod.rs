@@ -17,7 +17,7 @@ mod tree;
 pub use crate::library::{Answer, NO_VALUE};
 use number::{Number, NO_FORM, SHORT_ANSWER, UNKNOWN_CALLER, UNSOUND};
 use rows::Store;
-pub use rows::CONTENT_LIMIT;
+pub use rows::{CONTENT_LIMIT, TREE};
 pub use search::search;
 
 pub const STORE: usize = 65536;

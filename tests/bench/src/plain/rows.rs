@@ -8,8 +8,9 @@ pub const CONTENT_LIMIT: usize = 80;
 pub const LAST_REVISION: u16 = 9999;
 pub const SET_GID: u16 = 0o2000;
 
-const ROWS: usize = 7424;
-const COUNT: usize = 7422;
+/// Where the tree begins, with the number of rows.
+pub const TREE: usize = 7422;
+const ROWS: usize = TREE + 2;
 
 pub type Header = [u8; ROWS];
 pub type Row = [u8; 227];
@@ -31,7 +32,7 @@ impl<'a> Store<'a> {
     }
 
     pub fn set_count(&mut self, count: usize) {
-        self.header[COUNT..].copy_from_slice(&(count as u16).to_le_bytes());
+        self.header[TREE..].copy_from_slice(&(count as u16).to_le_bytes());
     }
 
     /// The rows that are nodes.
@@ -48,7 +49,7 @@ pub fn parts(bytes: &[u8; STORE]) -> (&Header, &[Row]) {
 
 /// The number of rows that are nodes.
 pub fn count(header: &Header) -> usize {
-    u16::from_le_bytes([header[COUNT], header[COUNT + 1]]).into()
+    u16::from_le_bytes([header[TREE], header[TREE + 1]]).into()
 }
 
 /// A row's fields. A name is a number whose bytes are the name's, so that order of numbers is byte order.

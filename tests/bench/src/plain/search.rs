@@ -4,12 +4,12 @@
 use super::rows::{Fields, Row, MOST_NODES};
 use crate::search::{Child, Search};
 
-const TREE: usize = 2 + MOST_NODES * size_of::<Row>();
+const BYTES: usize = 2 + MOST_NODES * size_of::<Row>();
 
 /// The child of that name of the place in row `at`; none where the bytes are not as many as a tree's or have no such row.
 #[inline(never)]
 pub fn search(tree: &[u8], at: usize, name: &[u8]) -> Option<Search> {
-    let tree: &[u8; TREE] = tree.try_into().ok()?;
+    let tree: &[u8; BYTES] = tree.try_into().ok()?;
     let (count, rows) = tree.split_first_chunk()?;
     let nodes = rows.as_chunks().0.get(..u16::from_le_bytes(*count).into())?;
     (at < nodes.len()).then(|| search_rows(nodes, at, name))

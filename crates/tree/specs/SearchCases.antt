@@ -1,0 +1,62 @@
+-- Steps worked out by document 02's sentence: of each child tried the bytes alike from the front, and one more.
+use mathlib.Core.Path.{_≡_, refl}
+use mathlib.Core.List.{List, [], _∷_, map}
+use Prim.Native.Nat.{ℕ}
+use Prim.Native.String.{String}
+use Rattle.buffers.specs.Text.{Text, same-text, precedes, order-of}
+use Rattle.syntax.specs.Pieces.{bytes}
+use Rattle.tree.specs.Forest.{Forest, nil, node, Place}
+use Rattle.tree.specs.Rows.{flatten, rows}
+use Rattle.tree.specs.RowScan.{first-depth, depth-of, order-in}
+use Rattle.tree.specs.Search.{alike, tried, steps-at, steps-by, steps-from, steps-in}
+
+-- a name sought, and the steps
+record Case : Type 0 where
+  sought : Text
+  steps : ℕ
+
+infix 80 _takes_
+_takes_ : String → ℕ → Case
+_takes_ n k = record { sought = bytes n; steps = k }
+
+-- a search takes the steps of each case
+Counts : (Text → ℕ) → List Case → Type 0
+Counts f cs = map (λ c. f (c .sought)) cs ≡ map (λ c. c .steps) cs
+
+-- ash, elm with two below it, elmwood, oak
+elm-below : Forest ℕ
+elm-below = node (bytes "ash") 0 nil (node (bytes "elms") 0 nil nil)
+
+woods : Place ℕ
+woods = record { here = 0; below = node (bytes "ash") 0 nil (node (bytes "elm") 0 elm-below (node (bytes "elmwood") 0 nil (node (bytes "oak") 0 nil nil))) }
+
+-- found: ash 4; ash 1, elm 4; ash 1, elm 4, elmwood 8
+-- missing: ash 1, elm 3; ash 1, elm 4, elmwood 4; those with elmwood 8, and oak 1; ash 2; ash 1; each of the four 1
+below-top : List Case
+below-top =
+    "ash" takes 4 ∷
+    "elm" takes 5 ∷
+    "elmwood" takes 13 ∷
+    "el" takes 4 ∷
+    "elms" takes 9 ∷
+    "elmwoods" takes 14 ∷
+    "a" takes 2 ∷
+    "" takes 1 ∷
+    "zebrano" takes 4 ∷ []
+
+children-counted : Counts (λ n. tried n (woods .below)) below-top
+unfolding Counts _takes_ elm-below woods below-top bytes same-text precedes alike tried
+children-counted = refl
+
+rows-counted : Counts (steps-in (rows woods) 0) below-top
+unfolding Counts _takes_ elm-below woods below-top bytes same-text precedes order-of flatten rows first-depth depth-of order-in alike steps-at steps-by steps-from steps-in
+rows-counted = refl
+
+-- below elm, whose row is the third: ash 1, elms 4; ash 1, elms 5; below oak nothing is tried
+rows-below-counted : Counts (steps-in (rows woods) 2) ("elm" takes 5 ∷ "elms" takes 6 ∷ [])
+unfolding Counts _takes_ elm-below woods bytes same-text precedes order-of flatten rows first-depth depth-of order-in alike steps-at steps-by steps-from steps-in
+rows-below-counted = refl
+
+nothing-counted : Counts (steps-in (rows woods) 6) ("oak" takes 0 ∷ [])
+unfolding Counts _takes_ elm-below woods bytes flatten rows first-depth depth-of steps-from steps-in
+nothing-counted = refl
