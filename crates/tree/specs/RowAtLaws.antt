@@ -4,32 +4,28 @@
 -- In order:
 --   a field of a row: byte-in-row, number-in-row, text-in-row; its depth and kind;
 --   all rows by index, scans over them, and those of a tree's encoding: length-all-rows to row-count-of-tree;
---   where a subtree ends: end-at;
---   what is left of the search for a child: child-left to child-left-all.
+--   where a subtree ends: end-at.
 use mathlib.Core.Path.{_≡_, sym, _∙_, ap}
-use mathlib.Core.List.{List}
+use mathlib.Core.List.{List, [], _∷_}
 use mathlib.Core.Bool.{Bool, true, false}
 use Prim.Native.Nat.{ℕ, suc, _+_, _*_, _≤_, _<_}
 use native.Mathlib.Omega.{arith}
 use native.Mathlib.Numerals.{add-one}
-use lib.ListN.{length, getD, take, drop}
+use lib.ListN.{length, getD, take, drop, drop-of-length-le}
 use lib.Seq.{drop-cons, getD-take, getD-drop, drop-drop}
 use borrow.Author.Tests.{eq-eqb, ne-eqb}
-use Rattle.buffers.specs.Text.{Text}
 use Rattle.buffers.specs.Fields.{number-at, unpadded, text-at}
 use Rattle.buffers.specs.FieldsLaws.{part-of-take, field-text-fits}
 use Rattle.buffers.specs.TableLaws.{length-all-from, all-from-at}
 use Rattle.syntax.specs.Path.{depth}
 use Rattle.tree.specs.declared.Kind.the-variants.{File, Directory}
-use Rattle.tree.specs.declared.Child.{Child}
-use Rattle.tree.specs.declared.Child.the-variants.{Missing}
 use Rattle.tree.specs.Layout.{row-width, row-start, kind-offset, name-offset, name-width, tag-offset, tag-width, content-offset, content-width}
 use Rattle.tree.specs.Forest.{Place}
 use Rattle.tree.specs.Node.{Node}
 use Rattle.tree.specs.Rows.{Row, rows}
 use Rattle.tree.specs.WellFormed.{is-tree}
-use Rattle.tree.specs.RowScan.{span, is-deeper, first-depth, depth-of, end-of-subtree, order-in, child-by, child-from, child-in}
-use Rattle.tree.specs.RowScanLaws.{span-go, span-stop, span-end, child-from-row, child-from-end}
+use Rattle.tree.specs.RowScan.{span, is-deeper, first-depth, depth-of, end-of-subtree}
+use Rattle.tree.specs.RowScanLaws.{span-go, span-stop, span-end}
 use Rattle.tree.specs.Encoding.{kind-byte, kind-of, read-row, encode-tree}
 use Rattle.tree.specs.EncodingLaws.{rows-of-encoded}
 use Rattle.tree.specs.RowAt.{row-count, row-bytes-at, row-at, all-rows, tag-text-at}
@@ -101,11 +97,20 @@ module _ (b : List ℕ) where
   row-in-rows i z h =
       all-from-at row-width read-row (row-count b) i (drop 2 b) z h ∙ ap (λ (l : List ℕ). read-row (take row-width l)) (drop-drop (row-width * i) 2 b)
 
-  -- and its depth is that row's
+  -- from there on they are that row and those behind it
+  pub rows-from : (i : ℕ) → i < row-count b → drop i (all-rows b) ≡ row-at b i ∷ drop (suc i) (all-rows b)
+  rows-from i h =
+      drop-cons (all-rows b) i (row-at b i) (omega (arith, length-all-rows))
+      ∙ ap (λ (r : Row Node). r ∷ drop (suc i) (all-rows b)) (row-in-rows i (row-at b i) h)
+
+  -- and behind the last there are none
+  pub rows-end : (i : ℕ) → row-count b ≤ i → drop i (all-rows b) ≡ []
+  rows-end i h = drop-of-length-le (all-rows b) {i = i} (omega (arith, length-all-rows))
+
+  -- its depth is that of the row there
   pub depth-of-row : (i : ℕ) → i < row-count b → depth-of (all-rows b) i ≡ row-at b i .depth
   unfolding depth-of first-depth
-  depth-of-row i h =
-      rw (drop-cons (all-rows b) i (row-at b i) (omega (arith, length-all-rows))) (ap (λ (r : Row Node). r .depth) (row-in-rows i (row-at b i) h))
+  depth-of-row i h = ap first-depth (rows-from i h)
 
   -- a scan has come from one index to another: from both it ends at the same
   abbrev pub Scanned : (Row Node → Bool) → ℕ → ℕ → Type 0
@@ -146,26 +151,3 @@ module _ (b : List ℕ) (at i : ℕ) (h : at < row-count b) where
   end-at k e g z =
       let q = rw add-one at g in
       rw (depth-of-row b at h, ← e) (omega arith)
-
--- ---- the search for a child
-
--- what the search for a child at a depth answers from an index on
-abbrev pub child-left : List ℕ → ℕ → Text → ℕ → Child
-child-left b k n i = child-from k n i (drop i (all-rows b))
-
-module _ (b : List ℕ) (k : ℕ) (n : Text) (i : ℕ) where
-  -- it goes by the row there
-  pub child-left-row : i < row-count b → child-left b k n i ≡ child-by (order-in k n (row-at b i)) i (child-left b k n (suc i))
-  child-left-row h =
-      child-from-row k n i (all-rows b) (row-at b i) (omega (arith, length-all-rows b))
-      ∙ ap (λ (r : Row Node). child-by (order-in k n r) i (child-left b k n (suc i))) (row-in-rows b i (row-at b i) h)
-
-  -- and ends behind the last
-  pub child-left-end : row-count b ≤ i → child-left b k n i ≡ Missing i
-  child-left-end h = child-from-end k n i (all-rows b) (omega (arith, length-all-rows b))
-
--- behind the row of a place all of it is left
-pub child-left-all : (b : List ℕ) (at k : ℕ) (n : Text) → at < row-count b → k ≡ suc (row-at b at .depth)
-    → child-left b k n (suc at) ≡ child-in (all-rows b) at n
-unfolding child-in
-child-left-all b at k n h e = rw (depth-of-row b at h, ← e)

@@ -4,7 +4,7 @@
 --   what a scan for deeper rows passes on siblings' rows, and where it ends: span-append to below-span;
 --   a scan row by row, by index: first-at, span-go, span-stop, span-end;
 --   how a row stands to a child: order-below, order-above, order-beside;
---   the search for a child row by row, by index, and on siblings' rows: child-from-row to child-from-lesser;
+--   the search for a child on siblings' rows: child-from-ends to child-from-lesser;
 --   on the rows of a tree: rows-from-place to no-child-in-rows.
 use mathlib.Core.Path.{_≡_, refl, _∙_, ap}
 use mathlib.Core.List.{List, [], _∷_, _++_, append-assoc}
@@ -104,17 +104,6 @@ module _ {A : Type 0} (k : ℕ) (n : Name) (r : Row A) where
 -- ---- the search for a child
 
 module _ {A : Type 0} (k : ℕ) (n : Name) (i : ℕ) where
-  -- it goes by the row at its index
-  pub child-from-row : (rs : List (Row A)) (z : Row A) → i < length rs
-      → child-from k n i (drop i rs) ≡ child-by (order-in k n (getD rs i z)) i (child-from k n (suc i) (drop (suc i) rs))
-  unfolding child-from
-  child-from-row rs z h = rw (drop-cons rs i z h)
-
-  -- and ends behind the last
-  pub child-from-end : (rs : List (Row A)) → length rs ≤ i → child-from k n i (drop i rs) ≡ Missing i
-  unfolding child-from
-  child-from-end rs h = let q : drop i rs ≡ [] = drop-of-length-le rs h in rw q
-
   -- nothing is found where the children have ended
   child-from-ends : (B : List (Row A)) → ends k B ≡ true → child-from (suc k) n i B ≡ Missing i
   unfolding ends child-from child-by

@@ -1,6 +1,6 @@
 -- `search_export::tree_search` meets its contract: bytes without the row leave the lent numbers as they were, and of others the search
 -- is told.
-use mathlib.Core.Path.{_≡_, refl, _∙_, ap}
+use mathlib.Core.Path.{_≡_, refl}
 use mathlib.Core.List.{List}
 use mathlib.Core.Bool.{true, false, _&&_}
 use Prim.Native.Nat.{ℕ}

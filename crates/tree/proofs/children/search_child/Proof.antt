@@ -20,8 +20,8 @@ use Rattle.tree.specs.Search.{steps-at, steps-by, steps-in, search-in}
 use Rattle.tree.specs.ComparedLaws.{Compared, Decided, compared-none, one-more, stands-before, stands-after, both-end, second-ends}
 use Rattle.tree.specs.RowAt.{row-count, row-at, all-rows}
 use Rattle.tree.specs.TreeBytes.{Has-row}
-use Rattle.tree.specs.RowAtLaws.{row-name-fits, child-left, child-left-row, child-left-end, child-left-all}
-use Rattle.tree.specs.SearchLaws.{name-nonzero, steps-aside, steps-beside, steps-left, steps-left-row, steps-left-end, steps-left-all}
+use Rattle.tree.specs.RowAtLaws.{row-name-fits}
+use Rattle.tree.specs.SearchLaws.{name-nonzero, steps-aside, steps-beside, child-left, child-left-row, child-left-end, child-left-all, steps-left, steps-left-row, steps-left-end, steps-left-all}
 use Rattle.tree.proofs.children.search_child.Statement.{statement}
 use Rattle.tree.proofs.children.search_child.Tie as tie
 
@@ -34,10 +34,12 @@ record Going (tree : List ℕ) (at : ℕ) (name : Text) (n depth steps i : ℕ) 
   goes : child-left tree depth name i ≡ child-in (all-rows tree) at name
   sums : steps + steps-left tree depth name i ≡ steps-in (all-rows tree) at name
 
--- an answer is told by its child and its steps
+-- the search answers a child and its steps
+abbrev Answers : List ℕ → ℕ → Text → Child → ℕ → Type 0
+Answers tree at name child steps = _≡_ {A = Search} (record { child = child; steps = steps }) (search-in (all-rows tree) at name)
+
 whole : {child : Child} {steps : ℕ} (tree : List ℕ) (at : ℕ) (name : Text)
-    → child ≡ child-in (all-rows tree) at name → steps ≡ steps-in (all-rows tree) at name
-    → _≡_ {A = Search} (record { child = child; steps = steps }) (search-in (all-rows tree) at name)
+    → child ≡ child-in (all-rows tree) at name → steps ≡ steps-in (all-rows tree) at name → Answers tree at name child steps
 unfolding search-in
 whole tree at name c s = λ j. record { child = c j; steps = s j }
 
@@ -72,17 +74,17 @@ module _ {tree : List ℕ} {at : ℕ} {name : Text} {n depth steps i : ℕ} (g :
         }
 
     -- at one that stands behind it
-    stops : order-in depth name (row-at tree i) ≡ After → _≡_ {A = Search} (record { child = Missing i; steps = sum }) (search-in (all-rows tree) at name)
+    stops : order-in depth name (row-at tree i) ≡ After → Answers tree at name (Missing i) sum
     unfolding child-by steps-by
     stops e = whole tree at name (child-turns h e q) (f ∙ steps-turn h e q)
 
     -- at its own
-    finds : order-in depth name (row-at tree i) ≡ Same → _≡_ {A = Search} (record { child = Found i; steps = sum }) (search-in (all-rows tree) at name)
+    finds : order-in depth name (row-at tree i) ≡ Same → Answers tree at name (Found i) sum
     unfolding child-by steps-by
     finds e = whole tree at name (child-turns h e q) (f ∙ steps-turn h e q)
 
   -- behind the last row
-  over : n ≤ i → _≡_ {A = Search} (record { child = Missing n; steps = steps }) (search-in (all-rows tree) at name)
+  over : n ≤ i → Answers tree at name (Missing n) steps
   over h =
       let e : n ≡ i = omega (arith, g .le) in
       whole tree at name
@@ -148,11 +150,11 @@ module _ {tree : List ℕ} {at : ℕ} {name : Text} {n depth i₀ steps i k : �
   passed d = past (v .outer) (v .lt) (child-steps d) refl (child-order d) (omega (arith, short))
 
   found : {sum : ℕ} → sum ≡ steps + (k + 1) → Decided (row-at tree i .name) name k Same
-      → _≡_ {A = Search} (record { child = Found i; steps = sum }) (search-in (all-rows tree) at name)
+      → Answers tree at name (Found i) sum
   found f d = finds (v .outer) (v .lt) (child-steps d) f (child-order d)
 
   stopped : {sum : ℕ} → sum ≡ steps + (k + 1) → Decided (row-at tree i .name) name k After
-      → _≡_ {A = Search} (record { child = Missing i; steps = sum }) (search-in (all-rows tree) at name)
+      → Answers tree at name (Missing i) sum
   stopped f d = stops (v .outer) (v .lt) (child-steps d) f (child-order d)
 
 abbrev Inv-bytes : tie.InvT-bytes
