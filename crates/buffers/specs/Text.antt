@@ -3,8 +3,6 @@ use mathlib.Core.List.{List, [], _∷_}
 use mathlib.Core.Bool.{Bool, true, false, _&&_, _||_, not, cond}
 use Prim.Native.Nat.{ℕ}
 use lib.Dec.{eqb, ltb}
-use Rattle.buffers.specs.declared.Order.{Order}
-use Rattle.buffers.specs.declared.Order.the-variants.{Before, Same, After}
 
 abbrev pub Text : Type 0
 Text = List ℕ
@@ -31,5 +29,8 @@ unfoldable pub lacks : ℕ → Text → Bool
 lacks b t = every (λ c. not (eqb c b)) t
 
 -- how a text stands to another
+pub data Order : Type 0 where
+  Before Same After : Order
+
 unfoldable pub order-of : Text → Text → Order
 order-of s t = cond (same-text s t) Same (cond (precedes s t) Before After)

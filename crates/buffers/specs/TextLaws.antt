@@ -9,9 +9,8 @@ use borrow.Author.Tests.{eqb-true, eqb-false, eq-eqb, ne-eqb, ltb-true, ltb-fals
 use lib.Dec.{eqb, ltb}
 use lib.ListN.{length, getD, set, drop, drop-of-length-le}
 use lib.Seq.{drop-cons}
-use Rattle.buffers.specs.declared.Order.the-variants.{Before, Same, After}
 use Rattle.buffers.specs.Cases.{case, and-both, contra}
-use Rattle.buffers.specs.Text.{Text, same-text, precedes, every, order-of}
+use Rattle.buffers.specs.Text.{Text, same-text, precedes, every, order-of, Before, Same, After}
 
 -- a text without length has no bytes
 pub no-bytes : (s : Text) → length s ≡ 0 → s ≡ []

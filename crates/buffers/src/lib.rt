@@ -6,7 +6,6 @@ mod writes;
 pub use fields::is_zero;
 pub use fields::number;
 pub use fields::text;
-pub use texts::compare;
 pub use texts::same;
 pub use writes::clear;
 pub use writes::move_bytes;
@@ -15,10 +14,3 @@ pub use writes::write_four;
 pub use writes::write_many;
 pub use writes::write_number;
 pub use writes::write_padded;
-
-// How a text stands to another in byte order.
-pub enum Order {
-    Before,
-    Same,
-    After,
-}

@@ -1,7 +1,6 @@
 // Texts compared.
 ghost use mathlib.Core.Path.{_≡_};
-ghost use Rattle.buffers.specs.Text.{same-text, order-of};
-use crate::Order;
+ghost use Rattle.buffers.specs.Text.{same-text};
 
 // Whether two texts are the same.
 pub fn same(s: &[u8], t: &[u8]) -> bool
@@ -18,27 +17,4 @@ pub fn same(s: &[u8], t: &[u8]) -> bool
         i += 1;
     }
     true
-}
-
-// How a text stands to another in byte order.
-pub fn compare(s: &[u8], t: &[u8]) -> Order
-    ensures { λ r. ⌜ r ≡ order-of (now (s .entry)) (now (t .entry)) ⌝ }
-{
-    let mut i: usize = 0;
-    while i < s.len() {
-        if t.len() <= i {
-            return Order::After;
-        }
-        if s[i] < t[i] {
-            return Order::Before;
-        }
-        if t[i] < s[i] {
-            return Order::After;
-        }
-        i += 1;
-    }
-    if i < t.len() {
-        return Order::Before;
-    }
-    Order::Same
 }

@@ -10,9 +10,7 @@ use lib.ListN.{length, getD, drop, drop-of-length-le, List·getD-eq-default}
 use lib.Seq.{drop-cons}
 use borrow.Author.Tests.{eqb-true, eqb-false, eq-eqb, ne-eqb, ltb-true, ltb-false}
 use Rattle.buffers.specs.Cases.{case}
-use Rattle.buffers.specs.declared.Order.{Order}
-use Rattle.buffers.specs.declared.Order.the-variants.{Before, Same, After}
-use Rattle.buffers.specs.Text.{Text, order-of}
+use Rattle.buffers.specs.Text.{Text, order-of, Order, Before, Same, After}
 use Rattle.buffers.specs.TextLaws.{order-before, order-after, order-goes-on, order-longer, order-shorter, order-same}
 use Rattle.tree.specs.Search.{alike}
 

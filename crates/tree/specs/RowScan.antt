@@ -4,9 +4,7 @@ use mathlib.Core.Bool.{Bool, false, cond}
 use Prim.Native.Nat.{ℕ, suc, _+_}
 use lib.Dec.{ltb}
 use lib.ListN.{drop}
-use Rattle.buffers.specs.declared.Order.{Order}
-use Rattle.buffers.specs.declared.Order.the-variants.{Before, Same, After}
-use Rattle.buffers.specs.Text.{order-of}
+use Rattle.buffers.specs.Text.{order-of, Order, Before, Same, After}
 use Rattle.syntax.specs.Path.{Name}
 use Rattle.tree.specs.declared.Child.{Child}
 use Rattle.tree.specs.declared.Child.the-variants.{Found, Missing}

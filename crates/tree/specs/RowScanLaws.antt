@@ -15,10 +15,8 @@ use native.Mathlib.Omega.{arith}
 use lib.ListN.{length, drop, getD, length-append, length-drop, drop-of-length-le}
 use lib.Seq.{drop-cons, drop-append-seam, drop-append-add, getD-append-seam}
 use borrow.Author.Tests.{leb-true, lt-ltb, le-ltb}
-use Rattle.buffers.specs.declared.Order.{Order}
-use Rattle.buffers.specs.declared.Order.the-variants.{Before, Same, After}
 use Rattle.buffers.specs.Cases.{case, and-both, contra}
-use Rattle.buffers.specs.Text.{every, same-text, precedes, order-of}
+use Rattle.buffers.specs.Text.{every, same-text, precedes, order-of, Order, Before, Same, After}
 use Rattle.buffers.specs.TextLaws.{every-append, same-text-refl, precedes-differ}
 use Rattle.syntax.specs.Path.{Name, Path, _▹_, last, depth}
 use Rattle.tree.specs.declared.Child.{Child}

@@ -7,9 +7,7 @@ use mathlib.Core.Bool.{cond}
 use Prim.Native.Nat.{ℕ, suc, _+_}
 use lib.Dec.{eqb}
 use lib.ListN.{drop}
-use Rattle.buffers.specs.declared.Order.{Order}
-use Rattle.buffers.specs.declared.Order.the-variants.{Before, Same, After}
-use Rattle.buffers.specs.Text.{Text, precedes}
+use Rattle.buffers.specs.Text.{Text, precedes, Order, Before, Same, After}
 use Rattle.syntax.specs.Path.{Name}
 use Rattle.tree.specs.declared.Search.{Search}
 use Rattle.tree.specs.Forest.{Forest, nil, node}

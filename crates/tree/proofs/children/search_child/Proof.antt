@@ -7,9 +7,7 @@ use mathlib.Core.Path.{_≡_, refl, sym, _∙_, ap}
 use mathlib.Core.List.{List}
 use lib.ListN.{length, getD}
 use denote.Ref.{now}
-use Rattle.buffers.specs.declared.Order.{Order}
-use Rattle.buffers.specs.declared.Order.the-variants.{Before, Same, After}
-use Rattle.buffers.specs.Text.{Text}
+use Rattle.buffers.specs.Text.{Text, Order, Before, Same, After}
 use Rattle.tree.specs.declared.Child.{Child}
 use Rattle.tree.specs.declared.Child.the-variants.{Found, Missing}
 use Rattle.tree.specs.declared.Search.{Search}
