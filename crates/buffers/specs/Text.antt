@@ -1,6 +1,6 @@
 -- Texts: lists of bytes, compared and tested.
 use mathlib.Core.List.{List, [], _∷_}
-use mathlib.Core.Bool.{Bool, true, false, _&&_, _||_, not, cond}
+use mathlib.Core.Bool.{Bool, true, false, _&&_, _||_, not}
 use Prim.Native.Nat.{ℕ}
 use lib.Dec.{eqb, ltb}
 
@@ -27,10 +27,3 @@ every f (a ∷ l) = f a && every f l
 -- whether a byte stands nowhere in a text
 unfoldable pub lacks : ℕ → Text → Bool
 lacks b t = every (λ c. not (eqb c b)) t
-
--- how a text stands to another
-pub data Order : Type 0 where
-  Before Same After : Order
-
-unfoldable pub order-of : Text → Text → Order
-order-of s t = cond (same-text s t) Same (cond (precedes s t) Before After)

@@ -4,13 +4,12 @@ use mathlib.Core.List.{List, [], _∷_, _++_}
 use mathlib.Core.Bool.{Bool, true, false, _&&_}
 use Prim.Native.Nat.{ℕ, zero, suc, _+_, _≤_, _<_}
 use native.Mathlib.Omega.{arith}
-use native.Mathlib.Numerals.{add-one}
-use borrow.Author.Tests.{eqb-true, eqb-false, eq-eqb, ne-eqb, ltb-true, ltb-false, lt-ltb, le-ltb}
+use borrow.Author.Tests.{eqb-true, eqb-false, eq-eqb, ltb-true, ltb-false, lt-ltb, le-ltb}
 use lib.Dec.{eqb, ltb}
 use lib.ListN.{length, getD, set, drop, drop-of-length-le}
 use lib.Seq.{drop-cons}
 use Rattle.buffers.specs.Cases.{case, and-both, contra}
-use Rattle.buffers.specs.Text.{Text, same-text, precedes, every, order-of, Before, Same, After}
+use Rattle.buffers.specs.Text.{Text, same-text, precedes, every}
 
 -- a text without length has no bytes
 pub no-bytes : (s : Text) → length s ≡ 0 → s ≡ []
@@ -158,39 +157,3 @@ same-length [] [] h = absurd (h refl)
 same-length [] (b ∷ t) h = refl
 same-length (a ∷ s) [] h = refl
 same-length (a ∷ s) (b ∷ t) h = case (eqb a b) (λ e. rw e (same-length s t (λ l. h (ap suc l)))) (λ e. rw e)
-
--- ---- the order of two texts
-
-module _ (s t : Text) (i : ℕ) where
-  -- at the first byte that differs the lesser comes first
-  pub order-before : i < length s → i < length t → getD s i 0 < getD t i 0 → order-of (drop i s) (drop i t) ≡ Before
-  unfolding order-of same-text precedes
-  order-before h k l =
-      rw (drop-cons s i 0 h, drop-cons t i 0 k) (rw (ne-eqb (getD s i 0) (getD t i 0) (λ e. omega arith), lt-ltb (getD s i 0) (getD t i 0) l))
-
-  -- and the greater after it
-  pub order-after : i < length s → i < length t → getD t i 0 < getD s i 0 → order-of (drop i s) (drop i t) ≡ After
-  unfolding order-of same-text precedes
-  order-after h k l =
-      rw (drop-cons s i 0 h, drop-cons t i 0 k) (rw (ne-eqb (getD s i 0) (getD t i 0) (λ e. omega arith), le-ltb (getD s i 0) (getD t i 0) (omega arith)))
-
-  -- bytes that are the same leave it to those behind
-  pub order-goes-on : i < length s → i < length t → getD s i 0 ≡ getD t i 0 → order-of (drop (i + 1) s) (drop (i + 1) t) ≡ order-of (drop i s) (drop i t)
-  unfolding order-of same-text precedes
-  order-goes-on h k e =
-      rw (add-one, drop-cons s i 0 h, drop-cons t i 0 k) (rw (eq-eqb (getD s i 0) (getD t i 0) e, le-ltb (getD s i 0) (getD t i 0) (omega arith)))
-
-  -- a text comes after another that ends before it
-  pub order-longer : i < length s → length t ≤ i → order-of (drop i s) (drop i t) ≡ After
-  unfolding order-of same-text precedes
-  order-longer h k = rw (drop-cons s i 0 h, drop-of-length-le t k)
-
-  -- and before another that goes on
-  pub order-shorter : length s ≤ i → i < length t → order-of (drop i s) (drop i t) ≡ Before
-  unfolding order-of same-text precedes
-  order-shorter h k = rw (drop-of-length-le s h, drop-cons t i 0 k)
-
-  -- where both end, they are the same
-  pub order-same : length s ≤ i → length t ≤ i → order-of (drop i s) (drop i t) ≡ Same
-  unfolding order-of same-text precedes
-  order-same h k = rw (drop-of-length-le s h, drop-of-length-le t k)

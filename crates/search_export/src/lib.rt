@@ -1,7 +1,7 @@
 // The search for a child as a call, for the tests to link: they hold its steps to a count of their own. It is no call of the
 // library, and no header declares it.
 ghost use mathlib.Core.Path.{_≡_};
-ghost use Rattle.search_export.specs.SearchCall.{is-used, number-told, place-told, search-call, Tells};
+ghost use Rattle.search_export.specs.SearchCall.{is-used, number-told, place-told, search-call};
 use tree::Child;
 use tree::MOST_ROWS;
 use tree::TREE;
@@ -15,7 +15,7 @@ const MISSING: u32 = 1;
 
 const NO_ROW: u32 = 2;
 
-// Whether bytes have a row at an index.
+// Whether bytes are as many as a tree's, with no more rows than there is room for, and one of these at an index.
 fn has_row(tree: &[u8], at: usize) -> bool
     ensures { λ r. ⌜ r ≡ is-used (now (tree .entry)) at ⌝ }
 {
@@ -29,6 +29,7 @@ fn has_row(tree: &[u8], at: usize) -> bool
     at < n
 }
 
+// Whether the child was found, as a number.
 fn number_of(child: Child) -> u32
     ensures { λ r. ⌜ r ≡ number-told child ⌝ }
 {
@@ -38,6 +39,7 @@ fn number_of(child: Child) -> u32
     }
 }
 
+// Its row, or where it would stand.
 fn place_of(child: Child) -> u64
     ensures { λ r. ⌜ r ≡ place-told child ⌝ }
 {
@@ -56,7 +58,9 @@ pub extern "C" fn tree_search(
     place: &mut u64,
     steps: &mut u64,
 ) -> u32
-    ensures { λ r. ⌜ Tells (search-call (now (tree .entry)) at (now (name .entry)) (now (place .entry)) (now (steps .entry))) r (now (place .exit)) (now (steps .exit)) ⌝ }
+    ensures { λ r. ⌜ r ≡ search-call (now (tree .entry)) at (now (name .entry)) (now (place .entry)) (now (steps .entry)) .number ⌝ }
+    ensures { λ _. ⌜ now (place .exit) ≡ search-call (now (tree .entry)) at (now (name .entry)) (now (place .entry)) (now (steps .entry)) .place ⌝ }
+    ensures { λ _. ⌜ now (steps .exit) ≡ search-call (now (tree .entry)) at (now (name .entry)) (now (place .entry)) (now (steps .entry)) .steps ⌝ }
 {
     if !has_row(tree, at) {
         return NO_ROW;

@@ -107,7 +107,7 @@ module _ (b : List ℕ) where
   pub rows-end : (i : ℕ) → row-count b ≤ i → drop i (all-rows b) ≡ []
   rows-end i h = drop-of-length-le (all-rows b) {i = i} (omega (arith, length-all-rows))
 
-  -- its depth is that of the row there
+  -- the depth at an index is that of the row there
   pub depth-of-row : (i : ℕ) → i < row-count b → depth-of (all-rows b) i ≡ row-at b i .depth
   unfolding depth-of first-depth
   depth-of-row i h = ap first-depth (rows-from i h)

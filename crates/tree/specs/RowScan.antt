@@ -4,7 +4,7 @@ use mathlib.Core.Bool.{Bool, false, cond}
 use Prim.Native.Nat.{ℕ, suc, _+_}
 use lib.Dec.{ltb}
 use lib.ListN.{drop}
-use Rattle.buffers.specs.Text.{order-of, Order, Before, Same, After}
+use Rattle.buffers.specs.Text.{Text, same-text, precedes}
 use Rattle.syntax.specs.Path.{Name}
 use Rattle.tree.specs.declared.Child.{Child}
 use Rattle.tree.specs.declared.Child.the-variants.{Found, Missing}
@@ -35,6 +35,13 @@ depth-of rs at = first-depth (drop at rs)
 -- where the rows below a row end
 unfoldable pub end-of-subtree : {A : Type 0} → List (Row A) → ℕ → ℕ
 end-of-subtree rs at = suc (at + span (is-deeper (depth-of rs at)) (drop (suc at) rs))
+
+-- how a name stands to another
+pub data Order : Type 0 where
+  Before Same After : Order
+
+unfoldable pub order-of : Text → Text → Order
+order-of s t = cond (same-text s t) Same (cond (precedes s t) Before After)
 
 -- how a row stands to that of the child named n at depth k: what lies deeper is below a sibling, what is less deep ends the children
 unfoldable pub order-in : {A : Type 0} → ℕ → Name → Row A → Order

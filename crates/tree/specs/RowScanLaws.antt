@@ -16,7 +16,7 @@ use lib.ListN.{length, drop, getD, length-append, length-drop, drop-of-length-le
 use lib.Seq.{drop-cons, drop-append-seam, drop-append-add, getD-append-seam}
 use borrow.Author.Tests.{leb-true, lt-ltb, le-ltb}
 use Rattle.buffers.specs.Cases.{case, and-both, contra}
-use Rattle.buffers.specs.Text.{every, same-text, precedes, order-of, Order, Before, Same, After}
+use Rattle.buffers.specs.Text.{every, same-text, precedes}
 use Rattle.buffers.specs.TextLaws.{every-append, same-text-refl, precedes-differ}
 use Rattle.syntax.specs.Path.{Name, Path, _▹_, last, depth}
 use Rattle.tree.specs.declared.Child.{Child}
@@ -25,7 +25,7 @@ use Rattle.tree.specs.Forest.{Forest, nil, node, Place, get, size}
 use Rattle.tree.specs.ForestLaws.{differ-sym, found-none}
 use Rattle.tree.specs.Rows.{Row, flatten, rows}
 use Rattle.tree.specs.RowLaws.{length-flatten}
-use Rattle.tree.specs.RowScan.{span, first-passes, is-deeper, first-depth, depth-of, order-in, child-by, child-from, child-in}
+use Rattle.tree.specs.RowScan.{order-of, Order, Before, Same, After, span, first-passes, is-deeper, first-depth, depth-of, order-in, child-by, child-from, child-in}
 use Rattle.tree.specs.RowPlaces.{place-rows, ends, index-of, Around, sorted, lesser, not-lesser}
 use Rattle.tree.specs.RowPlacesLaws.{length-place-rows}
 use Rattle.tree.specs.RowChangesLaws.{found-split, spot-index}
@@ -139,19 +139,19 @@ module _ {A : Type 0} (k : ℕ) (n : Name) where
 
   module _ (m : Name) (x : A) where
     -- a sibling of a lesser name comes before the child
-    sibling-before : precedes m n ≡ true → order-in k n (record { depth = k; name = m; here = x }) ≡ Before
+    pub sibling-before : precedes m n ≡ true → order-in k n (record { depth = k; name = m; here = x }) ≡ Before
     unfolding order-of
     sibling-before t = order-beside k n (record { depth = k; name = m; here = x }) refl ∙ rw (precedes-differ m n t, t)
 
     -- one of a greater name after it
-    sibling-after : same-text m n ≡ false → precedes m n ≡ false → order-in k n (record { depth = k; name = m; here = x }) ≡ After
+    pub sibling-after : same-text m n ≡ false → precedes m n ≡ false → order-in k n (record { depth = k; name = m; here = x }) ≡ After
     unfolding order-of
     sibling-after e t = order-beside k n (record { depth = k; name = m; here = x }) refl ∙ rw (e, t)
 
-  -- and one of its name is the child
-  sibling-same : (x : A) → order-in k n (record { depth = k; name = n; here = x }) ≡ Same
-  unfolding order-of
-  sibling-same x = order-beside k n (record { depth = k; name = n; here = x }) refl ∙ rw (same-text-refl n)
+    -- and one of its name is the child
+    pub sibling-same : same-text m n ≡ true → order-in k n (record { depth = k; name = m; here = x }) ≡ Same
+    unfolding order-of
+    sibling-same e = order-beside k n (record { depth = k; name = m; here = x }) refl ∙ rw e
 
   -- a lesser sibling is gone past with all below it
   past-sibling : (i : ℕ) (m : Name) (x : A) (cs rest : Forest A) (B : List (Row A)) → precedes m n ≡ true
@@ -189,7 +189,7 @@ module _ {A : Type 0} (k : ℕ) (n : Name) where
   child-from-found : (i : ℕ) (F : Forest A) (B : List (Row A)) (e : Place A) → sorted F ≡ true → get n F ≡ some e
       → child-from k n i (flatten k (not-lesser n F) ++ B) ≡ Found i
   unfolding flatten child-from child-by
-  child-from-found i F B e s g = rw (found-split n F e s g .1, sibling-same (e .here))
+  child-from-found i F B e s g = rw (found-split n F e s g .1, sibling-same n (e .here) (same-text-refl n))
 
 -- and so is a child that is found behind the row of its parent
 pub child-in-bound : {A : Type 0} (rs : List (Row A)) (at j : ℕ) (n : Name) → at < length rs → child-in rs at n ≡ Found j → j < length rs

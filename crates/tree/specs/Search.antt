@@ -7,12 +7,12 @@ use mathlib.Core.Bool.{cond}
 use Prim.Native.Nat.{ℕ, suc, _+_}
 use lib.Dec.{eqb}
 use lib.ListN.{drop}
-use Rattle.buffers.specs.Text.{Text, precedes, Order, Before, Same, After}
+use Rattle.buffers.specs.Text.{Text, precedes}
 use Rattle.syntax.specs.Path.{Name}
 use Rattle.tree.specs.declared.Search.{Search}
 use Rattle.tree.specs.Forest.{Forest, nil, node}
 use Rattle.tree.specs.Rows.{Row}
-use Rattle.tree.specs.RowScan.{depth-of, order-in, child-in}
+use Rattle.tree.specs.RowScan.{Order, Before, Same, After, depth-of, order-in, child-in}
 
 -- how many bytes of two texts are alike from the front
 unfoldable pub alike : Text → Text → ℕ
@@ -20,10 +20,10 @@ alike [] t = 0
 alike (a ∷ s) [] = 0
 alike (a ∷ s) (b ∷ t) = cond (eqb a b) (suc (alike s t)) 0
 
--- the steps of the children in order
-unfoldable pub tried : {A : Type 0} → Name → Forest A → ℕ
-tried n nil = 0
-tried n (node m x cs rest) = suc (alike m n) + cond (precedes m n) (tried n rest) 0
+-- the steps among children in order: of each, up to the first that is not less, the bytes alike and one more
+unfoldable pub steps-among : {A : Type 0} → Name → Forest A → ℕ
+steps-among n nil = 0
+steps-among n (node m x cs rest) = suc (alike m n) + cond (precedes m n) (steps-among n rest) 0
 
 -- The same over rows, so that it is said of any bytes.
 
@@ -37,6 +37,7 @@ steps-by Before here behind = here + behind
 steps-by Same here behind = here
 steps-by After here behind = here
 
+-- the steps among rows to the child named n at depth k
 unfoldable pub steps-from : {A : Type 0} → ℕ → Name → List (Row A) → ℕ
 steps-from k n [] = 0
 steps-from k n (r ∷ rs) = steps-by (order-in k n r) (steps-at k n r) (steps-from k n rs)

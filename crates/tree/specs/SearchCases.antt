@@ -3,12 +3,12 @@ use mathlib.Core.Path.{_≡_, refl}
 use mathlib.Core.List.{List, [], _∷_, map}
 use Prim.Native.Nat.{ℕ}
 use Prim.Native.String.{String}
-use Rattle.buffers.specs.Text.{Text, same-text, precedes, order-of}
+use Rattle.buffers.specs.Text.{Text, same-text, precedes}
 use Rattle.syntax.specs.Pieces.{bytes}
 use Rattle.tree.specs.Forest.{Forest, nil, node, Place}
 use Rattle.tree.specs.Rows.{flatten, rows}
-use Rattle.tree.specs.RowScan.{first-depth, depth-of, order-in}
-use Rattle.tree.specs.Search.{alike, tried, steps-at, steps-by, steps-from, steps-in}
+use Rattle.tree.specs.RowScan.{order-of, first-depth, depth-of, order-in}
+use Rattle.tree.specs.Search.{alike, steps-among, steps-at, steps-by, steps-from, steps-in}
 
 -- a name sought, and the steps
 record Case : Type 0 where
@@ -44,8 +44,8 @@ below-top =
     "" takes 1 ∷
     "zebrano" takes 4 ∷ []
 
-children-counted : Counts (λ n. tried n (woods .below)) below-top
-unfolding Counts _takes_ elm-below woods below-top bytes same-text precedes alike tried
+children-counted : Counts (λ n. steps-among n (woods .below)) below-top
+unfolding Counts _takes_ elm-below woods below-top bytes same-text precedes alike steps-among
 children-counted = refl
 
 rows-counted : Counts (steps-in (rows woods) 0) below-top

@@ -28,7 +28,7 @@ use Rattle.tree.specs.RowPlaces.{index-of, Around, lesser}
 use Rattle.tree.specs.RowPlacesLaws.{around}
 use Rattle.tree.specs.RowChangesLaws.{tree-sorted}
 use Rattle.tree.specs.RowScanLaws.{row-of-place, depth-of-place, index-bound, subtree-span, child-in-rows, no-child-in-rows, missing-not-found}
-use Rattle.tree.specs.Search.{steps-in, tried}
+use Rattle.tree.specs.Search.{steps-among, search-in}
 use Rattle.tree.specs.TriedLaws.{steps-are}
 use Rattle.tree.specs.Encoding.{Tag-told, row-bytes, encode-rows, encode-tree}
 use Rattle.tree.specs.RowBytesLaws.{tag-in-bytes}
@@ -158,8 +158,9 @@ module _ {b : List ℕ} {t : Place Node} {p : Path} {i : ℕ} {d : Place Node} (
     pub at-no-child : get n (d .below) ≡ none → child-in (all-rows b) i n ≡ Missing (suc (i + size (lesser n (d .below))))
     at-no-child g = rw (encoded-rows (a .tree), a .row) (no-child-in-rows stands n g)
 
-    -- the steps of the search are those of the children tried
-    pub at-steps : steps-in (all-rows b) i n ≡ tried n (d .below)
+    -- the steps of the search are those among its children
+    pub at-steps : search-in (all-rows b) i n .steps ≡ steps-among n (d .below)
+    unfolding search-in
     at-steps = rw (encoded-rows (a .tree), a .row) (steps-are stands n)
 
     -- what is found is a child

@@ -2,7 +2,7 @@
 ghost use mathlib.Core.Path.{_≡_};
 ghost use Prim.Native.Nat.{_≤_};
 ghost use lib.ListN.{length, getD};
-ghost use Rattle.tree.specs.declared.Child.the-variants.{Missing};
+ghost use Rattle.tree.specs.declared.Child.the-variants.{Found, Missing};
 ghost use Rattle.tree.specs.declared.Search.{Search};
 ghost use Rattle.tree.specs.RowScan.{child-in};
 ghost use Rattle.tree.specs.Search.{search-in};
@@ -17,7 +17,7 @@ use crate::layout::ROW;
 use crate::rows::count;
 use crate::rows::depth_at;
 
-// A byte of a row's name; 0 behind the last.
+// A byte of a row's name; 0 where the name has ended.
 fn name_byte(tree: &[u8], i: usize, k: usize) -> u8
     requires { ⌜ Has-row (now tree) i ⌝ }
     requires { ⌜ k ≤ length (row-at (now tree) i .name) ⌝ }
@@ -29,7 +29,17 @@ fn name_byte(tree: &[u8], i: usize, k: usize) -> u8
     0
 }
 
-// No child has the name, and one would stand at that row.
+// The child stands at a row.
+fn found(i: usize, steps: usize) -> Search
+    ensures { λ r. ⌜ _≡_ {A = Search} r (record { child = Found i; steps = steps }) ⌝ }
+{
+    Search {
+        child: Child::Found(i),
+        steps,
+    }
+}
+
+// There is none of that name; it would stand at a row.
 fn missing(i: usize, steps: usize) -> Search
     ensures { λ r. ⌜ _≡_ {A = Search} r (record { child = Missing i; steps = steps }) ⌝ }
 {
@@ -39,8 +49,8 @@ fn missing(i: usize, steps: usize) -> Search
     }
 }
 
-// The child of a place, or where it would stand, and the steps of the search. At the first byte that differs it is done with a child: a
-// lesser one is passed, a greater one stands behind the one sought.
+// The child of a place, or where it would stand, and the steps of the search. At the first byte that differs it is done with a child:
+// a lesser one is passed, and behind a greater one there is none.
 pub fn search_child(tree: &[u8], at: usize, name: &[u8]) -> Search
     requires { ⌜ Used (now tree) at ⌝ }
     ensures { λ r. ⌜ r ≡ search-in (all-rows (now (tree .entry))) at (now (name .entry)) ⌝ }
@@ -61,23 +71,20 @@ pub fn search_child(tree: &[u8], at: usize, name: &[u8]) -> Search
             let a = name_byte(tree, i, k);
             let b = name[k];
             if a != b {
-                steps += k + 1;
+                steps += k + 1; // they differ
                 if b < a {
                     return missing(i, steps);
                 }
                 continue 'children;
             }
             if a == 0 {
-                steps += k + 1;
+                steps += k + 1; // the child's name has ended, and the one sought goes on, with a byte 0
                 continue 'children;
             }
             k += 1;
         }
         if name_byte(tree, i, k) == 0 {
-            return Search {
-                child: Child::Found(i),
-                steps: steps + k + 1,
-            };
+            return found(i, steps + k + 1);
         }
         return missing(i, steps + k + 1);
     }
@@ -89,6 +96,6 @@ pub fn find_child(tree: &[u8], at: usize, name: &[u8]) -> Child
     requires { ⌜ Used (now tree) at ⌝ }
     ensures { λ r. ⌜ r ≡ child-in (all-rows (now (tree .entry))) at (now (name .entry)) ⌝ }
 {
-    let found = search_child(tree, at, name);
-    found.child
+    let answer = search_child(tree, at, name);
+    answer.child
 }

@@ -81,7 +81,7 @@ pub enum Child {
     Missing(usize),
 }
 
-// What a search for a child found, and its steps: the bytes of names that it compared.
+// What a search for a child found, and its steps: of each child tried the bytes alike from the front, and one more.
 pub struct Search {
     pub child: Child,
     pub steps: usize,

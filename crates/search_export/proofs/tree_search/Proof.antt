@@ -1,6 +1,6 @@
 -- `search_export::tree_search` meets its contract: bytes without the row leave the lent numbers as they were, and of others the search
 -- is told.
-use mathlib.Core.Path.{_≡_, refl}
+use mathlib.Core.Path.{_≡_, sym, _∙_, ap}
 use mathlib.Core.List.{List}
 use mathlib.Core.Bool.{true, false, _&&_}
 use Prim.Native.Nat.{ℕ}
@@ -17,7 +17,7 @@ use Rattle.tree.specs.Layout.{most-rows, tree-width}
 use Rattle.tree.specs.RowAt.{row-count, all-rows}
 use Rattle.tree.specs.TreeBytes.{Used}
 use Rattle.tree.specs.Search.{search-in}
-use Rattle.search_export.specs.SearchCall.{is-used, number-told, place-told, search-told, search-call, Tells}
+use Rattle.search_export.specs.SearchCall.{is-used, Told, search-told, search-call}
 use Rattle.search_export.proofs.tree_search.Statement.{statement}
 use Rattle.search_export.proofs.tree_search.Tie as tie
 
@@ -32,15 +32,13 @@ module _ (b : List ℕ) (at : ℕ) where
       record { sized = record { wide = eqb-true (length b) tree-width (w .0); some-rows = omega arith; few-rows = few }; used = inside }
 
   module _ (n : Name) (place steps : ℕ) where
-    nothing-told : is-used b at ≡ false → Tells (search-call b at n place steps) 2 place steps
+    nothing-told : is-used b at ≡ false → search-call b at n place steps ≡ record { number = 2; place = place; steps = steps }
     unfolding search-call
-    nothing-told h = rw h (record { is-number = refl; is-place = refl; is-steps = refl })
+    nothing-told h = rw h
 
-    told : {number place₁ : ℕ} (s : Search) → is-used b at ≡ true → s ≡ search-in (all-rows b) at n → number ≡ number-told (s .child) → place₁ ≡ place-told (s .child)
-        → Tells (search-call b at n place steps) number place₁ (s .steps)
-    unfolding search-call search-told
-    told s h e q p =
-        rw (h, ← e) (record { is-number = q; is-place = p; is-steps = refl })
+    told : (s : Search) → is-used b at ≡ true → s ≡ search-in (all-rows b) at n → search-call b at n place steps ≡ search-told s
+    unfolding search-call
+    told s h e = rw (h, ← e)
 
 has-row-requires : tie.Need-has-row-requires
 has-row-requires c κs = search needs
@@ -48,7 +46,8 @@ has-row-requires c κs = search needs
 returns : tie.Need-returns
 returns c =
     let a = c .before .before .before .before .args in
-    nothing-told (now (a .tree)) (a .at) (now (a .name)) (now (a .place)) (now (a .steps)) (answers-false (c .before .has-row .ensures) (c .if1 .taken))
+    let t = nothing-told (now (a .tree)) (a .at) (now (a .name)) (now (a .place)) (now (a .steps)) (answers-false (c .before .has-row .ensures) (c .if1 .taken)) in
+    (sym (ap (λ (x : Told). x .number) t), (sym (ap (λ (x : Told). x .place) t), sym (ap (λ (x : Told). x .steps) t)))
 
 search-child-requires : tie.Need-search-child-requires
 search-child-requires c κs = let a = c .before .before .before .before .args in used (now (a .tree)) (a .at) (answers-true (c .before .has-row .ensures) (c .if1 .left))
@@ -60,10 +59,12 @@ number-of-requires : tie.Need-number-of-requires
 number-of-requires c κs = search needs
 
 returns-2 : tie.Need-returns-2
+unfolding search-told
 returns-2 c =
     let a = c .before .before .before .before .before .before .before .args in
-    told (now (a .tree)) (a .at) (now (a .name)) (now (a .place)) (now (a .steps)) (c .before .before .search-child .result)
-    (answers-true (c .before .before .before .before .has-row .ensures) (c .before .before .before .if1 .left)) (c .before .before .search-child .ensures) (c .number-of .ensures) (c .before .place-of .ensures)
+    let t = told (now (a .tree)) (a .at) (now (a .name)) (now (a .place)) (now (a .steps)) (c .before .before .search-child .result)
+    (answers-true (c .before .before .before .before .has-row .ensures) (c .before .before .before .if1 .left)) (c .before .before .search-child .ensures) in
+    (c .number-of .ensures ∙ sym (ap (λ (x : Told). x .number) t), (c .before .place-of .ensures ∙ sym (ap (λ (x : Told). x .place) t), sym (ap (λ (x : Told). x .steps) t)))
 
 pub tree-search-spec : {M : Type 1} → statement M
 tree-search-spec =

@@ -7,15 +7,15 @@ use mathlib.Core.Path.{_≡_, refl, sym, _∙_, ap}
 use mathlib.Core.List.{List}
 use lib.ListN.{length, getD}
 use denote.Ref.{now}
-use Rattle.buffers.specs.Text.{Text, Order, Before, Same, After}
+use Rattle.buffers.specs.Text.{Text}
 use Rattle.tree.specs.declared.Child.{Child}
 use Rattle.tree.specs.declared.Child.the-variants.{Found, Missing}
 use Rattle.tree.specs.declared.Search.{Search}
 use Rattle.tree.specs.Layout.{most-rows, name-width}
-use Rattle.tree.specs.RowScan.{order-in, child-by, child-in}
+use Rattle.tree.specs.RowScan.{Order, Before, Same, After, order-in, child-by, child-in}
 use Rattle.tree.specs.RowScanLaws.{order-below, order-above, order-beside}
 use Rattle.tree.specs.Search.{steps-at, steps-by, steps-in, search-in}
-use Rattle.tree.specs.ComparedLaws.{Compared, Decided, compared-none, one-more, stands-before, stands-after, both-end, second-ends}
+use Rattle.tree.specs.ComparedLaws.{Compared, Decided, compared-none, one-more, first-ends, stands-before, stands-after, both-end, second-ends}
 use Rattle.tree.specs.RowAt.{row-count, row-at, all-rows}
 use Rattle.tree.specs.TreeBytes.{Has-row}
 use Rattle.tree.specs.RowAtLaws.{row-name-fits}
@@ -147,9 +147,9 @@ module _ {tree : List ℕ} {at : ℕ} {name : Text} {n depth i₀ steps i k : �
   passed : Decided (row-at tree i .name) name k Before → Going tree at name n depth (steps + (k + 1)) (i + 1)
   passed d = past (v .outer) (v .lt) (child-steps d) refl (child-order d) (omega (arith, short))
 
-  found : {sum : ℕ} → sum ≡ steps + (k + 1) → Decided (row-at tree i .name) name k Same
+  ended : {sum : ℕ} → sum ≡ steps + (k + 1) → Decided (row-at tree i .name) name k Same
       → Answers tree at name (Found i) sum
-  found f d = finds (v .outer) (v .lt) (child-steps d) f (child-order d)
+  ended f d = finds (v .outer) (v .lt) (child-steps d) f (child-order d)
 
   stopped : {sum : ℕ} → sum ≡ steps + (k + 1) → Decided (row-at tree i .name) name k After
       → Answers tree at name (Missing i) sum
@@ -242,7 +242,7 @@ children-less-2 : tie.Need-children-less-2 Inv-bytes μ-bytes Inv-children μ-ch
 children-less-2 c = omega arith
 
 children-again-2 : tie.Need-children-again-2 Inv-bytes μ-bytes Inv-children μ-children
-children-again-2 c = let v = c .before .before .before .before .before .bytes .inv in passed v (stands-before (v .compared) (nonzero v) (omega arith) (omega arith) (λ e. omega arith))
+children-again-2 c = let v = c .before .before .before .before .before .bytes .inv in passed v (stands-before (v .compared) (nonzero v) (omega arith) (omega arith))
 
 add-steps-3 : tie.Need-add-steps-3 Inv-bytes μ-bytes Inv-children μ-children
 add-steps-3 c = omega arith
@@ -257,7 +257,7 @@ children-less-3 : tie.Need-children-less-3 Inv-bytes μ-bytes Inv-children μ-ch
 children-less-3 c = omega arith
 
 children-again-3 : tie.Need-children-again-3 Inv-bytes μ-bytes Inv-children μ-children
-children-again-3 c = let v = c .before .before .before .before .before .bytes .inv in passed v (stands-before (v .compared) (nonzero v) (omega arith) (omega arith) (λ e. omega arith))
+children-again-3 c = let v = c .before .before .before .before .before .bytes .inv in passed v (first-ends (v .compared) (nonzero v) (omega arith) (omega arith))
 
 add-k : tie.Need-add-k Inv-bytes μ-bytes Inv-children μ-children
 add-k c = omega arith
@@ -271,14 +271,17 @@ bytes-again c = more (c .before .before .before .before .before .bytes .inv) (c 
 name-byte-requires-2 : tie.Need-name-byte-requires-2 Inv-bytes μ-bytes Inv-children μ-children
 name-byte-requires-2 c κs = omega arith
 
-add-t24 : tie.Need-add-t24 Inv-bytes μ-bytes Inv-children μ-children
-add-t24 c = omega arith
+add-found : tie.Need-add-found Inv-bytes μ-bytes Inv-children μ-children
+add-found c = omega arith
 
-add-t25 : tie.Need-add-t25 Inv-bytes μ-bytes Inv-children μ-children
-add-t25 c = omega arith
+add-found-2 : tie.Need-add-found-2 Inv-bytes μ-bytes Inv-children μ-children
+add-found-2 c = omega arith
+
+found-requires : tie.Need-found-requires Inv-bytes μ-bytes Inv-children μ-children
+found-requires c κs = omega arith
 
 returns-3 : tie.Need-returns-3 Inv-bytes μ-bytes Inv-children μ-children
-returns-3 c = let v = c .before .before .before .bytes .inv in found v (omega arith) (both-end (v .compared) (nonzero v) (omega arith) (omega arith))
+returns-3 c = let v = c .before .before .before .before .bytes .inv in c .found .ensures ∙ ended v (omega arith) (both-end (v .compared) (nonzero v) (omega arith) (omega arith))
 
 add-missing : tie.Need-add-missing Inv-bytes μ-bytes Inv-children μ-children
 add-missing c = omega arith
@@ -338,8 +341,9 @@ search-child-spec =
     bytes-less
     bytes-again
     name-byte-requires-2
-    add-t24
-    add-t25
+    add-found
+    add-found-2
+    found-requires
     returns-3
     add-missing
     add-missing-2
