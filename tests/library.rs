@@ -1,4 +1,5 @@
-//! The library's calls by include/patterns.h, with safe wrappers, for the packages beside. Here and in search.rs is all that is `unsafe`.
+//! The library's calls by include/patterns.h, with safe wrappers, for the packages beside. Only here and in search.rs there is
+//! `unsafe`.
 
 /// The value of an answer that has neither text nor line.
 pub const NO_VALUE: u64 = u64::MAX;

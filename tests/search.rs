@@ -26,14 +26,19 @@ extern "C" {
     ) -> u32;
 }
 
-/// The child of that name of the place in row `at`; none where the bytes are not as many as a tree's or have no such row.
+/// What the lent numbers hold before a call: one that tells nothing leaves them.
+const UNTOUCHED: u64 = u64::MAX;
+
+/// The child of that name of the place in row `at`; none where the bytes are not as many as a tree's, say more rows than there is
+/// room for, or have no such row.
 pub fn search(tree: &[u8], at: usize, name: &[u8]) -> Option<Search> {
-    let (mut place, mut steps) = (u64::MAX, u64::MAX);
+    let (mut place, mut steps) = (UNTOUCHED, UNTOUCHED);
     // The slices are the caller's own and only read; the lengths are theirs.
     let number = unsafe { tree_search(tree.as_ptr(), tree.len(), at, name.as_ptr(), name.len(), &mut place, &mut steps) };
     match number {
         0 => Some(Search { child: Child::Found(place), steps }),
         1 => Some(Search { child: Child::Missing(place), steps }),
-        _ => None,
+        2 if (place, steps) == (UNTOUCHED, UNTOUCHED) => None,
+        _ => panic!("tree_search gives {number}, {place}, {steps}"),
     }
 }

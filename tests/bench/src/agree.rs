@@ -1,12 +1,18 @@
 //! Random setups and lines through the library and plain Rust: number, value and both whole buffers after each call; and searches
 //! for a child.
 
+use crate::cases::nodes;
 use crate::library;
 use crate::plain::{self, Answer, ANSWER, STORE, TREE};
 use crate::random::Random;
-use crate::search::search;
+use crate::search::{search, Child, Search};
 
 const SHOWN: usize = 20;
+
+/// Where the rows begin, the bytes of one, and its name's field.
+const ROWS: usize = TREE + 2;
+const ROW: usize = 227;
+const NAME: std::ops::Range<usize> = 8..16;
 
 /// The calls and the numbers that each can give.
 const GIVEN: [(&str, &[u32]); 3] = [
@@ -55,11 +61,12 @@ const SELDOM: [&str; 22] = [
     "1,mv,/u1/e,/u1/b",
 ];
 
-/// Comparisons, and how often each call gave each number.
+/// Comparisons, how often each call gave each number, and how often a child was found, missing, or sought where no row is.
 struct Tally {
     passed: usize,
     failed: usize,
     numbers: [[usize; 21]; GIVEN.len()],
+    searches: [usize; 3],
 }
 
 impl Call<'_> {
@@ -74,7 +81,7 @@ impl Call<'_> {
 }
 
 impl Tally {
-    /// Fails for each number that did not come up, and for each that no call can give.
+    /// Fails for each number that did not come up, for each that no call can give, and for each kind of search that did not.
     fn check_numbers(&mut self) {
         for ((call, given), counts) in GIVEN.iter().zip(self.numbers) {
             let shown: Vec<String> = given.iter().map(|n| format!("{n}: {}", counts[*n as usize])).collect();
@@ -86,12 +93,14 @@ impl Tally {
                 }
             }
         }
+        println!("searches found {}  missing {}  no row {}", self.searches[0], self.searches[1], self.searches[2]);
+        self.failed += self.searches.iter().filter(|count| **count == 0).count();
     }
 }
 
 pub fn agree(seed: u64, lines: u64) -> bool {
     let mut random = Random::new(seed);
-    let mut tally = Tally { passed: 0, failed: 0, numbers: [[0; 21]; GIVEN.len()] };
+    let mut tally = Tally { passed: 0, failed: 0, numbers: [[0; 21]; GIVEN.len()], searches: [0; 3] };
     let mut buffers = Buffers { store: vec![0x5a; STORE], into: vec![0xa5; ANSWER] };
     seldom(&mut buffers, &mut tally);
     let mut left = lines;
@@ -148,7 +157,7 @@ fn odd_setup(random: &mut Random, text: &[u8], tally: &mut Tally) {
 
 /// One line; now and then on a spoilt store, with a short or long answer buffer, or a listing.
 fn step(random: &mut Random, buffers: &mut Buffers, tally: &mut Tally) {
-    let nodes = usize::from(u16::from_le_bytes([buffers.store[7422], buffers.store[7423]]));
+    let nodes = nodes(&buffers.store);
     let line = random.line(&buffers.store, nodes);
     if random.once_in(10) {
         let mut spoilt = buffers.clone();
@@ -169,18 +178,32 @@ fn step(random: &mut Random, buffers: &mut Buffers, tally: &mut Tally) {
     buffers.into.resize(ANSWER, 0xa5);
 }
 
-/// A search by both for some of the bytes in which a row has its name, below any row or past the last.
+/// A search by both: for a row's name where it stands, or for some of its field below any row or past the last.
 fn search_both(random: &mut Random, store: &[u8], nodes: usize, tally: &mut Tally) {
-    let Some(tree) = store.get(TREE..) else { return };
-    let named = 2 + 227 * random.below(nodes) + 8;
-    let Some(name) = tree.get(named..named + random.below(10)) else { return };
-    let at = random.below(nodes + 1);
+    let (Some(tree), Some(rows)) = (store.get(TREE..), store.get(ROWS..ROWS + ROW * nodes)) else { return };
+    let rows: Vec<&[u8]> = rows.chunks(ROW).collect();
+    let named = random.below(nodes);
+    let field = &rows[named][NAME];
+    let (at, length) = if random.once_in(2) {
+        let above = rows[..named].iter().rposition(|row| row[0] < rows[named][0]);
+        (above.unwrap_or(0), field.iter().position(|b| *b == 0).unwrap_or(field.len()))
+    } else {
+        (random.below(nodes + 1), random.below(field.len() + 1))
+    };
+    let name = &field[..length];
     let (ours, theirs) = (search(tree, at, name), plain::search(tree, at, name));
+    match theirs {
+        Some(Search { child: Child::Found(_), .. }) => tally.searches[0] += 1,
+        Some(Search { child: Child::Missing(_), .. }) => tally.searches[1] += 1,
+        None => tally.searches[2] += 1,
+    }
     if ours == theirs {
         tally.passed += 1;
     } else {
         tally.failed += 1;
-        println!("search below {at} for {name:?}: library {ours:?}, plain {theirs:?}");
+        if tally.failed <= SHOWN {
+            println!("search below {at} for {name:?}: library {ours:?}, plain {theirs:?}");
+        }
     }
 }
 
@@ -197,8 +220,8 @@ fn list_oddly(random: &mut Random, buffers: &Buffers, nodes: usize, tally: &mut 
 
 /// Makes every revision that is not 0 the last one.
 fn age(store: &mut [u8]) {
-    let nodes = usize::from(u16::from_le_bytes([store[7422], store[7423]]));
-    for row in store[7424..].chunks_mut(227).take(nodes) {
+    let nodes = nodes(store);
+    for row in store[ROWS..].chunks_mut(ROW).take(nodes) {
         for at in [6, 65] {
             if row[at..at + 2] != [0, 0] {
                 row[at..at + 2].copy_from_slice(&9999u16.to_le_bytes());
@@ -214,12 +237,12 @@ fn spoil(random: &mut Random, store: &mut Vec<u8>, nodes: usize) {
         return;
     }
     for _ in 0..1 + random.below(2) {
-        let row = 7424 + 227 * random.below(nodes);
+        let row = ROWS + ROW * random.below(nodes);
         let at = match random.below(8) {
             0 => random.below(STORE),
             1 => random.below(450),
-            2 => 7422 + random.below(2),
-            3 => 7424 + 227 * nodes.saturating_sub(1) + random.below(454),
+            2 => TREE + random.below(2),
+            3 => ROWS + ROW * nodes.saturating_sub(1) + random.below(2 * ROW),
             4 | 5 => row + random.below(20),
             _ => row + random.below(160),
         }

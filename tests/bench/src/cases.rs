@@ -1,6 +1,6 @@
 //! What is measured: a call for each command, and stores of a given number of nodes on which it is done or refused.
 
-use crate::plain::{self, ANSWER, STORE};
+use crate::plain::{self, ANSWER, STORE, TREE};
 
 /// The call that is measured.
 pub enum Call {
@@ -124,7 +124,7 @@ impl Case {
 
 /// The number of nodes in a store.
 pub fn nodes(store: &[u8]) -> usize {
-    u16::from_le_bytes([store[7422], store[7423]]).into()
+    u16::from_le_bytes([store[TREE], store[TREE + 1]]).into()
 }
 
 /// A line that must be done.

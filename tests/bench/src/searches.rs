@@ -1,4 +1,5 @@
-//! What the search for a child takes beside the same pass in plain Rust, and what a `read` takes that makes many steps.
+//! What the search for a child takes beside the same pass in plain Rust; and what a `read` takes that makes many steps, beside plain
+//! Rust that compares each name as one number.
 
 use crate::bench::{least, overhead};
 use crate::plain::{self, ANSWER, STORE, TREE};

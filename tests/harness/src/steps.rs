@@ -4,7 +4,7 @@ use crate::layout::{encode, put_two, two, ROWS};
 use crate::model::state::{text, Path, State, MOST_NODES};
 use crate::rng::Rng;
 use crate::search::search;
-use crate::steps_kinds::Kinds;
+use crate::steps_kinds::{Kinds, MOST_BYTES};
 use crate::steps_trees::trees;
 use crate::tally::{show, Tally};
 use crate::twin::{unlike, Twin};
@@ -88,8 +88,8 @@ fn near(name: &[u8]) -> Vec<Vec<u8>> {
         with(name, b"\0"),
         with(name, b"\xff"),
         with(name, b"/rep/"),
-        zeros(8),
-        zeros(9),
+        zeros(MOST_BYTES),
+        zeros(MOST_BYTES + 1),
         // The length's low byte is that of the name.
         with(name, &[b'a'; 256]),
     ]
@@ -117,7 +117,7 @@ fn no_answers(tally: &mut Tally, tree: &[u8], what: &str) {
             check(&with_rows(number), at, false);
         }
     }
-    // Far rows, too; the low bytes of most are those of row 0.
+    // Far rows, too; the low bytes of some are those of row 0.
     for at in [rows, rows + 1, MOST_NODES, MOST_NODES + 1, 65_536, 1 << 32, 1 << 63, usize::MAX] {
         check(tree, at, false);
     }

@@ -1,9 +1,9 @@
 //! Searches whose answers are worked out by hand from request 4's sentence: "for each the bytes alike from the front, and one
 //! more, where the names differ or both end". Model and library are each held against them.
 
+use crate::damage::fresh;
 use crate::layout::{encode, ROWS};
 use crate::model::line::path;
-use crate::model::setup::read_setup;
 use crate::model::state::{Kind, Node, Path, State};
 use crate::search::{search, Child, Search};
 use crate::steps_model;
@@ -107,7 +107,7 @@ pub fn by_hand(tally: &mut Tally) {
 
 /// The tree of the paths, in which what has nothing below it is a file, and the path of a row.
 fn tree(texts: &[&str], at: usize) -> (State, Path) {
-    let mut state = read_setup(b"end\n").expect("a good setup");
+    let mut state = fresh(b"end\n");
     let paths: Vec<Path> = ["/"].iter().chain(texts).map(|text| path(text.as_bytes()).expect("a path")).collect();
     let holds =
         |place: &Path| place.is_empty() || paths.iter().any(|other| other.len() > place.len() && other.starts_with(place));

@@ -94,7 +94,8 @@ fn by_place_among(names: &[Vec<u8>], sought: &[u8]) -> Kind {
     }
 }
 
-/// How a child's name and the one sought compare; nothing where shorter ones are the same.
+/// How a child's name and the one sought compare; nothing where both are the same with fewer than 8 bytes, or the empty one is
+/// sought.
 fn by_bytes(name: &[u8], sought: &[u8]) -> Option<Kind> {
     let same = alike(name, sought);
     match (name.get(same), sought.get(same)) {

@@ -1,12 +1,13 @@
-//! The search for a child as the library makes it, names measured and compared in one pass, to be measured beside it. The walks here
-//! compare a name as one number.
+//! The search for a child as the library makes it, names measured and compared in one pass, to be measured beside it. The walks
+//! of this plain Rust compare a name as one number.
 
 use super::rows::{Fields, Row, MOST_NODES};
 use crate::search::{Child, Search};
 
 const BYTES: usize = 2 + MOST_NODES * size_of::<Row>();
 
-/// The child of that name of the place in row `at`; none where the bytes are not as many as a tree's or have no such row.
+/// The child of that name of the place in row `at`; none where the bytes are not as many as a tree's, say more rows than there is
+/// room for, or have no such row.
 #[inline(never)]
 pub fn search(tree: &[u8], at: usize, name: &[u8]) -> Option<Search> {
     let tree: &[u8; BYTES] = tree.try_into().ok()?;
