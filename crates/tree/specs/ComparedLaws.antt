@@ -2,6 +2,7 @@
 --
 -- Of the first, which stands in a row, a byte behind the last is zero and no other is; the second has any bytes.
 use mathlib.Core.Path.{_≡_, refl, _∙_}
+use mathlib.Core.Bool.{Bool, cond, or-false}
 use Prim.Native.Nat.{ℕ, suc, _+_, _≤_, _<_}
 use native.Mathlib.Omega.{arith}
 use native.Mathlib.Numerals.{add-one}
@@ -47,21 +48,12 @@ module _ {s t : Text} {k : ℕ} (c : Compared s t k) where
         rw (add-one, drop-cons s k 0 h, drop-cons t k 0 l) (rw (eq-eqb (getD s k 0) (getD t k 0) e)) in
         record { in-first = omega arith; in-second = omega arith; order = c .order ∙ o; count = omega (arith, c .count, n) }
 
-    byte-less : getD s k 0 < getD t k 0 → Decided s t k Before
+    -- where they differ, the lesser byte comes before
+    byte-differs : {b : Bool} → (getD s k 0 ≡ getD t k 0 → ⊥) → ltb (getD s k 0) (getD t k 0) ≡ b → Decided s t k (cond b Before After)
     unfolding order-of same-text precedes alike
-    byte-less m =
-        let d = ne-eqb (getD s k 0) (getD t k 0) (λ e. omega arith) in
-        decided
-        (rw (drop-cons s k 0 h, drop-cons t k 0 l) (rw (d, lt-ltb (getD s k 0) (getD t k 0) m)))
-        (rw (drop-cons s k 0 h, drop-cons t k 0 l) (rw d))
-
-    byte-greater : getD t k 0 < getD s k 0 → Decided s t k After
-    unfolding order-of same-text precedes alike
-    byte-greater m =
-        let d = ne-eqb (getD s k 0) (getD t k 0) (λ e. omega arith) in
-        decided
-        (rw (drop-cons s k 0 h, drop-cons t k 0 l) (rw (d, le-ltb (getD s k 0) (getD t k 0) (omega arith))))
-        (rw (drop-cons s k 0 h, drop-cons t k 0 l) (rw d))
+    byte-differs {b} n m =
+        let d = ne-eqb (getD s k 0) (getD t k 0) n in
+        decided (rw (drop-cons s k 0 h, drop-cons t k 0 l) (rw (d, m, or-false b))) (rw (drop-cons s k 0 h, drop-cons t k 0 l) (rw d))
 
   -- the first has ended, or the second, or both
   first-shorter : length s ≤ k → k < length t → Decided s t k Before
@@ -100,12 +92,12 @@ module _ {s t : Text} {k : ℕ} (c : Compared s t k) (nonzero : k < length s →
   -- its byte is less: zero, where it has ended, or not
   pub stands-before : k < length t → getD s k 0 < getD t k 0 → Decided s t k Before
   stands-before l m = case (ltb k (length s))
-      (λ h. byte-less c (ltb-true k (length s) h) l m)
+      (λ h. byte-differs c (ltb-true k (length s) h) l (λ e. omega arith) (lt-ltb (getD s k 0) (getD t k 0) m))
       (λ h. first-shorter c (ltb-false k (length s) h) l)
 
   -- its byte is greater, so it has not ended
   pub stands-after : k < length t → getD t k 0 < getD s k 0 → Decided s t k After
-  stands-after l m = byte-greater c (first-goes-on (λ e. omega arith)) l m
+  stands-after l m = byte-differs c (first-goes-on (λ e. omega arith)) l (λ e. omega arith) (le-ltb (getD s k 0) (getD t k 0) (omega arith))
 
   -- the second has ended, and the first too
   pub both-end : length t ≤ k → getD s k 0 ≡ 0 → Decided s t k Same

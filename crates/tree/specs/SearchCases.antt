@@ -1,7 +1,7 @@
 -- Steps worked out by document 02's sentence: of each child tried the bytes alike from the front, and one more.
 use mathlib.Core.Path.{_≡_, refl}
 use mathlib.Core.List.{List, [], _∷_, map}
-use Prim.Native.Nat.{ℕ}
+use Prim.Native.Nat.{ℕ, _+_}
 use Prim.Native.String.{String}
 use Rattle.buffers.specs.Text.{Text, same-text, precedes}
 use Rattle.syntax.specs.Pieces.{bytes}
@@ -30,19 +30,18 @@ elm-below = node (bytes "ash") 0 nil (node (bytes "elms") 0 nil nil)
 woods : Place ℕ
 woods = record { here = 0; below = node (bytes "ash") 0 nil (node (bytes "elm") 0 elm-below (node (bytes "elmwood") 0 nil (node (bytes "oak") 0 nil nil))) }
 
--- found: ash 4; ash 1, elm 4; ash 1, elm 4, elmwood 8
--- missing: ash 1, elm 3; ash 1, elm 4, elmwood 4; those with elmwood 8, and oak 1; ash 2; ash 1; each of the four 1
+-- below the top, a summand for each child tried, in order; first the names that are there
 below-top : List Case
 below-top =
     "ash" takes 4 ∷
-    "elm" takes 5 ∷
-    "elmwood" takes 13 ∷
-    "el" takes 4 ∷
-    "elms" takes 9 ∷
-    "elmwoods" takes 14 ∷
+    "elm" takes (1 + 4) ∷
+    "elmwood" takes (1 + 4 + 8) ∷
+    "el" takes (1 + 3) ∷
+    "elms" takes (1 + 4 + 4) ∷
+    "elmwoods" takes (1 + 4 + 8 + 1) ∷
     "a" takes 2 ∷
     "" takes 1 ∷
-    "zebrano" takes 4 ∷ []
+    "zebrano" takes (1 + 1 + 1 + 1) ∷ []
 
 children-counted : Counts (λ n. steps-among n (woods .below)) below-top
 unfolding Counts _takes_ elm-below woods below-top bytes same-text precedes alike steps-among
@@ -52,8 +51,8 @@ rows-counted : Counts (steps-in (rows woods) 0) below-top
 unfolding Counts _takes_ elm-below woods below-top bytes same-text precedes order-of flatten rows first-depth depth-of order-in alike steps-at steps-by steps-from steps-in
 rows-counted = refl
 
--- below elm, whose row is the third: ash 1, elms 4; ash 1, elms 5; below oak nothing is tried
-rows-below-counted : Counts (steps-in (rows woods) 2) ("elm" takes 5 ∷ "elms" takes 6 ∷ [])
+-- below elm, whose row is the third; and below oak, where nothing is tried
+rows-below-counted : Counts (steps-in (rows woods) 2) ("elm" takes (1 + 4) ∷ "elms" takes (1 + 5) ∷ [])
 unfolding Counts _takes_ elm-below woods bytes same-text precedes order-of flatten rows first-depth depth-of order-in alike steps-at steps-by steps-from steps-in
 rows-below-counted = refl
 

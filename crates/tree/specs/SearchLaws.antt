@@ -29,6 +29,7 @@ module _ (b : List ℕ) (i k : ℕ) where
       ∙ byte-in-row b i (name-offset + k) (omega arith)
       ∙ ap (λ (p : ℕ). getD b p 0) q
 
+  -- no byte of the name is zero
   pub name-nonzero : k < length (row-at b i .name) → getD (row-at b i .name) k 0 ≡ 0 → ⊥
   unfolding row-at read-row
   name-nonzero h = text-nonzero (row-bytes-at b i) name-offset name-width k h
@@ -41,6 +42,7 @@ module _ {A : Type 0} (k : ℕ) (n : Text) (r : Row A) where
   unfolding steps-at
   steps-aside h = rw (ne-eqb (r .depth) k h)
 
+  -- at a child the bytes alike and one more
   pub steps-beside : r .depth ≡ k → steps-at k n r ≡ suc (alike (r .name) n)
   unfolding steps-at
   steps-beside e = rw (eq-eqb (r .depth) k e)

@@ -9,7 +9,7 @@ use lib.ListN.{length, getD}
 use denote.Ref.{now}
 use Rattle.buffers.specs.Text.{Text}
 use Rattle.tree.specs.declared.Child.{Child}
-use Rattle.tree.specs.declared.Child.the-variants.{Found, Missing}
+use Rattle.tree.specs.declared.Child.the-variants.{Missing}
 use Rattle.tree.specs.declared.Search.{Search}
 use Rattle.tree.specs.Layout.{most-rows, name-width}
 use Rattle.tree.specs.RowScan.{Order, Before, Same, After, order-in, child-by, child-in}
@@ -71,15 +71,10 @@ module _ {tree : List ℕ} {at : ℕ} {name : Text} {n depth steps i : ℕ} (g :
           sums = rw add-one (omega (arith, steps-turn h e q, f));
         }
 
-    -- at one that stands behind it
-    stops : order-in depth name (row-at tree i) ≡ After → Answers tree at name (Missing i) sum
-    unfolding child-by steps-by
-    stops e = whole tree at name (child-turns h e q) (f ∙ steps-turn h e q)
-
-    -- at its own
-    finds : order-in depth name (row-at tree i) ≡ Same → Answers tree at name (Found i) sum
-    unfolding child-by steps-by
-    finds e = whole tree at name (child-turns h e q) (f ∙ steps-turn h e q)
+    -- at its own it ends, and at one that stands behind it
+    halts : (o : Order) → order-in depth name (row-at tree i) ≡ o → steps-by o s (steps-left tree depth name (suc i)) ≡ s
+        → Answers tree at name (child-by o i (child-left tree depth name (suc i))) sum
+    halts o e z = whole tree at name (child-turns h e q) (omega (arith, f, z, steps-turn h e q))
 
   -- behind the last row
   over : n ≤ i → Answers tree at name (Missing n) steps
@@ -147,13 +142,9 @@ module _ {tree : List ℕ} {at : ℕ} {name : Text} {n depth i₀ steps i k : �
   passed : Decided (row-at tree i .name) name k Before → Going tree at name n depth (steps + (k + 1)) (i + 1)
   passed d = past (v .outer) (v .lt) (child-steps d) refl (child-order d) (omega (arith, short))
 
-  ended : {sum : ℕ} → sum ≡ steps + (k + 1) → Decided (row-at tree i .name) name k Same
-      → Answers tree at name (Found i) sum
-  ended f d = finds (v .outer) (v .lt) (child-steps d) f (child-order d)
-
-  stopped : {sum : ℕ} → sum ≡ steps + (k + 1) → Decided (row-at tree i .name) name k After
-      → Answers tree at name (Missing i) sum
-  stopped f d = stops (v .outer) (v .lt) (child-steps d) f (child-order d)
+  halted : {sum : ℕ} (o : Order) → sum ≡ steps + (k + 1) → Decided (row-at tree i .name) name k o
+      → steps-by o (k + 1) (steps-left tree depth name (suc i)) ≡ k + 1 → Answers tree at name (child-by o i (child-left tree depth name (suc i))) sum
+  halted o f d z = halts (v .outer) (v .lt) (child-steps d) f o (child-order d) z
 
 abbrev Inv-bytes : tie.InvT-bytes
 Inv-bytes tree at name n depth steps₀ i₀ d k₀ steps i k = Inner tree at name n depth i₀ steps i k
@@ -197,10 +188,11 @@ missing-requires : tie.Need-missing-requires Inv-bytes μ-bytes Inv-children μ-
 missing-requires c κs = omega arith
 
 returns : tie.Need-returns Inv-bytes μ-bytes Inv-children μ-children
+unfolding child-by steps-by
 returns c =
     let a = c .before .before .before .before .before .before .before .before .before .args in
     let r = row-at (now (a .tree)) (c .before .before .before .before .children .i) in
-    c .missing .ensures ∙ stops (c .before .before .before .before .children .inv) (omega arith) (steps-aside _ (now (a .name)) r (λ e. omega arith)) (omega arith) (order-above _ (now (a .name)) r (omega arith))
+    c .missing .ensures ∙ halts (c .before .before .before .before .children .inv) (omega arith) (steps-aside _ (now (a .name)) r (λ e. omega arith)) (omega arith) After (order-above _ (now (a .name)) r (omega arith)) refl
 
 add-i-2 : tie.Need-add-i-2 Inv-bytes μ-bytes Inv-children μ-children
 add-i-2 c = omega arith
@@ -233,7 +225,8 @@ missing-requires-2 : tie.Need-missing-requires-2 Inv-bytes μ-bytes Inv-children
 missing-requires-2 c κs = omega arith
 
 returns-2 : tie.Need-returns-2 Inv-bytes μ-bytes Inv-children μ-children
-returns-2 c = let v = c .before .before .before .before .before .before .bytes .inv in c .missing2 .ensures ∙ stopped v refl (stands-after (v .compared) (nonzero v) (omega arith) (omega arith))
+unfolding child-by steps-by
+returns-2 c = let v = c .before .before .before .before .before .before .bytes .inv in c .missing2 .ensures ∙ halted v After refl (stands-after (v .compared) (nonzero v) (omega arith) (omega arith)) refl
 
 add-i-3 : tie.Need-add-i-3 Inv-bytes μ-bytes Inv-children μ-children
 add-i-3 c = omega arith
@@ -281,7 +274,8 @@ found-requires : tie.Need-found-requires Inv-bytes μ-bytes Inv-children μ-chil
 found-requires c κs = omega arith
 
 returns-3 : tie.Need-returns-3 Inv-bytes μ-bytes Inv-children μ-children
-returns-3 c = let v = c .before .before .before .before .bytes .inv in c .found .ensures ∙ ended v (omega arith) (both-end (v .compared) (nonzero v) (omega arith) (omega arith))
+unfolding child-by steps-by
+returns-3 c = let v = c .before .before .before .before .bytes .inv in c .found .ensures ∙ halted v Same (omega arith) (both-end (v .compared) (nonzero v) (omega arith) (omega arith)) refl
 
 add-missing : tie.Need-add-missing Inv-bytes μ-bytes Inv-children μ-children
 add-missing c = omega arith
@@ -293,7 +287,8 @@ missing-requires-3 : tie.Need-missing-requires-3 Inv-bytes μ-bytes Inv-children
 missing-requires-3 c κs = omega arith
 
 returns-4 : tie.Need-returns-4 Inv-bytes μ-bytes Inv-children μ-children
-returns-4 c = let v = c .before .before .before .before .bytes .inv in c .missing3 .ensures ∙ stopped v (omega arith) (second-ends (v .compared) (nonzero v) (omega arith) (λ z. omega arith))
+unfolding child-by steps-by
+returns-4 c = let v = c .before .before .before .before .bytes .inv in c .missing3 .ensures ∙ halted v After (omega arith) (second-ends (v .compared) (nonzero v) (omega arith) (λ z. omega arith)) refl
 
 missing-requires-4 : tie.Need-missing-requires-4 Inv-bytes μ-bytes Inv-children μ-children
 missing-requires-4 c κs = omega arith
