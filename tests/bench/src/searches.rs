@@ -67,6 +67,7 @@ pub fn searches() {
         let line = format!("1,read,{}", walk.path);
         let mut other = store.clone();
         let (mut into, mut other_into) = ([0; ANSWER], [0; ANSWER]);
+        assert_eq!(library::run(&mut store, line.as_bytes(), &mut into).number, 0);
         let (ours, theirs) = least(
             || u64::from(library::run(&mut store, line.as_bytes(), &mut into).number),
             || u64::from(plain::run(&mut other, line.as_bytes(), &mut other_into).number),
