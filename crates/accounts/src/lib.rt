@@ -121,7 +121,7 @@ impl Groups {
         if 32 <= g.0 {
             return false;
         }
-        self.0 / bit(g) % 2 == 1
+        (self.0 >> g.0) % 2 == 1
     }
 }
 
