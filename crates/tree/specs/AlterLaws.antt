@@ -3,7 +3,8 @@
 --
 -- In order:
 --   two changes at one path, and changes that come to the same at a place: update-twice, alter-twice, alter-alike;
---   the shape of a tree, and what goes by it: bare to unused-bare;
+--   what a map keeps of every payload, an alteration that leaves it, and what goes by it alone: index-map to size-kept;
+--   the shape of a tree, of which nothing of the payloads is kept: bare to unused-bare;
 --   the row of a place after a payload was altered: Altered-place, altered-at, and what it holds;
 --   a child put in beside an altered payload: put-altered.
 use mathlib.Core.Path.{_≡_, refl, sym, _∙_, ap}
@@ -25,7 +26,7 @@ use Rattle.tree.specs.WellFormed.{nodes, is-node}
 use Rattle.tree.specs.UpdateLaws.{by-option, update-same, update-none}
 use Rattle.tree.specs.ChangeLaws.{alter-at}
 use Rattle.tree.specs.OtherPathLaws.{none-below}
-use Rattle.tree.specs.MapLaws.{map-nil, map-below}
+use Rattle.tree.specs.MapLaws.{map-nil, map-here, map-below}
 use Rattle.tree.specs.HoldsLaws.{holds-altered, holds-alter, place-map}
 use Rattle.tree.specs.RowPlaces.{ahead, children-of, index-of, lesser}
 use Rattle.tree.specs.RowPlacesLaws.{update-at}
@@ -58,15 +59,7 @@ module _ {A : Type 0} where
       ∙ ap (λ (x : A). update p (λ y. record { here = x; below = d .below }) t) q
       ∙ sym (update-at t p (alter g) d e)
 
--- ---- the shape of a tree
-
--- no payload
-abbrev pub blank : {A : Type 0} → A → Unit {0}
-blank x = tt
-
--- a tree without its payloads
-abbrev pub bare : {A : Type 0} → Place A → Place (Unit {0})
-bare d = map-place blank d
+-- ---- what a map keeps of every payload
 
 module _ {A B : Type 0} (g : A → B) where
   ahead-map : (n : Name) (F : Forest A) → ahead n (map-forest g F) ≡ map-forest g (ahead n F)
@@ -85,7 +78,7 @@ module _ {A B : Type 0} (g : A → B) where
   children-map (some d) = map-below g d
 
   -- rows stand where they stood
-  index-map : (t : Place A) (p : Path) → index-of (map-place g t) p ≡ index-of t p
+  pub index-map : (t : Place A) (p : Path) → index-of (map-place g t) p ≡ index-of t p
   unfolding index-of
   index-map t root = refl
   index-map t (p ▹ n) =
@@ -101,45 +94,70 @@ module _ {A B : Type 0} (g : A → B) where
 update-id : {A : Type 0} (p : Path) (t : Place A) → update p (λ d. d) t ≡ t
 update-id p t = by-option (place-at t p) (λ e. update-none t p (λ d. d) e) (λ d e. update-same t p (λ d. d) d e refl)
 
+module _ {A B : Type 0} (keep : A → B) where
+  -- an alteration that leaves what is kept of a payload leaves it of the tree
+  pub map-altered : (g : A → A) → ((x : A) → keep (g x) ≡ keep x) → (p : Path) (t : Place A) → map-place keep (update p (alter g) t) ≡ map-place keep t
+  unfolding alter map-place
+  map-altered g e p t = sym (update-map keep (λ d. d) (alter g) (λ d. rw (e (d .here))) p t) ∙ update-id p (map-place keep t)
+
+  module _ (d e : Place A) (s : map-place keep d ≡ map-place keep e) where
+    -- places of which the same is kept have their rows alike
+    pub index-kept : (q : Path) → index-of d q ≡ index-of e q
+    index-kept q = sym (index-map keep d q) ∙ ap (λ (x : Place B). index-of x q) s ∙ index-map keep e q
+
+    -- a place for a place
+    place-kept : (q : Path) (x : Place A) → place-at e q ≡ some x → (y : Place A) × (place-at d q ≡ some y) × (map-place keep y ≡ map-place keep x)
+    place-kept q x there =
+        let both : Option·map (map-place keep) (place-at d q) ≡ some (map-place keep x) =
+        sym (place-map keep d q) ∙ ap (λ (y : Place B). place-at y q) s ∙ place-map keep e q ∙ ap (Option·map (map-place keep)) there in
+        by-option (place-at d q)
+        (λ z. let i : none ≡ some (map-place keep x) = rw z at both in no-answer i)
+        (λ y z. let i : some (map-place keep y) ≡ some (map-place keep x) = rw z at both in (y, z, sym (answered i)))
+
+    -- the same of the payload
+    pub here-kept : keep (d .here) ≡ keep (e .here)
+    here-kept = sym (map-here keep d) ∙ ap (λ (x : Place B). x .here) s ∙ map-here keep e
+
+    -- the same below
+    pub below-kept : map-forest keep (d .below) ≡ map-forest keep (e .below)
+    below-kept = sym (map-below keep d) ∙ ap (λ (x : Place B). x .below) s ∙ map-below keep e
+
+    -- and as many nodes there
+    pub size-kept : size (d .below) ≡ size (e .below)
+    size-kept = sym (size-map keep (d .below)) ∙ ap size below-kept ∙ size-map keep (e .below)
+
+-- ---- the shape of a tree
+
+-- no payload
+abbrev pub blank : {A : Type 0} → A → Unit {0}
+blank x = tt
+
+-- a tree without its payloads
+abbrev pub bare : {A : Type 0} → Place A → Place (Unit {0})
+bare d = map-place blank d
+
 module _ {A : Type 0} where
   -- a payload altered leaves it
   pub bare-altered : (p : Path) (g : A → A) (t : Place A) → bare (update p (alter g) t) ≡ bare t
-  unfolding alter map-place
-  bare-altered p g t = sym (update-map blank (λ d. d) (alter g) (λ d. refl) p t) ∙ update-id p (bare t)
+  bare-altered p g t = map-altered blank g (λ x. refl) p t
 
   module _ (d e : Place A) (s : bare d ≡ bare e) where
-    -- places of one shape have their rows alike
-    index-bare : (q : Path) → index-of d q ≡ index-of e q
-    index-bare q = sym (index-map blank d q) ∙ ap (λ (x : Place (Unit {0})). index-of x q) s ∙ index-map blank e q
-
-    -- a place for a place
-    place-bare : (q : Path) (x : Place A) → place-at e q ≡ some x → (y : Place A) × (place-at d q ≡ some y) × (bare y ≡ bare x)
-    place-bare q x there =
-        let both : Option·map (map-place blank) (place-at d q) ≡ some (bare x) =
-        sym (place-map blank d q) ∙ ap (λ (y : Place (Unit {0})). place-at y q) s ∙ place-map blank e q ∙ ap (Option·map (map-place blank)) there in
-        by-option (place-at d q)
-        (λ z. let i : none ≡ some (bare x) = rw z at both in no-answer i)
-        (λ y z. let i : some (bare y) ≡ some (bare x) = rw z at both in (y, z, sym (answered i)))
-
-    below-bare : map-forest blank (d .below) ≡ map-forest blank (e .below)
-    below-bare = sym (map-below blank d) ∙ ap (λ (x : Place (Unit {0})). x .below) s ∙ map-below blank e
-
     -- as many nodes
     pub nodes-bare : nodes d ≡ nodes e
     unfolding nodes
-    nodes-bare = ap suc (sym (size-map blank (d .below)) ∙ ap size below-bare ∙ size-map blank (e .below))
+    nodes-bare = ap suc (size-kept blank d e s)
 
     -- as many before a name
     pub lesser-bare : (n : Name) → size (lesser n (d .below)) ≡ size (lesser n (e .below))
     lesser-bare n =
-        sym (size-map blank (lesser n (d .below))) ∙ ap size (sym (lesser-map blank n (d .below)) ∙ ap (lesser n) below-bare ∙ lesser-map blank n (e .below))
+        sym (size-map blank (lesser n (d .below))) ∙ ap size (sym (lesser-map blank n (d .below)) ∙ ap (lesser n) (below-kept blank d e s) ∙ lesser-map blank n (e .below))
         ∙ size-map blank (lesser n (e .below))
 
     -- and the same names unused
     pub unused-bare : (n : Name) → get n (e .below) ≡ none → get n (d .below) ≡ none
     unused-bare n free =
         let both : Option·map (map-place blank) (get n (d .below)) ≡ none =
-        sym (get-map blank n (d .below)) ∙ ap (get n) below-bare ∙ get-map blank n (e .below) ∙ ap (Option·map (map-place blank)) free in
+        sym (get-map blank n (d .below)) ∙ ap (get n) (below-kept blank d e s) ∙ get-map blank n (e .below) ∙ ap (Option·map (map-place blank)) free in
         by-option (get n (d .below)) (λ z. z) (λ y z. let i : some (map-place blank y) ≡ none = rw z at both in no-answer (sym i))
 
 -- ---- the row of a place after a payload was altered
@@ -168,13 +186,13 @@ module _ {b : List ℕ} {t : Place Node} {q : Path} {i : ℕ} {d : Place Node} (
   altered-at {p} {e} g there own kind {b₁} bytes =
       let t₁ = update p (alter g) t in
       let s = bare-altered p g t in
-      let w = place-bare t₁ t s q d (a .there) in
+      let w = place-kept blank t₁ t s q d (a .there) in
       record {
         place = w .0;
         at = record {
           tree = rw bytes (encodes (alter-at t p e g (a .tree .whole) there own kind));
           there = w .1;
-          row = a .row ∙ sym (index-bare t₁ t s q);
+          row = a .row ∙ sym (index-kept blank t₁ t s q);
         };
         shape = w .2;
         here = altered-here p g (w .0) (w .1);

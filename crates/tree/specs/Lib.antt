@@ -49,7 +49,13 @@ pub mod SearchLaws
 pub mod TriedLaws
 pub mod TreeBytesLaws
 pub mod AlterLaws
+pub mod Files
+pub mod FileRows
+pub mod FilesLaws
+pub mod Outline
+pub mod OutlineLaws
 pub mod TagBytesLaws
 pub mod Compute
 pub mod LargestTrees
 pub mod SearchCases
+pub mod FilesCases

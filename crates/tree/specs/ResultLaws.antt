@@ -10,6 +10,11 @@ use Rattle.tree.specs.Result.{Result, refused, done, _>>=_, _>>_, requir
 pub not-done : {A P : Type 0} {why : Cause} {a : A} → refused why ≡ done a → P
 not-done e = contra {b = true} refl (cc)
 
+-- by what an outcome is
+pub by-result : {A P : Type 0} (r : Result A) → ((k : Cause) → r ≡ refused k → P) → ((a : A) → r ≡ done a → P) → P
+by-result (refused k) f g = f k refl
+by-result (done a) f g = g a refl
+
 -- ---- what has been done
 
 -- what is done as present is there

@@ -18,7 +18,7 @@ use Rattle.tree.specs.declared.Cause.{Cause}
 use Rattle.tree.specs.declared.Child.{Child}
 use Rattle.tree.specs.declared.Cause.the-variants.{Missing}
 use Rattle.tree.specs.Result.{Result, refused, done, _>>=_, _>>_, present}
-use Rattle.tree.specs.ResultLaws.{bind-done, refused-before}
+use Rattle.tree.specs.ResultLaws.{by-result, bind-done, refused-before}
 use Rattle.tree.specs.Forest.{Place, get, place-at}
 use Rattle.tree.specs.Node.{Node}
 use Rattle.tree.specs.Walk.{Judge, by-modes, look, enter, walk, parent-walk}
@@ -39,11 +39,6 @@ use Rattle.tree.specs.TreeBytesLaws.{encoded-rows}
 use Rattle.walks.specs.RowWalk.{outcome, Spot, spot, top-spot, enter-first, enter-in, step-in, walk-names-in, walk-in, parent-walk-in, found-row}
 use Rattle.walks.specs.RowWalkLaws.{outcome-refused, outcome-at}
 use Rattle.walks.specs.WalkBytes.{spot-of, Came}
-
--- by what an outcome is
-pub by-result : {A P : Type 0} (r : Result A) → ((k : Cause) → r ≡ refused k → P) → ((a : A) → r ≡ done a → P) → P
-by-result (refused k) f g = f k refl
-by-result (done a) f g = g a refl
 
 -- a walk that is refused is refused further on
 walk-refused : {A : Type 0} (j : Judge A) (t : Place A) (p : Path) (ns : List Name) (k : Cause) → walk j t p ≡ refused k → walk j t (extended p ns) ≡ refused k
