@@ -1,23 +1,31 @@
 -- The shared text at this instance is the abstract machine: command by command, then calls and lists of them.
 use mathlib.Core.Path.{_≡_, refl}
 use mathlib.Core.List.{List, [], _∷_}
+use mathlib.Core.Option.{some}
+use mathlib.Core.Bool.{cond}
 use lib.Dec.{leb}
 use Rattle.buffers.specs.Text.{Text}
 use Rattle.accounts.specs.declared.Caller.{Caller}
 use Rattle.accounts.specs.declared.Right.{Right}
 use Rattle.accounts.specs.Dominance.{Bounded-role}
+use Rattle.syntax.specs.Number.{decimal-text}
 use Rattle.syntax.specs.Path.{Path, Entry-path}
 use Rattle.commands.specs.Command.{Account-command, login, logout, cd, Entry-command, add, co, commit, up, del, Command, shell, account, entry, line}
 use Rattle.setup.specs.Setup.{Setup}
-use Rattle.tree.specs.declared.Cause.the-variants.{NoForm, ShortAnswer}
-use Rattle.tree.specs.Result.{_>>=_, _>>_, require, present}
+use Rattle.tree.specs.declared.Cause.the-variants.{NoForm, Access, ShortAnswer}
+use Rattle.tree.specs.Result.{done, _>>=_, _>>_, require, present}
+use Rattle.tree.specs.Forest.{Place}
+use Rattle.tree.specs.Node.{is-directory, Node}
+use Rattle.tree.specs.Walk.{by-modes, walk}
+use Rattle.tree.specs.Files.{files-below}
 use Rattle.shell.specs.Steps.{fit}
 use Rattle.shell.specs.Replies.{after}
 use Rattle.shell.specs.WholePaths.{whole-command}
 use Rattle.store.specs.State.{working-directory}
 use Rattle.store.specs.Callers.{caller}
-use Rattle.machine.specs.Machine.{run-login, run-logout, run-cd, session, run-add, run-co, working-file, original, run-commit, run-up, run-del, run-account, run-entry, run}
-use Rattle.machine.specs.AbstractMachine.{Abstract, dominated, by-dominance, abstract-login, abstract-logout, abstract-cd, abstract-session, abstract-add, abstract-co, abstract-working, abstract-original, abstract-commit, abstract-up, abstract-del, abstract-account, abstract-entry, abstract-run, abstract-step, abstract-runs}
+use Rattle.machine.specs.Working.{commit-each}
+use Rattle.machine.specs.Machine.{run-login, run-logout, run-cd, session, run-add, run-co, working-file, original, commit-found, commit-file, commit-directory, run-commit, run-up, run-del, run-account, run-entry, run}
+use Rattle.machine.specs.AbstractMachine.{Abstract, dominated, by-dominance, abstract-login, abstract-logout, abstract-cd, abstract-session, abstract-add, abstract-co, abstract-working, abstract-original, abstract-commit-found, abstract-commit-file, abstract-commit-directory, abstract-commit, abstract-up, abstract-del, abstract-account, abstract-entry, abstract-run, abstract-step, abstract-runs}
 use Rattle.machine.specs.AbstractInstance.{abstract}
 use Rattle.machine.specs.Runs.{Call, least-room, perform, step, runs}
 
@@ -46,17 +54,24 @@ module _ (u : Setup) (h : Abstract) (c : Caller) where
   unfolding run-co abstract-co session abstract-session by-dominance fit
   co-is e d = refl
 
-  working-is : (right : Right) (w : Path) → working-file abstract u h c right w ≡ abstract-working u h c right w
+  working-is : (right : Right) (found : Place Node) → working-file abstract u h c right found ≡ abstract-working u h c right found
   unfolding working-file abstract-working
-  working-is right w = refl
+  working-is right found = refl
 
   original-is : (z : Bounded-role) (e : Entry-path) → original abstract u h c z e ≡ abstract-original u h c z e
   unfolding original abstract-original by-dominance
   original-is z e = refl
 
-  commit-is : (w : Path) → run-commit abstract u h c w ≡ abstract-commit u h c w
-  unfolding run-commit abstract-commit session abstract-session working-file abstract-working original abstract-original by-dominance
-  commit-is w = refl
+  found-is : (z : Bounded-role) (w : Path) (found : Place Node) → commit-found abstract u h c z w found ≡ abstract-commit-found u h c z w found
+  unfolding commit-found abstract-commit-found working-file abstract-working original abstract-original by-dominance
+  found-is z w found = refl
+
+  file-is : (w : Path) → commit-file abstract u h c w ≡ abstract-commit-file u h c w
+  unfolding commit-file abstract-commit-file session abstract-session
+  file-is w = λ i. do
+    z ← abstract-session u h c
+    found ← walk (by-modes (c .account)) (h .workspace) w
+    found-is z w found i
 
   up-is : (w : Path) → run-up abstract u h c w ≡ abstract-up u h c w
   unfolding run-up abstract-up session abstract-session working-file abstract-working original abstract-original by-dominance
@@ -72,18 +87,34 @@ module _ (u : Setup) (h : Abstract) (c : Caller) where
   account-is logout = logout-is
   account-is (cd p) = cd-is p
 
+module _ (u : Setup) (h : Abstract) (c : Caller) where
+  -- the commits of a directory's files, in whatever states
+  directory-is : (w : Path) (found : Place Node) → commit-directory abstract u h c w found ≡ abstract-commit-directory u h c w found
+  unfolding commit-directory abstract-commit-directory
+  directory-is w found = λ i. do
+    require (by-modes (c .account) .readable (found .here)) Access
+    let r = commit-each (λ t p. file-is u t c p i) (files-below (by-modes (c .account)) w (found .below)) h
+    done (record { text = some (decimal-text (r .count)); state = r .state })
+
+  commit-is : (w : Path) → run-commit abstract u h c w ≡ abstract-commit u h c w
+  unfolding run-commit abstract-commit session abstract-session
+  commit-is w = λ i. do
+    z ← abstract-session u h c
+    found ← walk (by-modes (c .account)) (h .workspace) w
+    cond (is-directory (found .here .kind)) (directory-is w found i) (found-is u h c z w found i)
+
   entry-is : (command : Entry-command) → run-entry abstract u h c command ≡ abstract-entry u h c command
   unfolding run-entry abstract-entry
-  entry-is (add w e r) = add-is w e r
-  entry-is (co e d) = co-is e d
+  entry-is (add w e r) = add-is u h c w e r
+  entry-is (co e d) = co-is u h c e d
   entry-is (commit w) = commit-is w
-  entry-is (up w) = up-is w
-  entry-is (del e) = del-is e
+  entry-is (up w) = up-is u h c w
+  entry-is (del e) = del-is u h c e
 
   pub run-is : (command : Command) → run abstract u h c command ≡ abstract-run u h c command
   unfolding run abstract-run
   run-is (shell command) = refl
-  run-is (account command) = account-is command
+  run-is (account command) = account-is u h c command
   run-is (entry command) = entry-is command
 
 pub step-is : (u : Setup) (h : Abstract) (call : Call) → step abstract u h call ≡ abstract-step u h call

@@ -6,7 +6,7 @@
 -- and r an entry's.
 use mathlib.Core.List.{List, [], _∷_}
 use mathlib.Core.Option.{Option, none, some}
-use mathlib.Core.Bool.{Bool, true, not, _&&_}
+use mathlib.Core.Bool.{Bool, true, not, _&&_, cond}
 use Prim.Native.Nat.{ℕ, suc, _+_}
 use lib.Dec.{eqb, leb}
 use lib.ListN.{getD}
@@ -15,6 +15,7 @@ use Rattle.accounts.specs.declared.Caller.{Caller}
 use Rattle.accounts.specs.declared.Right.{Right}
 use Rattle.accounts.specs.declared.Right.the-variants.{R, W, X}
 use Rattle.accounts.specs.Dominance.{same-role, Bounded-role, dominates}
+use Rattle.syntax.specs.Number.{decimal-text}
 use Rattle.syntax.specs.Path.{Path, Entry-path, parent, last, depth, most-names, below-rep}
 use Rattle.commands.specs.Command.{Account-command, login, logout, cd, Entry-command, add, co, commit, up, del, Command, shell, account, entry, line}
 use Rattle.setup.specs.Setup.{Setup}
@@ -25,6 +26,7 @@ use Rattle.tree.specs.Result.{Result, done, _>>=_, _>>_, require, present, Outc
 use Rattle.tree.specs.Forest.{Forest, no-nodes, Place, is-empty, insert, remove, at, update, update-forest, alter, put, leaf, size, height, rooted}
 use Rattle.tree.specs.Node.{is-directory, Tag, Node, allows, set-tag, set-content, owns}
 use Rattle.tree.specs.Walk.{Judge, by-modes, unused, walk, parent-walk, room}
+use Rattle.tree.specs.Files.{files-below}
 use Rattle.tree.specs.WellFormed.{most-nodes, last-revision, nodes}
 use Rattle.copying.specs.Copying.{Source, copy}
 use Rattle.shell.specs.Steps.{run-shell}
@@ -33,7 +35,7 @@ use Rattle.shell.specs.Replies.{reply, after}
 use Rattle.store.specs.State.{Registry, set-session, working-directory, set-directory}
 use Rattle.store.specs.Initial.{initial-tree, initial-registry}
 use Rattle.store.specs.Callers.{caller, granted}
-use Rattle.machine.specs.Working.{Working, tagged}
+use Rattle.machine.specs.Working.{Working, tagged, commit-each}
 use Rattle.machine.specs.Runs.{Call, least-room, Ran}
 
 pub record Entry : Type 0 where
@@ -177,10 +179,9 @@ module _ (setup : Setup) (h : Abstract) (c : Caller) where
     require (fits (suc (size (copies .below)))) Full
     ok (on-people (update (parent d) (put (last d) copies)) h)
 
-  -- the person's part of commit and up: walk; directory 7; the right 5; no tag 15
-  unfoldable pub abstract-working : Right → Path → Result Working
-  abstract-working right w = do
-    found ← person-walks w
+  -- the person's part of commit and up at the node found: directory 7; the right 5; no tag 15
+  unfoldable pub abstract-working : Right → Place Node → Result Working
+  abstract-working right found = do
     require (not (is-directory (found .here .kind))) WrongKind
     require (allows (c .account) right (found .here)) Access
     tag ← present (found .here .tag) Untagged
@@ -194,10 +195,10 @@ module _ (setup : Setup) (h : Abstract) (c : Caller) where
     require (filed-readable setup z (filed .here)) Access
     done filed
 
-  unfoldable pub abstract-commit : Path → Result (Outcome Abstract)
-  abstract-commit w = do
-    z ← abstract-session
-    file ← abstract-working R w
+  -- `commit` of the file found at w
+  unfoldable pub abstract-commit-found : Bounded-role → Path → Place Node → Result (Outcome Abstract)
+  abstract-commit-found z w found = do
+    file ← abstract-working R found
     let e = file .tag .path
     filed ← abstract-original z e
     above ← role-walks z (e .folder)
@@ -208,10 +209,18 @@ module _ (setup : Setup) (h : Abstract) (c : Caller) where
     let revised = at (e .name) (alter (next-entry (file .node .content)))
     ok (on-people (tagged w e (suc revision)) (on-entries (update-forest (e .folder) revised) h))
 
+  -- a single commit, of a file
+  unfoldable pub abstract-commit-file : Path → Result (Outcome Abstract)
+  abstract-commit-file w = do
+    z ← abstract-session
+    found ← person-walks w
+    abstract-commit-found z w found
+
   unfoldable pub abstract-up : Path → Result (Outcome Abstract)
   abstract-up w = do
     z ← abstract-session
-    file ← abstract-working W w
+    found ← person-walks w
+    file ← abstract-working W found
     let e = file .tag .path
     filed ← abstract-original z e
     let tag : Tag = record { path = e; revision = filed-revision (filed .here) }
@@ -232,19 +241,35 @@ module _ (setup : Setup) (h : Abstract) (c : Caller) where
   abstract-account logout = abstract-logout
   abstract-account (cd p) = abstract-cd p
 
+module _ (setup : Setup) (h : Abstract) (c : Caller) where
+  -- document 02: `commit` of the directory found at w: not readable 5; then the files below it, as they were before the command,
+  -- each by a single commit at its turn; the text is how many were committed
+  unfoldable pub abstract-commit-directory : Path → Place Node → Result (Outcome Abstract)
+  abstract-commit-directory w directory = do
+    require (by-modes (c .account) .readable (directory .here)) Access
+    let r = commit-each (λ t p. abstract-commit-file setup t c p) (files-below (by-modes (c .account)) w (directory .below)) h
+    done (record { text = some (decimal-text (r .count)); state = r .state })
+
+  -- the path is walked once, for a directory and for a file
+  unfoldable pub abstract-commit : Path → Result (Outcome Abstract)
+  abstract-commit w = do
+    z ← abstract-session setup h c
+    found ← person-walks setup h c w
+    cond (is-directory (found .here .kind)) (abstract-commit-directory w found) (abstract-commit-found setup h c z w found)
+
   unfoldable pub abstract-entry : Entry-command → Result (Outcome Abstract)
-  abstract-entry (add w e r) = abstract-add w e r
-  abstract-entry (co e d) = abstract-co e d
+  abstract-entry (add w e r) = abstract-add setup h c w e r
+  abstract-entry (co e d) = abstract-co setup h c e d
   abstract-entry (commit w) = abstract-commit w
-  abstract-entry (up w) = abstract-up w
-  abstract-entry (del e) = abstract-del e
+  abstract-entry (up w) = abstract-up setup h c w
+  abstract-entry (del e) = abstract-del setup h c e
 
   -- shell commands run on the people's tree
   unfoldable pub abstract-run : Command → Result (Outcome Abstract)
   abstract-run (shell command) = do
     o ← run-shell c (size (h .entries)) (h .workspace) command
     done (record { text = o .text; state = on-people (λ t. o .state) h })
-  abstract-run (account command) = abstract-account command
+  abstract-run (account command) = abstract-account setup h c command
   abstract-run (entry command) = abstract-entry command
 
 -- a library call: 20, 1 and 2 come first, then 19 where a path behind the caller's working directory is too deep

@@ -1,5 +1,5 @@
 -- The commands on entries leave the registry of the store as it was.
-use mathlib.Core.Path.{_≡_, refl}
+use mathlib.Core.Path.{_≡_, refl, _∙_}
 use Rattle.accounts.specs.declared.Caller.{Caller}
 use Rattle.accounts.specs.Dominance.{Bounded-role}
 use Rattle.syntax.specs.Path.{Path, Entry-path}
@@ -8,9 +8,10 @@ use Rattle.setup.specs.Setup.{Setup}
 use Rattle.tree.specs.declared.Cause.the-variants.{Access, NotEmpty, Reserved, Full, Stale, RevisionsSpent, TooDeep}
 use Rattle.tree.specs.Result.{Result, done, Outcome}
 use Rattle.tree.specs.Outcomes.{gives, Ensures}
-use Rattle.tree.specs.GivesLaws.{any-outcome, done-with, then-check, then-guard, then-do}
+use Rattle.tree.specs.GivesLaws.{any-outcome, done-with, weaker, then-check, then-guard, then-do}
 use Rattle.store.specs.State.{Store}
-use Rattle.machine.specs.Machine.{run-add, run-co, run-commit, run-up, run-del, run-entry}
+use Rattle.machine.specs.Machine.{run-add, run-co, commit-found, commit-file, run-up, run-del, run-entry}
+use Rattle.machine.specs.DirectoryCommitLaws.{commit-keeps-all}
 use Rattle.machine.specs.StoreMachine.{store}
 
 module _ (u : Setup) (s : Store) (c : Caller) where
@@ -42,10 +43,11 @@ module _ (u : Setup) (s : Store) (c : Caller) where
       then-check Full tt _ λ _.
       gives refl
 
-  commit-registry : (w : Path) → Keeps-registry (run-commit store u s c w)
-  unfolding run-commit
-  commit-registry w =
+  pub file-registry : (w : Path) → Keeps-registry (commit-file store u s c w)
+  unfolding commit-file commit-found
+  file-registry w =
       then-do _ λ z _.
+      then-do _ λ d _.
       then-do _ λ k _.
       then-do _ λ a _.
       then-do _ λ f _.
@@ -58,6 +60,7 @@ module _ (u : Setup) (s : Store) (c : Caller) where
   unfolding run-up
   up-registry w =
       then-do _ λ z _.
+      then-do _ λ d _.
       then-do _ λ k _.
       then-do _ λ a _.
       gives refl
@@ -73,13 +76,15 @@ module _ (u : Setup) (s : Store) (c : Caller) where
       then-check NotEmpty tt _ λ _.
       gives refl
 
-  pub entry-registry : (command : Entry-command) → Keeps-registry (run-entry store u s c command)
+module _ (u : Setup) (s : Store) (c : Caller) where
+  pub entry-registry : (command : Entry-command) → Keeps-registry u s c (run-entry store u s c command)
   unfolding run-entry
-  entry-registry (add w e r) = add-registry w e r
-  entry-registry (co e d) = co-registry e d
-  entry-registry (commit w) = commit-registry w
-  entry-registry (up w) = up-registry w
-  entry-registry (del e) = del-registry e
+  entry-registry (add w e r) = add-registry u s c w e r
+  entry-registry (co e d) = co-registry u s c e d
+  entry-registry (commit w) =
+      commit-keeps-all store u c (λ t. t .registry ≡ s .registry) (λ t h p. weaker (λ _ k. k ∙ h) (file-registry u t c p)) s refl w
+  entry-registry (up w) = up-registry u s c w
+  entry-registry (del e) = del-registry u s c e
 
   pub entry-keeps-registry : (command : Entry-command) {o : Outcome Store} → run-entry store u s c command ≡ done o → o .state .registry ≡ s .registry
   entry-keeps-registry command q = done-with (entry-registry command) q

@@ -1,6 +1,6 @@
 -- Document 01's commands computed on the store and on the abstract machine: its wrong turns, what comes before a command,
 -- sessions, which of two failing checks decides, the last node and the last revision. What is alike in both machines' texts,
--- and so out of demand 3's sight, is bound here, in RepositoryCases and in DirectoryCases.
+-- and so out of demand 3's sight, is bound here, in RepositoryCases, DirectoryCases and DirectoryCommitCases.
 use mathlib.Core.Path.{_≡_, refl}
 use mathlib.Core.List.{List, [], _∷_, _++_, map}
 use mathlib.Core.Option.{none}

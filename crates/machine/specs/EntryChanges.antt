@@ -2,12 +2,12 @@
 use mathlib.Core.Path.{_≡_}
 use mathlib.Core.Option.{Option, none, some, Option·map}
 use mathlib.Core.Bool.{true}
-use Prim.Native.Nat.{ℕ, suc}
+use Prim.Native.Nat.{ℕ, suc, _<_}
 use lib.ListN.{getD}
 use Rattle.buffers.specs.Text.{Text}
 use Rattle.accounts.specs.declared.Caller.{Caller}
 use Rattle.accounts.specs.Dominance.{Bounded-role}
-use Rattle.syntax.specs.Path.{Path, Entry-path, in-rep, entry-location, below-rep}
+use Rattle.syntax.specs.Path.{Path, Entry-path, within, in-rep, entry-location, below-rep}
 use Rattle.commands.specs.Command.{add, commit, del, Command, entry}
 use Rattle.setup.specs.Setup.{Setup}
 use Rattle.tree.specs.declared.Kind.{Kind}
@@ -59,10 +59,20 @@ pub record Committed (before after : Store) (e : Entry-path) (kind : Kind) (r : 
   -- and it the tag of that revision
   pub is-tagged : place-at (after .tree) w ≡ some (alter (set-tag (record { path = e; revision = suc revision })) working)
 
--- the commands that change the entry at e, of that kind, role and revision: a `commit` of a working file of it, and a `del` of
--- it, after which nothing stands there
+-- single commits of files within w, one after another, from the store s to s′: each leaves the entry at e, of revision v, as it is,
+-- or is a commit of it; v′ is its revision after them
+pub data Revised (e : Entry-path) (kind : Kind) (r : Bounded-role) (w : Path) : (s : Store) (v : ℕ) (s′ : Store) (v′ : ℕ) → Type 0 where
+  no-more : {s : Store} {v : ℕ} → Revised e kind r w s v s v
+  another's : {s t s′ : Store} {v v′ : ℕ} (content : Text) → Filed-as s e kind r v content → Filed-as t e kind r v content
+      → Revised e kind r w t v s′ v′ → Revised e kind r w s v s′ v′
+  its-own : {p : Path} {s t s′ : Store} {v v′ : ℕ} → within w p ≡ true → Committed s t e kind r v p
+      → Revised e kind r w t (suc v) s′ v′ → Revised e kind r w s v s′ v′
+
+-- the commands that change the entry at e, of that kind, role and revision: a `commit` of a working file of it, a `commit` of a
+-- directory with such files below it, and a `del` of it, after which nothing stands there
 pub data Change (before after : Store) (e : Entry-path) (kind : Kind) (r : Bounded-role) (revision : ℕ) : Command → Type 0 where
   by-commit : {w : Path} → Committed before after e kind r revision w → Change before after e kind r revision (entry (commit w))
+  by-directory : {w : Path} {v : ℕ} → Revised e kind r w before revision after v → revision < v → Change before after e kind r revision (entry (commit w))
   by-del : node-of after e ≡ none → Change before after e kind r revision (entry (del e))
 
 -- the entry of role r at e after an `add w e r`

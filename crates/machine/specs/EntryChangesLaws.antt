@@ -1,7 +1,8 @@
--- A person's done command leaves an entry as it is, or changes it as `Change` says and by right.
+-- A command of the abstract machine leaves an entry as it is, or changes it by right; and how that stands in the store. Commits one
+-- after another, and any command of a person, are in EntryRevisionLaws.
 use mathlib.Core.Path.{_≡_, refl, sym, _∙_, ap}
 use mathlib.Core.Option.{none, some, Option·map, map-eq-some-iff}
-use mathlib.Core.Bool.{true, false, not}
+use mathlib.Core.Bool.{Bool, true, false, not}
 use mathlib.Core.Logic.{_⊎_, inl, inr}
 use Prim.Native.Nat.{ℕ, suc}
 use native.Mathlib.Omega.{arith}
@@ -40,31 +41,41 @@ use Rattle.store.specs.State.{Store}
 use Rattle.store.specs.Initial.{directory-of, rep-node}
 use Rattle.store.specs.Callers.{caller}
 use Rattle.machine.specs.Working.{Working, tagged}
-use Rattle.machine.specs.Machine.{run-login, run-logout, run-cd, session, run-add, run-co, working-file, original, run-commit, run-up, run-del, run-account, run-entry, run}
+use Rattle.machine.specs.Machine.{run-login, run-logout, run-cd, session, run-add, run-co, working-file, original, commit-found, commit-file, run-up, run-del, run-account, run-entry, run}
 use Rattle.machine.specs.StoreMachine.{entry-mode, entry-node, next-node, store}
 use Rattle.machine.specs.AbstractMachine.{Entry, Abstract, Filed, top, an-entry, filed-kind, filed-readable, by-dominance, filed-revision, next-entry}
 use Rattle.machine.specs.AbstractInstance.{abstract}
 use Rattle.machine.specs.Embedding.{in-store, met, embed}
 use Rattle.machine.specs.Observed.{Reached-without-root}
 use Rattle.machine.specs.EntryJudgeLaws.{next-law}
-use Rattle.machine.specs.SimulationLaws.{remove-tie}
-use Rattle.machine.specs.EntryChanges.{node-of, Filed-as, entry-of, Rightful, Change, by-commit, by-del}
-use Rattle.machine.specs.EntryPlacesLaws.{same-entry, holds-of, of-holds, free, next-filed, filed-after, revised-after, removed-after, Rightful-apart, by-session, node-tied, tagged-tied, rightful-tied, In-both, in-both}
+use Rattle.machine.specs.TieLaws.{remove-tie}
+use Rattle.machine.specs.EntryChanges.{node-of, Filed-as, entry-of, Rightful, Committed, Change, by-commit, by-del}
+use Rattle.machine.specs.EntryPlacesLaws.{same-entry, holds-of, of-holds, free, next-filed, filed-after, revised-after, removed-after, Rightful-apart, by-session, same-role-right, node-tied, tagged-tied, rightful-tied, In-both, in-both}
 
 -- ---- one command of the abstract machine
 
+-- a commit, of a file or of a directory
+unfoldable pub is-commit : Command → Bool
+is-commit (shell command) = false
+is-commit (account command) = false
+is-commit (entry (add w e r)) = false
+is-commit (entry (co e d)) = false
+is-commit (entry (commit w)) = true
+is-commit (entry (up w)) = false
+is-commit (entry (del e)) = false
+
 -- where the walk to a working file led, and what was found there
-record Worked (h : Abstract) (c : Caller) (w : Path) (k : Working) : Type 0 where
+pub record Worked (h : Abstract) (c : Caller) (w : Path) (k : Working) : Type 0 where
   place : Place Node
   led : walk (by-modes (c .account)) (h .workspace) w ≡ done place
   here : place .here ≡ k .node
   a-file : not (is-directory (place .here .kind)) ≡ true
   tag : place .here .tag ≡ some (k .tag)
 
-worked : (u : Setup) (h : Abstract) (c : Caller) (w : Path) → Ensures (Worked h c w) (working-file abstract u h c R w)
+worked : (u : Setup) (h : Abstract) (c : Caller) (w : Path) (d : Place Node) → walk (by-modes (c .account)) (h .workspace) w ≡ done d
+    → Ensures (Worked h c w) (working-file abstract u h c R d)
 unfolding working-file
-worked u h c w =
-    then-do (walk (by-modes (c .account)) (h .workspace) w) λ d i.
+worked u h c w d i =
     then-check WrongKind tt _ λ b.
     then-check Access tt _ λ _.
     then-do (present (d .here .tag) Untagged) λ t j.
@@ -91,7 +102,7 @@ file-kind File b = refl
 file-kind Directory b = contra directory-is-one (not-true (is-directory Directory) b)
 
 -- how a command that takes h to h′ changes the entry x at e
-data Changed (h : Abstract) (c : Caller) (e : Entry-path) (x : Entry) (h′ : Abstract) : Command → Type 0 where
+pub data Changed (h : Abstract) (c : Caller) (e : Entry-path) (x : Entry) (h′ : Abstract) : Command → Type 0 where
   commits : {w : Path} {k : Working} → Worked h c w k → k .tag ≡ record { path = e; revision = x .revision } → x .kind ≡ File
       → entry-of h′ e ≡ some (an-entry (next-entry (k .node .content) x)) → h′ .workspace ≡ tagged w e (suc (x .revision)) (h .workspace)
       → Changed h c e x h′ (entry (commit w))
@@ -99,7 +110,7 @@ data Changed (h : Abstract) (c : Caller) (e : Entry-path) (x : Entry) (h′ : Ab
 
 module _ (u : Setup) (h : Abstract) (c : Caller) (e : Entry-path) (x : Entry) (same : entry-of h e ≡ some (an-entry x)) where
   -- the entry stays, or is changed in a session whose role dominates its own
-  Guarded : Command → Outcome Abstract → Type 0
+  unfoldable pub Guarded : Command → Outcome Abstract → Type 0
   Guarded command o = (entry-of (o .state) e ≡ some (an-entry x)) ⊎ (Changed h c e x (o .state) command × Rightful-apart u h c e (x .role))
 
   -- the place where it stands
@@ -170,11 +181,12 @@ module _ (u : Setup) (h : Abstract) (c : Caller) (e : Entry-path) (x : Entry) (s
         rightful z j a v (f .readable) d (rw (← s) led) may,
       )
 
-  commit-guarded : (w : Path) → Ensures (Guarded (entry (commit w))) (run-commit abstract u h c w)
-  unfolding run-commit Guarded
-  commit-guarded w =
+  pub file-guarded : (w : Path) → Ensures (Guarded (entry (commit w))) (commit-file abstract u h c w)
+  unfolding commit-file commit-found Guarded
+  file-guarded w =
       then-do (session abstract u h c) λ z j.
-      then-step (worked u h c w) λ k g.
+      then-do (walk (by-modes (c .account)) (h .workspace) w) λ y i.
+      then-step (worked u h c w y i) λ k g.
       then-step (original-found u h c z (k .tag .path)) λ a f.
       then-do (walk (by-dominance u z) (abstract .entries h) (k .tag .path .folder)) λ d led.
       then-check Access tt _ λ may.
@@ -188,7 +200,8 @@ module _ (u : Setup) (h : Abstract) (c : Caller) (e : Entry-path) (x : Entry) (s
   unfolding run-up entry-of Guarded
   up-guarded w =
       then-do (session abstract u h c) λ z _.
-      then-do (working-file abstract u h c W w) λ k _.
+      then-do (walk (by-modes (c .account)) (h .workspace) w) λ y _.
+      then-do (working-file abstract u h c W y) λ k _.
       then-do (original abstract u h c z (k .tag .path)) λ a _.
       gives (inl same)
 
@@ -208,25 +221,25 @@ module _ (u : Setup) (h : Abstract) (c : Caller) (e : Entry-path) (x : Entry) (s
       (λ s. inl (of-holds _ e (an-entry x) (rw (removed-after e′ h)
       (holds-drop (below-rep e) (e′ .folder) there (e′ .name) a (walked-at (abstract .entries h) (by-dominance u z) (below-rep e′) a w) alone s)))))
 
-  -- any command leaves the entry, or changes it by right
-  run-guarded : (command : Command) → Ensures (Guarded command) (run abstract u h c command)
-  unfolding run run-account run-entry run-login run-logout run-cd entry-of Guarded
-  run-guarded (shell command) = then-do (run-shell c _ (h .workspace) command) λ o _. gives (inl same)
-  run-guarded (account (login z password)) = then-check NoGrant tt _ λ _. gives (inl same)
-  run-guarded (account logout) = gives (inl same)
-  run-guarded (account (cd p)) = then-do _ λ d _. then-check WrongKind tt _ λ _. then-check Access tt _ λ _. gives (inl same)
-  run-guarded (entry (add w e′ role′)) = add-guarded w e′ role′
-  run-guarded (entry (co e′ d)) = co-guarded e′ d
-  run-guarded (entry (commit w)) = commit-guarded w
-  run-guarded (entry (up w)) = up-guarded w
-  run-guarded (entry (del e′)) = del-guarded e′
+  -- any command but a commit leaves the entry, or changes it by right
+  run-guarded : (command : Command) → is-commit command ≡ false → Ensures (Guarded command) (run abstract u h c command)
+  unfolding run run-account run-entry run-login run-logout run-cd entry-of Guarded is-commit
+  run-guarded (shell command) n = then-do (run-shell c _ (h .workspace) command) λ o _. gives (inl same)
+  run-guarded (account (login z password)) n = then-check NoGrant tt _ λ _. gives (inl same)
+  run-guarded (account logout) n = gives (inl same)
+  run-guarded (account (cd p)) n = then-do _ λ d _. then-check WrongKind tt _ λ _. then-check Access tt _ λ _. gives (inl same)
+  run-guarded (entry (add w e′ role′)) n = add-guarded w e′ role′
+  run-guarded (entry (co e′ d)) n = co-guarded e′ d
+  run-guarded (entry (commit w)) n = contra refl n
+  run-guarded (entry (up w)) n = up-guarded w
+  run-guarded (entry (del e′)) n = del-guarded e′
 
--- an entry stays under a done command, or is changed by right
-entry-changed : (u : Setup) (h : Abstract) (c : Caller) (command : Command) (o : Outcome Abstract) → run abstract u h c command ≡ done o
-    → (e : Entry-path) (x : Entry) → entry-of h e ≡ some (an-entry x)
+-- an entry stays under a done command that is no commit, or is changed by right
+pub entry-changed : (u : Setup) (h : Abstract) (c : Caller) (command : Command) → is-commit command ≡ false → (o : Outcome Abstract)
+    → run abstract u h c command ≡ done o → (e : Entry-path) (x : Entry) → entry-of h e ≡ some (an-entry x)
     → (entry-of (o .state) e ≡ some (an-entry x)) ⊎ (Changed h c e x (o .state) command × Rightful-apart u h c e (x .role))
 unfolding Guarded
-entry-changed u h c command o i e x same = done-with (run-guarded u h c e x same command) i
+entry-changed u h c command n o i e x same = done-with (run-guarded u h c e x same command n) i
 
 -- ---- one command of the store
 
@@ -243,7 +256,7 @@ rep-mode Directory i = let z : ⊥ = omega arith in absurd z
 
 module _ (kind : Kind) (r : Bounded-role) (revision : ℕ) (content : Text) where
   -- what stands as an entry's node is an entry of that role
-  met-role : (x : Filed) → met x ≡ entry-node kind r revision content → (y : Entry) × (x ≡ an-entry y) × (y .role .role ≡ r .role)
+  pub met-role : (x : Filed) → met x ≡ entry-node kind r revision content → (y : Entry) × (x ≡ an-entry y) × (y .role .role ≡ r .role)
   unfolding met in-store entry-node
   met-role top i = rep-mode kind (ap (λ a. a .mode) i)
   met-role (an-entry y) i =
@@ -256,25 +269,24 @@ module _ (kind : Kind) (r : Bounded-role) (revision : ℕ) (content : Text) wher
       let n = entry-node kind r revision content in
       rw (set-revision-is (set-content content′ n) (suc (n .revision)), set-content-is n content′)
 
-  module _ (u : Setup) {s s′ : Store} {c : Caller} {command : Command} (b : In-both u s c command s′) (e : Entry-path) where
+  module _ (u : Setup) {s s′ : Store} {c : Caller} (b : In-both s c s′) (e : Entry-path) (y : Entry) (i : met (an-entry y) ≡ entry-node kind r revision content) where
     abbrev h : Abstract
     h = b .apart
 
     abbrev h′ : Abstract
     h′ = b .outcome .state
 
-    -- the entry changed in both
-    change-tied : (y : Entry) → met (an-entry y) ≡ entry-node kind r revision content → {by : Command}
-        → Changed h c e y h′ by → Change s s′ e kind r revision by
+    -- the entry committed in both
+    committed-tied : {w : Path} → Changed h c e y h′ (entry (commit w)) → Committed s s′ e kind r revision w
     unfolding met in-store entry-node
-    change-tied y i (commits {w = w} {k = k} g tag a-file next workspace) =
+    committed-tied (commits {w = w} {k = k} g tag a-file next workspace) =
         let d = g .place in
         let v : y .revision ≡ revision = ap (λ n. n .revision) i in
         let content′ = k .node .content in
         let o = b .file-outside w d (g .led) (g .a-file) in
         let retagged = workspace ∙ ap (λ v. tagged w e (suc v) (h .workspace)) v in
         let t = tagged-tied (b .tie) (b .tie-after) o e (suc revision) retagged d (walked-at (h .workspace) (by-modes (c .account)) w d (g .led)) in
-        by-commit (record {
+        record {
           working = d;
           stood = t .0;
           working-is-file = file-kind (d .here .kind) (g .a-file);
@@ -284,24 +296,26 @@ module _ (kind : Kind) (r : Bounded-role) (revision : ℕ) (content : Text) wher
               ∙ ap some (sym (next-law content′ y) ∙ ap (next-node content′) i ∙ next-entry-node content′)
               ∙ ap (λ n. some (entry-node kind r (suc revision) (n .content))) (sym (g .here));
           is-tagged = t .1;
-        })
-    change-tied y i (deletes gone) = by-del (ap (λ b. node-of b e) (b .tie-after .same ∙ ap embed gone ∙ sym (remove-tie (b .tie) e .same)) ∙ removed-node s (b .whole) e)
+        }
+
+    -- the entry changed in both
+    change-tied : is-tree (s .tree) ≡ true → {by : Command} → Changed h c e y h′ by → Change s s′ e kind r revision by
+    change-tied whole (commits g tag a-file next workspace) = by-commit (committed-tied (commits g tag a-file next workspace))
+    change-tied whole (deletes gone) = by-del (ap (λ b. node-of b e) (b .tie-after .same ∙ ap embed gone ∙ sym (remove-tie (b .tie) e .same)) ∙ removed-node s whole e)
 
     -- or left in both
-    either-tied : (y : Entry) → met (an-entry y) ≡ entry-node kind r revision content → y .role .role ≡ r .role
-        → (entry-of h′ e ≡ some (an-entry y)) ⊎ (Changed h c e y h′ command × Rightful-apart u h c e (y .role))
-        → Filed-as s′ e kind r revision content ⊎ (Change s s′ e kind r revision command × Rightful u s c e r)
-    either-tied y i same (inl k) = inl (node-tied (b .tie-after) e ∙ ap (Option·map met) k ∙ ap some i)
-    either-tied y i same (inr k) = inr (change-tied y i (k .0), rightful-tied u (b .tie) c e (y .role) r same (k .1))
+    left-tied : entry-of h′ e ≡ some (an-entry y) → Filed-as s′ e kind r revision content
+    left-tied k = node-tied (b .tie-after) e ∙ ap (Option·map met) k ∙ ap some i
 
--- an entry's node stays under a person's done command, or is changed by right
-pub stored-entry-changed : (u : Setup) (s : Store) → Reached-without-root u s → (v : Uid) (c : Caller) → is-root v ≡ false → caller u v ≡ done c
-    → (command : Command) (o : Outcome Store) → run store u s c command ≡ done o
-    → (e : Entry-path) (kind : Kind) (r : Bounded-role) (revision : ℕ) (content : Text) → Filed-as s e kind r revision content
-    → Filed-as (o .state) e kind r revision content ⊎ (Change s (o .state) e kind r revision command × Rightful u s c e r)
-stored-entry-changed u s reached v c n i command o ran e kind r revision content stood =
-    let b = in-both u s reached v c n i command o ran in
-    let x = map-eq-some-iff met (entry-of (b .apart) e) .0 (sym (node-tied (b .tie) e) ∙ stood) in
-    let y = met-role kind r revision content (x .0) (x .2) in
-    either-tied kind r revision content u b e (y .0) (ap met (sym (y .1)) ∙ x .2) (y .2)
-    (entry-changed u (b .apart) c command (b .outcome) (b .ran) e (y .0) (x .1 ∙ ap some (y .1)))
+    module _ (same : y .role .role ≡ r .role) where
+      pub either-tied : is-tree (s .tree) ≡ true → {command : Command}
+          → (entry-of h′ e ≡ some (an-entry y)) ⊎ (Changed h c e y h′ command × Rightful-apart u h c e (y .role))
+          → Filed-as s′ e kind r revision content ⊎ (Change s s′ e kind r revision command × Rightful u s c e r)
+      either-tied whole (inl k) = inl (left-tied k)
+      either-tied whole (inr k) = inr (change-tied whole (k .0), rightful-tied u (b .tie) c e (y .role) r same (k .1))
+
+      -- by a single commit
+      pub file-tied : {w : Path} → (entry-of h′ e ≡ some (an-entry y)) ⊎ (Changed h c e y h′ (entry (commit w)) × Rightful-apart u h c e (y .role))
+          → Filed-as s′ e kind r revision content ⊎ (Committed s s′ e kind r revision w × Rightful-apart u h c e r)
+      file-tied (inl k) = inl (left-tied k)
+      file-tied (inr k) = inr (committed-tied (k .0), same-role-right u c e same (k .1))

@@ -16,7 +16,7 @@ use Rattle.setup.specs.Setup.{Setup}
 use Rattle.tree.specs.declared.Cause.the-variants.{Access, WrongKind, NotEmpty, Reserved, Full, NoGrant, Stale, RevisionsSpent, TooDeep}
 use Rattle.tree.specs.Result.{done, Outcome}
 use Rattle.tree.specs.Outcomes.{gives, Ensures}
-use Rattle.tree.specs.GivesLaws.{any-outcome, done-with, then-check, then-guard, then-do}
+use Rattle.tree.specs.GivesLaws.{any-outcome, done-with, weaker, then-check, then-guard, then-do}
 use Rattle.tree.specs.Forest.{Place, update, place-at, put, leaf}
 use Rattle.tree.specs.Node.{Node, owns}
 use Rattle.tree.specs.Walk.{by-modes, walk, parent-walk, unused, room}
@@ -30,13 +30,14 @@ use Rattle.shell.specs.Steps.{run-shell}
 use Rattle.store.specs.State.{Store}
 use Rattle.store.specs.Callers.{caller}
 use Rattle.machine.specs.Working.{tagged}
-use Rattle.machine.specs.Machine.{run-login, run-logout, run-cd, session, run-add, run-co, working-file, original, run-commit, run-up, run-del, run-account, run-entry, run}
+use Rattle.machine.specs.Machine.{run-login, run-logout, run-cd, session, run-add, run-co, working-file, original, commit-found, commit-file, run-up, run-del, run-account, run-entry, run}
+use Rattle.machine.specs.DirectoryCommitLaws.{commit-keeps-all}
 use Rattle.machine.specs.StoreMachine.{store}
 use Rattle.machine.specs.AbstractMachine.{Abstract, Filed, an-entry, dominated, by-dominance, new-entry}
 use Rattle.machine.specs.AbstractInstance.{abstract}
 use Rattle.machine.specs.Embedding.{in-store, met}
 use Rattle.machine.specs.Observed.{Reached-without-root}
-use Rattle.machine.specs.SimulationLaws.{remove-tie}
+use Rattle.machine.specs.TieLaws.{remove-tie}
 use Rattle.machine.specs.EntryChanges.{node-of, entry-of, Making, by-add}
 use Rattle.machine.specs.EntryPlacesLaws.{same-entry, of-holds, of-none, no-entry-place, free, filed-after, revised-after, Rightful-apart, by-session, node-tied, no-node, none-tied, tagged-tied, rightful-tied, In-both, in-both}
 
@@ -47,6 +48,22 @@ data Made (u : Setup) (h : Abstract) (c : Caller) (e : Entry-path) (h′ : Abstr
   adds : {w : Path} {r : Bounded-role} (d : Place Node) → walk (by-modes (c .account)) (h .workspace) w ≡ done d → owns (c .account) (d .here) ≡ true
       → entry-of h′ e ≡ some (an-entry (new-entry (d .here .kind) r (d .here .content))) → h′ .workspace ≡ tagged w e 1 (h .workspace)
       → Rightful-apart u h c e r → Made u h c e h′ (entry (add w e r))
+
+-- a single commit makes no entry
+file-unmade : (u : Setup) (h : Abstract) (c : Caller) (e : Entry-path) → entry-of h e ≡ none → (w : Path)
+    → Ensures (λ o. entry-of (o .state) e ≡ none) (commit-file abstract u h c w)
+unfolding commit-file commit-found
+file-unmade u h c e missing w =
+    then-do (session abstract u h c) λ z _.
+    then-do (walk (by-modes (c .account)) (h .workspace) w) λ f _.
+    then-do (working-file abstract u h c R f) λ k _.
+    then-do (original abstract u h c z (k .tag .path)) λ a _.
+    then-do (walk (by-dominance u z) (abstract .entries h) (k .tag .path .folder)) λ d _.
+    then-check Access tt _ λ _.
+    then-check Stale tt _ λ _.
+    then-check RevisionsSpent tt _ λ _.
+    gives (of-none _ e (rw (revised-after (k .tag .path) (k .node .content) h)
+    (alter-none (abstract .entries h) (below-rep e) (below-rep (k .tag .path)) _ (no-entry-place h e missing))))
 
 module _ (u : Setup) (h : Abstract) (c : Caller) (e : Entry-path) (missing : entry-of h e ≡ none)
     (still : (e′ : Entry-path) → entry-of (abstract .remove e′ h) e ≡ none) where
@@ -110,24 +127,12 @@ module _ (u : Setup) (h : Abstract) (c : Caller) (e : Entry-path) (missing : ent
       then-check Full tt _ λ _.
       gives (inl missing)
 
-  commit-unmade : (w : Path) → Ensures (Unmade (entry (commit w))) (run-commit abstract u h c w)
-  unfolding run-commit Unmade
-  commit-unmade w =
-      then-do (session abstract u h c) λ z _.
-      then-do (working-file abstract u h c R w) λ k _.
-      then-do (original abstract u h c z (k .tag .path)) λ a _.
-      then-do (walk (by-dominance u z) (abstract .entries h) (k .tag .path .folder)) λ d _.
-      then-check Access tt _ λ _.
-      then-check Stale tt _ λ _.
-      then-check RevisionsSpent tt _ λ _.
-      gives (inl (of-none _ e (rw (revised-after (k .tag .path) (k .node .content) h)
-      (alter-none (abstract .entries h) (below-rep e) (below-rep (k .tag .path)) _ (no-entry-place h e missing)))))
-
   up-unmade : (w : Path) → Ensures (Unmade (entry (up w))) (run-up abstract u h c w)
   unfolding run-up entry-of Unmade
   up-unmade w =
       then-do (session abstract u h c) λ z _.
-      then-do (working-file abstract u h c W w) λ k _.
+      then-do (walk (by-modes (c .account)) (h .workspace) w) λ f _.
+      then-do (working-file abstract u h c W f) λ k _.
       then-do (original abstract u h c z (k .tag .path)) λ a _.
       gives (inl missing)
 
@@ -151,7 +156,7 @@ module _ (u : Setup) (h : Abstract) (c : Caller) (e : Entry-path) (missing : ent
   run-unmade (account (cd p)) = then-do _ λ d _. then-check WrongKind tt _ λ _. then-check Access tt _ λ _. gives (inl missing)
   run-unmade (entry (add w e′ r)) = add-unmade w e′ r
   run-unmade (entry (co e′ d)) = co-unmade e′ d
-  run-unmade (entry (commit w)) = commit-unmade w
+  run-unmade (entry (commit w)) = weaker (λ _ k. inl k) (commit-keeps-all abstract u c (λ x. entry-of x e ≡ none) (λ x m p. file-unmade u x c e m p) h missing w)
   run-unmade (entry (up w)) = up-unmade w
   run-unmade (entry (del e′)) = del-unmade e′
 
@@ -171,7 +176,7 @@ removed-none : (s : Store) → is-tree (s .tree) ≡ true → (e e′ : Entry-pa
 unfolding node-of
 removed-none s whole e e′ i = ap (Option·map (λ d. d .here)) (drop-still-none (s .tree) whole (entry-location e) (in-rep (e′ .folder)) (e′ .name) i)
 
-module _ (u : Setup) {s s′ : Store} {c : Caller} {command : Command} (b : In-both u s c command s′) (e : Entry-path) where
+module _ (u : Setup) {s s′ : Store} {c : Caller} (b : In-both s c s′) (e : Entry-path) where
   -- an entry made in both
   made-tied : {by : Command} → Made u (b .apart) c e (b .outcome .state) by → Making u s s′ c e by
   unfolding met in-store new-entry
@@ -182,7 +187,7 @@ module _ (u : Setup) {s s′ : Store} {c : Caller} {command : Command} (b : In-b
       (rightful-tied u (b .tie) c e r r refl right)
 
   -- or in neither
-  either-tied : (entry-of (b .outcome .state) e ≡ none) ⊎ Made u (b .apart) c e (b .outcome .state) command
+  either-tied : {command : Command} → (entry-of (b .outcome .state) e ≡ none) ⊎ Made u (b .apart) c e (b .outcome .state) command
       → (node-of s′ e ≡ none) ⊎ Making u s s′ c e command
   either-tied (inl k) = inl (node-tied (b .tie-after) e ∙ ap (Option·map met) k)
   either-tied (inr k) = inr (made-tied k)
@@ -192,6 +197,7 @@ pub stored-entry-made : (u : Setup) (s : Store) → Reached-without-root u s →
     → (command : Command) (o : Outcome Store) → run store u s c command ≡ done o → (e : Entry-path) → node-of s e ≡ none
     → (node-of (o .state) e ≡ none) ⊎ Making u s (o .state) c e command
 stored-entry-made u s reached v c n i command o ran e missing =
-    let b = in-both u s reached v c n i command o ran in
+    let both = in-both u s reached v c n i command o ran in
+    let b = both .0 in
     either-tied u b e (entry-made u (b .apart) c e (none-tied (b .tie) e missing)
-    (λ e′. none-tied (remove-tie (b .tie) e′) e (removed-none s (b .whole) e e′ (no-node s e missing))) command (b .outcome) (b .ran))
+    (λ e′. none-tied (remove-tie (b .tie) e′) e (removed-none s (both .2) e e′ (no-node s e missing))) command (b .outcome) (both .1))

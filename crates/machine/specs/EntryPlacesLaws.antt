@@ -4,16 +4,17 @@ use mathlib.Core.Option.{Option, none, some, Option·map, map-eq-some-iff}
 use mathlib.Core.Bool.{true, false, not}
 use Prim.Native.Nat.{ℕ}
 use lib.ListN.{getD}
-use Rattle.buffers.specs.Cases.{and-both}
+use Rattle.buffers.specs.Cases.{case, and-both}
 use Rattle.buffers.specs.Text.{Text}
 use Rattle.accounts.specs.declared.Caller.{Caller}
 use Rattle.accounts.specs.declared.Uid.{Uid}
 use Rattle.accounts.specs.Access.{is-root}
 use Rattle.accounts.specs.Dominance.{Bounded-role, dominates, same-role-is}
-use Rattle.syntax.specs.Path.{Path, _▹_, Entry-path, parent, last, in-rep, entry-location, below-rep}
-use Rattle.syntax.specs.FormLaws.{no-answer}
+use Rattle.syntax.specs.Path.{Path, _▹_, Entry-path, parent, last, same-path, in-rep, entry-location, below-rep}
+use Rattle.syntax.specs.WithinLaws.{same-path-sound}
+use Rattle.syntax.specs.FormLaws.{no-answer, answered}
 use Rattle.commands.specs.Command.{Command}
-use Rattle.setup.specs.Setup.{Setup}
+use Rattle.setup.specs.Setup.{Setup, is-setup}
 use Rattle.setup.specs.SetupLaws.{accepted-is-setup}
 use Rattle.tree.specs.declared.Kind.{Kind}
 use Rattle.tree.specs.JudgeLaws.{a-directory}
@@ -27,12 +28,12 @@ use Rattle.tree.specs.RootedLaws.{rooted-put, rooted-drop, rooted-alter}
 use Rattle.tree.specs.Node.{is-directory, Node, set-tag, owns}
 use Rattle.tree.specs.Walk.{Judge, by-modes, walk, parent-walk, unused}
 use Rattle.tree.specs.StepLaws.{was-unused, parent-walked}
-use Rattle.tree.specs.UpdateLaws.{place-at-child, walked-at}
-use Rattle.tree.specs.OtherPathLaws.{changed-at}
+use Rattle.tree.specs.UpdateLaws.{by-option, place-at-child, walked-at}
+use Rattle.tree.specs.OtherPathLaws.{changed-at, alter-none}
 use Rattle.tree.specs.MapLaws.{map-here}
 use Rattle.tree.specs.WellFormed.{is-tree}
 use Rattle.tree.specs.Graft.{Outside}
-use Rattle.tree.specs.HoldsLaws.{place-map, place-inside, place-outside}
+use Rattle.tree.specs.HoldsLaws.{holds-altered, holds-alter, place-map, place-inside, place-outside}
 use Rattle.store.specs.State.{Store, state-of}
 use Rattle.store.specs.StateLaws.{parts}
 use Rattle.store.specs.Callers.{caller}
@@ -138,6 +139,55 @@ by-session u h c z i e f there w r b = record {
   writes = w;
 }
 
+module _ (u : Setup) (c : Caller) (e : Entry-path) where
+  -- a role of the same number is dominated alike
+  pub same-role-right : {h : Abstract} {q r : Bounded-role} → q .role ≡ r .role → Rightful-apart u h c e q → Rightful-apart u h c e r
+  unfolding dominated
+  same-role-right same k = record {
+    role = k .role;
+    session = k .session;
+    dominates = ap (dominates (u .pairs) (k .role .role)) (sym same) ∙ k .dominates;
+    folder = k .folder;
+    stands = k .stands;
+    writes = k .writes;
+  }
+
+  -- an entry that is revised is written in by the same roles
+  next-writable : (z : Bounded-role) (content : Text) (x : Filed) → filed-writable u z (next-filed content x) ≡ filed-writable u z x
+  unfolding filed-writable next-filed next-entry
+  next-writable z content top = refl
+  next-writable z content (an-entry x) = refl
+
+  -- so who has the right after an entry was revised had it before
+  pub revised-right : (h h′ : Abstract) (e′ : Entry-path) (content : Text) → h′ .registry ≡ h .registry
+      → abstract .entries h′ ≡ update (below-rep e′) (alter (next-filed content)) (abstract .entries h)
+      → (r : Bounded-role) → Rightful-apart u h′ c e r → Rightful-apart u h c e r
+  revised-right h h′ e′ content kept made r k =
+      let t = abstract .entries h in
+      let g = next-filed content in
+      let stands : place-at (update (below-rep e′) (alter g) t) (e .folder) ≡ some (k .folder) = rw (← made) (k .stands) in
+      by-option (place-at t (e .folder))
+      (λ n. no-answer (sym (alter-none t (e .folder) (below-rep e′) g n) ∙ stands))
+      (λ f there.
+      let holds : Holds t (e .folder) (f .here) = record { place = f; stands = there; here = refl } in
+      let writes : filed-writable u (k .role) (f .here) ≡ true = case (same-path (e .folder) (below-rep e′))
+      (λ s.
+      let x = holds-altered (e .folder) holds g in
+      let q : k .folder .here ≡ g (f .here) = ap (λ (d : Place Filed). d .here) (answered (sym (x .stands) ∙ (rw (← same-path-sound (e .folder) (below-rep e′) s) at stands))) ∙ x .here in
+      sym (next-writable (k .role) content (f .here)) ∙ ap (filed-writable u (k .role)) (sym q) ∙ k .writes)
+      (λ s.
+      let x = holds-alter (e .folder) (below-rep e′) holds g s in
+      let q : k .folder .here ≡ f .here = ap (λ (d : Place Filed). d .here) (answered (sym (x .stands) ∙ stands)) ∙ x .here in
+      ap (filed-writable u (k .role)) (sym q) ∙ k .writes) in
+      record {
+        role = k .role;
+        session = ap (λ x. getD (x .sessions) (c .account .uid .0) none) (sym kept) ∙ k .session;
+        dominates = k .dominates;
+        folder = f;
+        stands = there;
+        writes = writes;
+      })
+
 -- ---- a store that holds what the abstract machine holds
 
 here-map : (o : Option (Place Filed)) → Option·map (λ d. d .here) (Option·map (map-place met) o) ≡ Option·map met (Option·map (λ d. d .here) o)
@@ -205,36 +255,36 @@ rightful-tied u t c e q r same k = record {
 
 -- ---- a person's done command
 
--- done in a well-formed store and in the abstract machine
-pub record In-both (u : Setup) (s : Store) (c : Caller) (command : Command) (s′ : Store) : Type 0 where
+-- done in a store and in the abstract machine
+pub record In-both (s : Store) (c : Caller) (s′ : Store) : Type 0 where
   pub apart : Abstract
   pub tie : Tie s apart
-  pub whole : is-tree (s .tree) ≡ true
   -- what a person walks to is outside `/rep` if it is a file or the person's own
   pub file-outside : (w : Path) (d : Place Node) → walk (by-modes (c .account)) (apart .workspace) w ≡ done d
       → not (is-directory (d .here .kind)) ≡ true → Outside w
   pub owned-outside : (w : Path) (d : Place Node) → walk (by-modes (c .account)) (apart .workspace) w ≡ done d
       → owns (c .account) (d .here) ≡ true → Outside w
   pub outcome : Outcome Abstract
-  pub ran : run abstract u apart c command ≡ done outcome
   pub tie-after : Tie s′ (outcome .state)
 
--- and so is every one in a store reached without root
+module _ (u : Setup) (setup : is-setup u ≡ true) (v : Uid) (c : Caller) (n : is-root v ≡ false) (i : caller u v ≡ done c) where
+  -- done in the abstract machine with an outcome that stands for the store's
+  abbrev pub both-done : {s : Store} {h : Abstract} → Tie s h → {s′ : Store} (o : Outcome Abstract) → Tie s′ (o .state) → In-both s c s′
+  both-done {h = h} t o t′ = record {
+    apart = h;
+    tie = t;
+    file-outside = file-is-outside u setup v c n i h (t .kept);
+    owned-outside = owned-is-outside u setup v c n i h (t .kept);
+    outcome = o;
+    tie-after = t′;
+  }
+
+-- and so is every one in a store reached without root, which is well-formed
 pub in-both : (u : Setup) (s : Store) → Reached-without-root u s → (v : Uid) (c : Caller) → is-root v ≡ false → caller u v ≡ done c
-    → (command : Command) (o : Outcome Store) → run store u s c command ≡ done o → In-both u s c command (o .state)
+    → (command : Command) (o : Outcome Store) → run store u s c command ≡ done o
+    → (b : In-both s c (o .state)) × (run abstract u (b .apart) c command ≡ done (b .outcome)) × (is-tree (s .tree) ≡ true)
 in-both u s reached v c n i command o ran =
     let setup = accepted-is-setup (reached .reached .text) u (reached .reached .taken) in
     let t = reached-tie u s reached in
-    let h = t .0 in
-    let k = t .1 .kept in
-    let a = done-first (run-agrees u setup v c n i h k command) (ap (λ b. run store u b c command) (sym (t .1 .same)) ∙ ran) in
-    record {
-      apart = h;
-      tie = t .1;
-      whole = parts (state-of u s) (reached-well-formed u s (reached .reached)) .tree;
-      file-outside = file-is-outside u setup v c n i h k;
-      owned-outside = owned-is-outside u setup v c n i h k;
-      outcome = a .0;
-      ran = a .1;
-      tie-after = a .2 .state;
-    }
+    let a = done-first (run-agrees u setup v c n i (t .0) (t .1 .kept) command) (ap (λ b. run store u b c command) (sym (t .1 .same)) ∙ ran) in
+    (both-done u setup v c n i (t .1) (a .0) (a .2 .state), a .1, parts (state-of u s) (reached-well-formed u s (reached .reached)) .tree)

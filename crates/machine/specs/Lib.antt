@@ -1,5 +1,6 @@
 pub mod Working
 pub mod Machine
+pub mod DirectoryCommitLaws
 pub mod StoreMachine
 pub mod AbstractMachine
 pub mod AbstractInstance
@@ -15,6 +16,7 @@ pub mod CallerLaws
 pub mod EntryRangeLaws
 pub mod MachineKeepingLaws
 pub mod Simulation
+pub mod TieLaws
 pub mod SimulationLaws
 pub mod ComparedLaws
 pub mod EntryAccess
@@ -22,11 +24,14 @@ pub mod KeptOutLaws
 pub mod EntryChanges
 pub mod EntryPlacesLaws
 pub mod EntryChangesLaws
+pub mod EntryRevisionLaws
 pub mod EntryMakingLaws
 pub mod ReadingLaws
 pub mod MachinePrivacyLaws
 pub mod Acting
 pub mod ActingLaws
+pub mod SingleCommits
+pub mod SingleCommitsLaws
 pub mod WorkingDirectory
 pub mod WorkingDirectoryLaws
 pub mod ReplacedFileLaws
@@ -35,3 +40,4 @@ pub mod Compute
 pub mod Cases
 pub mod RepositoryCases
 pub mod DirectoryCases
+pub mod DirectoryCommitCases

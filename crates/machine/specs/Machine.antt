@@ -5,7 +5,7 @@
 -- instance (`AbstractInstanceLaws`). Throughout, w is the path of a working file or directory, e an entry path, d the path of a
 -- copy to be made, z the session's role and r an entry's.
 use mathlib.Core.Option.{Option, none, some}
-use mathlib.Core.Bool.{Bool, not}
+use mathlib.Core.Bool.{Bool, not, cond}
 use Prim.Native.Nat.{ℕ, suc, _+_}
 use lib.Dec.{eqb, leb}
 use lib.ListN.{getD}
@@ -14,6 +14,7 @@ use Rattle.accounts.specs.declared.Caller.{Caller}
 use Rattle.accounts.specs.declared.Right.{Right}
 use Rattle.accounts.specs.declared.Right.the-variants.{R, W, X}
 use Rattle.accounts.specs.Dominance.{Bounded-role, dominates}
+use Rattle.syntax.specs.Number.{decimal-text}
 use Rattle.syntax.specs.Path.{Path, Entry-path, parent, last, depth, most-names, below-rep}
 use Rattle.commands.specs.Command.{Account-command, login, logout, cd, Entry-command, add, co, commit, up, del, Command, shell, account, entry}
 use Rattle.setup.specs.Setup.{Setup}
@@ -23,12 +24,13 @@ use Rattle.tree.specs.Result.{Result, done, _>>=_, _>>_, require, present, Outc
 use Rattle.tree.specs.Forest.{Place, is-empty, update, alter, put, size, height}
 use Rattle.tree.specs.Node.{is-directory, Tag, Node, allows, set-tag, set-content, owns}
 use Rattle.tree.specs.Walk.{Judge, by-modes, unused, walk, parent-walk, room}
+use Rattle.tree.specs.Files.{files-below}
 use Rattle.tree.specs.WellFormed.{last-revision}
 use Rattle.copying.specs.Copying.{Source, copy}
 use Rattle.shell.specs.Steps.{fit, run-shell}
 use Rattle.store.specs.State.{Registry, set-session, set-directory}
 use Rattle.store.specs.Callers.{granted}
-use Rattle.machine.specs.Working.{Working, tagged}
+use Rattle.machine.specs.Working.{Working, tagged, commit-each}
 
 -- A machine with states S and A for what an account meets in its repository.
 pub record Machine (S A : Type 0) : Type 0 where
@@ -120,10 +122,9 @@ module _ {S A : Type 0} (M : Machine S A) (setup : Setup) (s : S) (c : Caller) w
     require (fits (suc (size (copies .below)))) Full
     ok (M .on-workspace (update (parent d) (put (last d) copies)) s)
 
-  -- the person's part of commit and up: walk; directory 7; the right 5; no tag 15
-  unfoldable pub working-file : Right → Path → Result Working
-  working-file right w = do
-    found ← walks w
+  -- the person's part of commit and up at the node found: directory 7; the right 5; no tag 15
+  unfoldable pub working-file : Right → Place Node → Result Working
+  working-file right found = do
     require (not (is-directory (found .here .kind))) WrongKind
     require (allows (c .account) right (found .here)) Access
     tag ← present (found .here .tag) Untagged
@@ -137,10 +138,10 @@ module _ {S A : Type 0} (M : Machine S A) (setup : Setup) (s : S) (c : Caller) w
     require (M .judge setup z .readable (found .here)) Access
     done found
 
-  unfoldable pub run-commit : Path → Result (Outcome S)
-  run-commit w = do
-    z ← session
-    file ← working-file R w
+  -- `commit` of the file found at w
+  unfoldable pub commit-found : Bounded-role → Path → Place Node → Result (Outcome S)
+  commit-found z w found = do
+    file ← working-file R found
     let e = file .tag .path
     filed ← original z e
     above ← account-walks z (e .folder)
@@ -150,10 +151,18 @@ module _ {S A : Type 0} (M : Machine S A) (setup : Setup) (s : S) (c : Caller) w
     require (not (eqb revision last-revision)) RevisionsSpent
     ok (M .on-workspace (tagged w e (suc revision)) (M .revise e (file .node .content) s))
 
+  -- a single commit, of a file
+  unfoldable pub commit-file : Path → Result (Outcome S)
+  commit-file w = do
+    z ← session
+    found ← walks w
+    commit-found z w found
+
   unfoldable pub run-up : Path → Result (Outcome S)
   run-up w = do
     z ← session
-    file ← working-file W w
+    found ← walks w
+    file ← working-file W found
     let e = file .tag .path
     filed ← original z e
     let tag : Tag = record { path = e; revision = M .revision (filed .here) }
@@ -174,16 +183,32 @@ module _ {S A : Type 0} (M : Machine S A) (setup : Setup) (s : S) (c : Caller) w
   run-account logout = run-logout
   run-account (cd p) = run-cd p
 
+module _ {S A : Type 0} (M : Machine S A) (setup : Setup) (s : S) (c : Caller) where
+  -- document 02: `commit` of the directory found at w: not readable 5; then the files below it, as they were before the command,
+  -- each by a single commit at its turn; the text is how many were committed
+  unfoldable pub commit-directory : Path → Place Node → Result (Outcome S)
+  commit-directory w directory = do
+    require (by-modes (c .account) .readable (directory .here)) Access
+    let r = commit-each (λ t p. commit-file M setup t c p) (files-below (by-modes (c .account)) w (directory .below)) s
+    done (record { text = some (decimal-text (r .count)); state = r .state })
+
+  -- the path is walked once, for a directory and for a file
+  unfoldable pub run-commit : Path → Result (Outcome S)
+  run-commit w = do
+    z ← session M setup s c
+    found ← walks M setup s c w
+    cond (is-directory (found .here .kind)) (commit-directory w found) (commit-found M setup s c z w found)
+
   unfoldable pub run-entry : Entry-command → Result (Outcome S)
-  run-entry (add w e r) = run-add w e r
-  run-entry (co e d) = run-co e d
+  run-entry (add w e r) = run-add M setup s c w e r
+  run-entry (co e d) = run-co M setup s c e d
   run-entry (commit w) = run-commit w
-  run-entry (up w) = run-up w
-  run-entry (del e) = run-del e
+  run-entry (up w) = run-up M setup s c w
+  run-entry (del e) = run-del M setup s c e
 
   unfoldable pub run : Command → Result (Outcome S)
   run (shell command) = do
     o ← run-shell c (M .elsewhere s) (M .workspace s) command
     done (record { text = o .text; state = M .on-workspace (λ t. o .state) s })
-  run (account command) = run-account command
+  run (account command) = run-account M setup s c command
   run (entry command) = run-entry command

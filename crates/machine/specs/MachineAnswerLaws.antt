@@ -1,9 +1,10 @@
--- What every command answers, on any machine: a cause of its own, or no text but that of a place of the workspace. So on a
--- well-formed store every text fits, 18 comes from no step, and 20 only where the answer buffer is too short.
+-- What every command answers, on any machine: a cause of its own, or no text but that of a place of the workspace or a
+-- number of nodes below one. So on a well-formed store every text fits, 18 comes from no step, and 20 only where the answer buffer is too short.
 use mathlib.Core.Path.{_≡_, refl}
 use mathlib.Core.Option.{Option, none, some}
 use mathlib.Core.Bool.{true}
-use Prim.Native.Nat.{_<_}
+use Prim.Native.Nat.{ℕ, _≤_, _<_}
+use native.Mathlib.Omega.{arith}
 use borrow.Author.Tests.{leb-false}
 use lib.Dec.{leb}
 use lib.ListN.{getD}
@@ -15,6 +16,9 @@ use Rattle.accounts.specs.declared.Right.{Right}
 use Rattle.accounts.specs.declared.Right.the-variants.{R, W}
 use Rattle.accounts.specs.Access.{is-root}
 use Rattle.accounts.specs.Dominance.{Bounded-role}
+use Rattle.syntax.specs.Number.{decimal-text}
+use Rattle.syntax.specs.NumberLaws.{decimal-length}
+use Rattle.syntax.specs.FormLaws.{answered}
 use Rattle.syntax.specs.Path.{Path, Entry-path, below-rep}
 use Rattle.commands.specs.Command.{line, Account-command, login, logout, cd, Entry-command, add, co, commit, up, del, Command, shell, account, entry}
 use Rattle.setup.specs.Setup.{Setup, person}
@@ -24,18 +28,24 @@ use Rattle.tree.specs.Result.{Result, refused, done, Outcome}
 use Rattle.tree.specs.ResultLaws.{done-then, refused-then, require-true, require-false}
 use Rattle.tree.specs.Outcomes.{Gives, gives, Refuses}
 use Rattle.tree.specs.GivesLaws.{refused-by, done-with, only-refuses, present-refuses, then-step, then-check, then-guard}
-use Rattle.tree.specs.Forest.{Place, place-at}
-use Rattle.tree.specs.Node.{Node}
+use Rattle.tree.specs.Forest.{Place, place-at, size}
+use Rattle.tree.specs.Node.{Node, is-directory}
 use Rattle.tree.specs.Walk.{by-modes, walk, parent-walk}
 use Rattle.tree.specs.WalkRefusalLaws.{unused-refuses, walk-refuses, parent-walk-refuses}
 use Rattle.tree.specs.WellFormed.{is-tree}
-use Rattle.shell.specs.Steps.{text-of}
+use Rattle.tree.specs.SizeLaws.{tree-place}
+use Rattle.tree.specs.UpdateLaws.{walked-at}
+use Rattle.tree.specs.Files.{files-below}
+use Rattle.tree.specs.FilesLaws.{files-count}
+use Rattle.shell.specs.Steps.{text-of, longest-text}
 use Rattle.shell.specs.Answers.{Own, Text-fits}
 use Rattle.shell.specs.ShellAnswerLaws.{none-fits, room-refuses, run-shell-answers, place-text-fits}
 use Rattle.shell.specs.WholePathsLaws.{whole-refuses}
 use Rattle.store.specs.State.{working-directory, Store}
 use Rattle.store.specs.Callers.{known-caller, caller}
-use Rattle.machine.specs.Machine.{Machine, run-login, run-logout, run-cd, session, run-add, run-co, working-file, original, run-commit, run-up, run-del, run-account, run-entry, run}
+use Rattle.machine.specs.Working.{commit-each}
+use Rattle.machine.specs.Machine.{Machine, run-login, run-logout, run-cd, session, run-add, run-co, working-file, original, commit-found, commit-file, commit-directory, run-commit, run-up, run-del, run-account, run-entry, run}
+use Rattle.machine.specs.DirectoryCommitLaws.{each-counts}
 use Rattle.machine.specs.StoreMachine.{store}
 use Rattle.machine.specs.Runs.{Call, least-room, perform, step}
 use Rattle.machine.specs.RunsLaws.{least-room-is}
@@ -62,10 +72,9 @@ module _ {S A : Type 0} (M : Machine S A) (setup : Setup) (s : S) where
     unfolding session
     session-refuses = present-refuses NoSession refl (getD (M .registry s .sessions) (c .account .uid .0) none)
 
-    working-refuses : (right : Right) (w : Path) → Refuses Own (working-file M setup s c right w)
+    working-refuses : (right : Right) (found : Place Node) → Refuses Own (working-file M setup s c right found)
     unfolding working-file
-    working-refuses right w = only-refuses {P = λ k. Unit {0}} (
-        then-step (walks w) λ found _.
+    working-refuses right found = only-refuses {P = λ k. Unit {0}} (
         then-check WrongKind refl _ λ _.
         then-check Access refl _ λ _.
         then-step (present-refuses Untagged refl (found .here .tag)) λ tag _.
@@ -79,7 +88,8 @@ module _ {S A : Type 0} (M : Machine S A) (setup : Setup) (s : S) where
         then-check Access refl _ λ _.
         gives tt)
 
-  module _ (T : Option Text → Type 0) (empty : T none) (full : (p : Path) (d : Place Node) → place-at (M .workspace s) p ≡ some d → T (some (text-of d))) where
+  module _ (T : Option Text → Type 0) (empty : T none) (full : (p : Path) (d : Place Node) → place-at (M .workspace s) p ≡ some d → T (some (text-of d)))
+      (number : (p : Path) (d : Place Node) → place-at (M .workspace s) p ≡ some d → (n : ℕ) → n ≤ size (d .below) → T (some (decimal-text n))) where
     abbrev Answers : Result (Outcome S) → Type 0
     Answers r = Gives Own (λ o. T (o .text)) r
 
@@ -125,11 +135,10 @@ module _ {S A : Type 0} (M : Machine S A) (setup : Setup) (s : S) where
           then-check Full refl _ λ _.
           gives empty
 
-      commit-answers : (w : Path) → Answers (run-commit M setup s c w)
-      unfolding run-commit
-      commit-answers w =
-          then-step (session-refuses c) λ z _.
-          then-step (working-refuses c R w) λ file _.
+      found-answers : (z : Bounded-role) (w : Path) (found : Place Node) → Answers (commit-found M setup s c z w found)
+      unfolding commit-found
+      found-answers z w found =
+          then-step (working-refuses c R found) λ file _.
           then-step (original-refuses c z (file .tag .path)) λ filed _.
           then-step (account-walks z (file .tag .path .folder)) λ folder _.
           then-check Access refl _ λ _.
@@ -137,11 +146,26 @@ module _ {S A : Type 0} (M : Machine S A) (setup : Setup) (s : S) where
           then-check RevisionsSpent refl _ λ _.
           gives empty
 
+      commit-answers : (w : Path) → Answers (run-commit M setup s c w)
+      unfolding run-commit commit-directory
+      commit-answers w =
+          then-step (session-refuses c) λ z _.
+          then-step (walks c w) λ found led.
+          case (is-directory (found .here .kind))
+          (λ i. rw i (
+          then-check Access refl _ λ _.
+          let ws = files-below (by-modes (c .account)) w (found .below) in
+          let single : S → Path → Result (Outcome S) = λ t p. commit-file M setup t c p in
+          gives (number w found (walked-at (M .workspace s) (by-modes (c .account)) w found led) (commit-each single ws s .count)
+          (omega (arith, each-counts single ws s, files-count (by-modes (c .account)) w (found .below))))))
+          (λ i. rw i (found-answers z w found))
+
       up-answers : (w : Path) → Answers (run-up M setup s c w)
       unfolding run-up
       up-answers w =
           then-step (session-refuses c) λ z _.
-          then-step (working-refuses c W w) λ file _.
+          then-step (walks c w) λ found _.
+          then-step (working-refuses c W found) λ file _.
           then-step (original-refuses c z (file .tag .path)) λ filed _.
           gives empty
 
@@ -170,7 +194,7 @@ module _ {S A : Type 0} (M : Machine S A) (setup : Setup) (s : S) where
       entry-answers (up w) = up-answers w
       entry-answers (del e) = del-answers e
 
-      -- a command is refused by a cause of its own, or its text is none or that of a place of the workspace
+      -- a command is refused by a cause of its own, or its text is none, that of a place of the workspace, or a number of nodes below one
       run-gives : (command : Command) → Gives Own (λ o. T (o .text)) (run M setup s c command)
       unfolding run
       run-gives (shell command) = then-step (run-shell-answers c (M .elsewhere s) (M .workspace s) T empty full command) λ o h. gives h
@@ -190,12 +214,17 @@ module _ {S A : Type 0} (M : Machine S A) (setup : Setup) (s : S) where
   step-own : (call : Call) (why : Cause) → leb least-room (call .room) ≡ true → step M setup s call ≡ refused why → Own why
   unfolding step
   step-own call why h e =
-      refused-by (perform-gives (λ o. Unit {0}) tt (λ p d i. tt) (call .line)) (rw (h, require-true, done-then) at e)
+      refused-by (perform-gives (λ o. Unit {0}) tt (λ p d i. tt) (λ p d i n h. tt) (call .line)) (rw (h, require-true, done-then) at e)
+
+-- a number of nodes that lie below a place has at most three digits
+number-fits : (t : Place Node) → is-tree t ≡ true → (p : Path) (d : Place Node) → place-at t p ≡ some d → (n : ℕ) → n ≤ size (d .below) → Text-fits (some (decimal-text n))
+unfolding longest-text
+number-fits t h p d e n l x i = rw (answered i) (omega (arith, decimal-length 2 n (omega (arith, tree-place t p d h e .1))))
 
 -- the text of a done line fits, on a well-formed store
 pub perform-fits : (setup : Setup) (s : Store) → is-tree (s .tree) ≡ true → (text : Text) (o : Outcome Store)
     → perform store setup s text ≡ done o → Text-fits (o .text)
-perform-fits setup s h text o e = done-with (perform-gives store setup s Text-fits none-fits (place-text-fits (s .tree) h) text) e
+perform-fits setup s h text o e = done-with (perform-gives store setup s Text-fits none-fits (place-text-fits (s .tree) h) (number-fits (s .tree) h) text) e
 
 module _ {S A : Type 0} (M : Machine S A) (setup : Setup) (s : S) (call : Call) where
   -- no step is refused 18

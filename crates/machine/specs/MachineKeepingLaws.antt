@@ -55,7 +55,8 @@ use Rattle.store.specs.StoreBytes.{encode, decode}
 use Rattle.store.specs.StoreBytesLaws.{decode-encode}
 use Rattle.store.specs.Callers.{caller}
 use Rattle.machine.specs.Working.{Working}
-use Rattle.machine.specs.Machine.{source, run-login, run-logout, run-cd, run-add, run-co, working-file, original, run-commit, run-up, run-del, run-account, run-entry, run}
+use Rattle.machine.specs.Machine.{source, run-login, run-logout, run-cd, run-add, run-co, working-file, original, commit-found, commit-file, run-up, run-del, run-account, run-entry, run}
+use Rattle.machine.specs.DirectoryCommitLaws.{commit-keeps-all}
 use Rattle.machine.specs.StoreMachine.{entry-node, next-node, store}
 use Rattle.machine.specs.Runs.{Call, perform, step, runs}
 use Rattle.machine.specs.Observed.{Reached}
@@ -64,7 +65,7 @@ use Rattle.machine.specs.EntryRangeLaws.{entry-fits}
 
 -- ---- commands
 
-module _ (u : Setup) (g : is-setup u ≡ true) (s : Store) (w : well-formed (state-of u s) ≡ true) (c : Caller) (o : is-caller c ≡ true) where
+module _ (u : Setup) (g : is-setup u ≡ true) (s : Store) (w : well-formed (state-of u s) ≡ true) (c : Caller) where
   abbrev Keeps : Result (Outcome Store) → Type 0
   Keeps r = Ensures (λ o. well-formed (state-of u (o .state)) ≡ true) r
 
@@ -137,9 +138,9 @@ module _ (u : Setup) (g : is-setup u ≡ true) (s : Store) (w : well-formed (sta
       (leaf-place x (entry-fits (d .here .kind) role (d .here .content) (r .content) (r .bare)))
       (omega (arith, names .1, leaf-height x)) (omega (arith, leaf-size x, fit-most c 0 (s .tree) 1 fits))) p e 1 k (omega arith))
 
-  co-keeps : (e : Entry-path) (p : Path) → is-entry-path e ≡ true → is-path p ≡ true → Keeps (run-co store u s c e p)
+  co-keeps : is-caller c ≡ true → (e : Entry-path) (p : Path) → is-entry-path e ≡ true → is-path p ≡ true → Keeps (run-co store u s c e p)
   unfolding run-co most-names below-rep in-rep entry-location
-  co-keeps e p k i =
+  co-keeps o e p k i =
       then-do _ λ z _.
       then-do _ λ f r.
       then-do _ λ d a.
@@ -168,10 +169,9 @@ module _ (u : Setup) (g : is-setup u ≡ true) (s : Store) (w : well-formed (sta
   abbrev Worked : Path → Working → Type 0
   Worked p k = (d : Place Node) × (walk (by-modes (c .account)) (s .tree) p ≡ done d) × (k .node ≡ d .here) × (is-directory (d .here .kind) ≡ false) × (d .here .tag ≡ some (k .tag))
 
-  worked : (right : Right) (p : Path) → Ensures (Worked p) (working-file store u s c right p)
+  worked : (right : Right) (p : Path) (d : Place Node) → walk (by-modes (c .account)) (s .tree) p ≡ done d → Ensures (Worked p) (working-file store u s c right d)
   unfolding working-file
-  worked right p =
-      then-do _ λ d e.
+  worked right p d e =
       then-check WrongKind tt _ λ b.
       then-check Access tt _ λ _.
       then-do _ λ t i.
@@ -193,7 +193,8 @@ module _ (u : Setup) (g : is-setup u ≡ true) (s : Store) (w : well-formed (sta
   unfolding run-up
   up-keeps p =
       then-do _ λ z _.
-      then-step (worked W p) λ k h.
+      then-do _ λ x led.
+      then-step (worked W p x led) λ k h.
       then-step (filed z (k .tag .path)) λ a i.
       let j = by-modes (service (u .pairs) z) in
       let d = h .0 in
@@ -207,11 +208,13 @@ module _ (u : Setup) (g : is-setup u ≡ true) (s : Store) (w : well-formed (sta
       (ap is-directory (kind-of-set-tag tag (d .here)) ∙ h .3) (r .content))
       (kind-of-set-content content x ∙ kind-of-set-tag tag (d .here)))
 
-  commit-keeps : (p : Path) → Keeps (run-commit store u s c p)
-  unfolding run-commit entry-location below-rep in-rep next-node
-  commit-keeps p =
+  -- a single commit, of any caller
+  pub file-keeps : (p : Path) → Keeps (commit-file store u s c p)
+  unfolding commit-file commit-found entry-location below-rep in-rep next-node
+  file-keeps p =
       then-do _ λ z _.
-      then-step (worked R p) λ k h.
+      then-do _ λ x led.
+      then-step (worked R p x led) λ k h.
       then-step (filed z (k .tag .path)) λ a i.
       then-do _ λ f _.
       then-check Access tt _ λ _.
@@ -236,19 +239,21 @@ module _ (u : Setup) (g : is-setup u ≡ true) (s : Store) (w : well-formed (sta
   account-keeps logout k = logout-keeps
   account-keeps (cd p) k = cd-keeps p k
 
-  entry-keeps : (command : Entry-command) → is-entry-command command ≡ true → Keeps (run-entry store u s c command)
+module _ (u : Setup) (g : is-setup u ≡ true) (s : Store) (w : well-formed (state-of u s) ≡ true) (c : Caller) (o : is-caller c ≡ true) where
+  entry-keeps : (command : Entry-command) → is-entry-command command ≡ true → Keeps u g s w c (run-entry store u s c command)
   unfolding run-entry is-entry-command is-entry-form
-  entry-keeps (add p e role) k = add-keeps p e role (and-both (is-path p) (is-entry-path e) k .1)
-  entry-keeps (co e p) k = let i = and-both (is-entry-path e) (is-path p) k in co-keeps e p (i .0) (i .1)
-  entry-keeps (commit p) k = commit-keeps p
-  entry-keeps (up p) k = up-keeps p
-  entry-keeps (del e) k = del-keeps e
+  entry-keeps (add p e role) k = add-keeps u g s w c p e role (and-both (is-path p) (is-entry-path e) k .1)
+  entry-keeps (co e p) k = let i = and-both (is-entry-path e) (is-path p) k in co-keeps u g s w c o e p (i .0) (i .1)
+  entry-keeps (commit p) k = commit-keeps-all store u c (λ t. well-formed (state-of u t) ≡ true) (λ t h q. file-keeps u g t h c q) s w p
+  entry-keeps (up p) k = up-keeps u g s w c p
+  entry-keeps (del e) k = del-keeps u g s w c e
 
   -- a command of a caller in range keeps the store well-formed
   run-keeps : (command : Command) → is-command command ≡ true → Ensures (λ o. well-formed (state-of u (o .state)) ≡ true) (run store u s c command)
   unfolding run is-command is-command-form is-shell-command is-account-command is-entry-command
-  run-keeps (shell command) k = then-step (run-shell-keeps c 0 (s .tree) o tree command k) λ x h. changed (x .text) (x .state) h
-  run-keeps (account command) k = account-keeps command k
+  run-keeps (shell command) k =
+      then-step (run-shell-keeps c 0 (s .tree) o (tree u g s w c) command k) λ x h. changed u g s w c (x .text) (x .state) h
+  run-keeps (account command) k = account-keeps u g s w c command k
   run-keeps (entry command) k = entry-keeps command k
 
 -- ---- calls

@@ -17,7 +17,7 @@ use Rattle.commands.specs.Command.{Shell-command, Account-command, login, logou
 use Rattle.setup.specs.Setup.{Setup}
 use Rattle.tree.specs.declared.Cause.{Cause}
 use Rattle.tree.specs.declared.Cause.the-variants.{Access, WrongKind, NotEmpty, Reserved, Full, NoGrant, Stale, Untagged, RevisionsSpent, TooDeep}
-use Rattle.tree.specs.Result.{refused, present}
+use Rattle.tree.specs.Result.{refused, done, present}
 use Rattle.tree.specs.ResultLaws.{refused-bind}
 use Rattle.tree.specs.Outcomes.{gives, Ensures}
 use Rattle.tree.specs.GivesLaws.{any-outcome, never-done, weaker, then-step, then-check, then-guard, then-do}
@@ -31,15 +31,12 @@ use Rattle.shell.specs.ShutLaws.{never-walked, never-room, never-run}
 use Rattle.shell.specs.Privacy.{Private, Unaltered, in-place, walks-first}
 use Rattle.shell.specs.ShellPrivacyLaws.{private-shut, private-foreign, private-outside, put-private, drop-private, room-private, run-shell-through, run-shell-private}
 use Rattle.store.specs.State.{Store}
-use Rattle.machine.specs.Machine.{run-login, run-logout, run-cd, session, run-add, run-co, working-file, original, run-commit, run-up, run-del, run-account, run-entry, run}
+use Rattle.machine.specs.Machine.{run-login, run-logout, run-cd, session, run-add, run-co, working-file, original, commit-found, commit-file, run-commit, run-up, run-del, run-account, run-entry, run}
+use Rattle.machine.specs.DirectoryCommitLaws.{commit-keeps-all}
 use Rattle.machine.specs.StoreMachine.{store}
 
 module _ (u : Setup) (s : Store) (c : Caller) (p : Path) (d : Place Node) (there : place-at (s .tree) p ≡ some d) (v : Private (c .account) d) where
   -- ---- paths below it
-
-  never-working : (right : Right) (w : Path) → lies-below p w ≡ true → Ensures (λ _. ⊥) (working-file store u s c right w)
-  unfolding working-file
-  never-working right w b = never-walked c (s .tree) p d there (private-shut v X) _ w b
 
   never-entry : (command : Entry-command) → some-working-path (lies-below p) command ≡ true → Ensures (λ _. ⊥) (run-entry store u s c command)
   unfolding some-working-path run-entry run-add run-co run-commit run-up
@@ -47,8 +44,8 @@ module _ (u : Setup) (s : Store) (c : Caller) (p : Path) (d : Place Node) (there
   never-entry (co e q) b =
       then-do (session store u s c) λ _ _.
       then-step (never-room c (s .tree) p d there (private-shut v X) 0 q b) λ _ z. absurd z
-  never-entry (commit w) b = then-do (session store u s c) λ _ _. then-step (never-working R w b) λ _ z. absurd z
-  never-entry (up w) b = then-do (session store u s c) λ _ _. then-step (never-working W w b) λ _ z. absurd z
+  never-entry (commit w) b = then-do (session store u s c) λ _ _. never-walked c (s .tree) p d there (private-shut v X) _ w b
+  never-entry (up w) b = then-do (session store u s c) λ _ _. never-walked c (s .tree) p d there (private-shut v X) _ w b
   never-entry (del e) b = contra b refl
 
   never-account : (command : Account-command) → some-account-path (lies-below p) command ≡ true → Ensures (λ _. ⊥) (run-account store u s c command)
@@ -111,10 +108,10 @@ module _ (u : Setup) (s : Store) (c : Caller) (p : Path) (d : Place Node) (there
         gives (k _)
 
     -- a working file is outside the directory
-    working-private : (right : Right) (w : Path) → Ensures (λ k. within p w ≡ false) (working-file store u s c right w)
+    working-private : (right : Right) (w : Path) (f : Place Node) → walk (by-modes (c .account)) (s .tree) w ≡ done f
+        → Ensures (λ k. within p w ≡ false) (working-file store u s c right f)
     unfolding working-file
-    working-private right w =
-        then-do (walk (by-modes (c .account)) (s .tree) w) λ f i.
+    working-private right w f i =
         then-check WrongKind tt _ λ b.
         then-check Access tt _ λ _.
         then-do (present (f .here .tag) Untagged) λ _ _.
@@ -130,11 +127,12 @@ module _ (u : Setup) (s : Store) (c : Caller) (p : Path) (d : Place Node) (there
         gives (private-outside (s .tree) p d there (service-private z) (λ n. not (is-directory (by-modes (service (u .pairs) z) .kind n)))
         (ap (λ k. not (is-directory k)) (kind-by-modes (service (u .pairs) z) (d .here)) ∙ ap not (v .directory)) (in-rep (below-rep e)) f i b)
 
-    commit-private : (w : Path) → Ensures (λ o. place-at (o .state .tree) p ≡ some d) (run-commit store u s c w)
-    unfolding run-commit entry-location below-rep in-rep
-    commit-private w =
+    file-private : (w : Path) → Ensures (λ o. place-at (o .state .tree) p ≡ some d) (commit-file store u s c w)
+    unfolding commit-file commit-found entry-location below-rep in-rep
+    file-private w =
         then-do (session store u s c) λ z _.
-        then-step (working-private R w) λ k o.
+        then-do (walk (by-modes (c .account)) (s .tree) w) λ f led.
+        then-step (working-private R w f led) λ k o.
         then-step (original-private z (k .tag .path)) λ a i.
         then-do (walk (by-modes (service (u .pairs) z)) (s .tree) (in-rep (k .tag .path .folder))) λ _ _.
         then-check Access tt _ λ _.
@@ -146,7 +144,8 @@ module _ (u : Setup) (s : Store) (c : Caller) (p : Path) (d : Place Node) (there
     unfolding run-up
     up-private w =
         then-do (session store u s c) λ z _.
-        then-step (working-private W w) λ k o.
+        then-do (walk (by-modes (c .account)) (s .tree) w) λ f led.
+        then-step (working-private W w f led) λ k o.
         then-do (original store u s c z (k .tag .path)) λ a _.
         gives (alter-keeps (s .tree) p d w _ there o)
 
@@ -171,20 +170,22 @@ module _ (u : Setup) (s : Store) (c : Caller) (p : Path) (d : Place Node) (there
     account-private logout = gives there
     account-private (cd q) = then-do _ λ _ _. then-check WrongKind tt _ λ _. then-check Access tt _ λ _. gives there
 
-    entry-private : (command : Entry-command) → Ensures (λ o. place-at (o .state .tree) p ≡ some d) (run-entry store u s c command)
-    unfolding run-entry
-    entry-private (add w e role) = add-private w e role
-    entry-private (co e q) = co-private e q
-    entry-private (commit w) = commit-private w
-    entry-private (up w) = up-private w
-    entry-private (del e) = del-private e
+module _ (u : Setup) (s : Store) (c : Caller) (p : Path) (d : Place Node) (there : place-at (s .tree) p ≡ some d) (v : Private (c .account) d)
+    (small : ltb (d .here .owner .0) 16 ≡ true) where
+  entry-private : (command : Entry-command) → Ensures (λ o. place-at (o .state .tree) p ≡ some d) (run-entry store u s c command)
+  unfolding run-entry
+  entry-private (add w e role) = add-private u s c p d there v small w e role
+  entry-private (co e q) = co-private u s c p d there v small e q
+  entry-private (commit w) = commit-keeps-all store u c (λ t. place-at (t .tree) p ≡ some d) (λ t h q. file-private u t c p d h v small q) s there w
+  entry-private (up w) = up-private u s c p d there v small w
+  entry-private (del e) = del-private u s c p d there v small e
 
-    -- every command leaves the directory unaltered
-    pub run-private : is-tree (s .tree) ≡ true → (command : Command)
-        → Ensures (λ o. Unaltered (c .account) (s .tree) d p command (o .state .tree)) (run store u s c command)
-    unfolding run
-    run-private whole (shell command) =
-        then-step (run-shell-private c 0 (s .tree) p d there v whole command) λ o k.
-        gives k
-    run-private whole (account command) = weaker (λ o. in-place) (account-private command)
-    run-private whole (entry command) = weaker (λ o. in-place) (entry-private command)
+  -- every command leaves the directory unaltered
+  pub run-private : is-tree (s .tree) ≡ true → (command : Command)
+      → Ensures (λ o. Unaltered (c .account) (s .tree) d p command (o .state .tree)) (run store u s c command)
+  unfolding run
+  run-private whole (shell command) =
+      then-step (run-shell-private c 0 (s .tree) p d there v whole command) λ o k.
+      gives k
+  run-private whole (account command) = weaker (λ o. in-place) (account-private u s c p d there v small command)
+  run-private whole (entry command) = weaker (λ o. in-place) (entry-private command)

@@ -44,7 +44,8 @@ use Rattle.machine.specs.Embedding.{met, embed}
 use Rattle.machine.specs.EntryJudgeLaws.{passes-law, readable-law, writable-law}
 use Rattle.machine.specs.EntryRangeLaws.{entry-fits}
 use Rattle.machine.specs.Simulation.{Kept, Tie}
-use Rattle.machine.specs.SimulationLaws.{file-tie, stored-is-met, account-walk}
+use Rattle.machine.specs.SimulationLaws.{stored-is-met, account-walk}
+use Rattle.machine.specs.TieLaws.{file-tie}
 use Rattle.machine.specs.ComparedLaws.{stored-none, initial-tie}
 use Rattle.machine.specs.EntryAccess.{May-read, Reads-all, More-pairs}
 

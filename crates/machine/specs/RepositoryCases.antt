@@ -92,7 +92,7 @@ checkouts-answered : Answered checkouts
 unfolding compute checkouts
 checkouts-answered = (refl, refl)
 
--- `commit`: walk; directory 7; r 5; untagged 15; the account's walk; directory 7; r 5; w on its parent 5; stale 14. A tag
+-- `commit` of a file: walk; r 5; untagged 15; the account's walk; directory 7; r 5; w on its parent 5; stale 14. A tag
 -- follows its node; an entry added later starts at 1
 tags : List Case
 tags =
@@ -100,13 +100,13 @@ tags =
     "1,commit,/u1/none" gives 3 ∷
     "1,commit,/u1/a/x" gives 4 ∷
     "1,commit,/rep/x" gives 5 ∷
-    "2,commit,/u1/d" gives 7 ∷
-    "1,commit,/u1/d" gives 7 ∷
+    "2,commit,/u1/d" gives 5 ∷
+    "1,commit,/u1/d" shows "0" ∷
     "1,commit,/u1/n" gives 5 ∷
     "1,commit,/u1/m" gives 15 ∷
     "1,add,/u1/d,/rep/d,1" gives 0 ∷
     "1,add,/u1/a,/rep/d/a,1" gives 0 ∷
-    "1,commit,/u1/d" gives 7 ∷
+    "1,commit,/u1/d" shows "0" ∷
     "1,co,/rep/d,/u1/c" gives 0 ∷
     "2,commit,/u1/a" gives 0 ∷
     "1,read,/u1/c" shows "a" ∷

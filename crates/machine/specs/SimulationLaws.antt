@@ -1,10 +1,12 @@
 -- One command of a person does the same in the store as in the abstract machine: the same refusal, or the same text and
 -- states that still stand for one another.
 use mathlib.Core.Path.{_≡_, refl, sym, _∙_, ap}
-use mathlib.Core.Option.{none}
+use mathlib.Core.List.{List, [], _∷_}
+use mathlib.Core.Option.{some}
 use mathlib.Core.Bool.{Bool, true, false, not}
-use Prim.Native.Nat.{ℕ, _+_}
+use Prim.Native.Nat.{ℕ, suc, _+_}
 use native.Mathlib.Omega.{arith}
+use Rattle.buffers.specs.Cases.{case}
 use Rattle.buffers.specs.Text.{Text}
 use Rattle.accounts.specs.declared.Caller.{Caller}
 use Rattle.accounts.specs.declared.Uid.{Uid}
@@ -13,104 +15,45 @@ use Rattle.accounts.specs.declared.Right.the-variants.{R, W, X}
 use Rattle.accounts.specs.Access.{is-root}
 use Rattle.accounts.specs.Dominance.{Bounded-role}
 use Rattle.accounts.specs.Service.{service}
-use Rattle.syntax.specs.Path.{Path, _▹_, Entry-path, parent, in-rep, entry-location, below-rep}
+use Rattle.syntax.specs.Number.{decimal-text}
+use Rattle.syntax.specs.Path.{Path, _▹_, Entry-path, parent, in-rep, below-rep}
 use Rattle.commands.specs.Command.{Shell-command, Account-command, login, logout, cd, Entry-command, add, co, commit, up, del, Command, shell, account, entry}
 use Rattle.setup.specs.Setup.{Setup, is-setup}
-use Rattle.tree.specs.declared.Kind.{Kind}
 use Rattle.tree.specs.declared.Cause.the-variants.{Access, WrongKind, NotEmpty, Reserved, Full, NoGrant, Stale, Untagged, RevisionsSpent, TooDeep}
-use Rattle.tree.specs.Result.{Result, done, present}
-use Rattle.tree.specs.Outcomes.{Agree, both}
+use Rattle.tree.specs.Result.{Result, done, present, Outcome}
+use Rattle.tree.specs.Outcomes.{Agree, refusal, both}
 use Rattle.tree.specs.AgreeLaws.{done-second, bind, each, check, guard}
-use Rattle.tree.specs.Forest.{Forest, Place, insert, remove, at, update, update-forest, alter, put, drop, leaf, size, map-place, rooted}
+use Rattle.tree.specs.Forest.{Forest, Place, at, leaf, size, map-place, rooted}
 use Rattle.tree.specs.Node.{is-directory, Node, allows, owns}
 use Rattle.tree.specs.Walk.{by-modes, enter, walk, parent-walk, room}
 use Rattle.tree.specs.WellFormed.{nodes}
-use Rattle.tree.specs.JudgeLaws.{directory-is-one, kind-by-modes, passes-by-modes}
+use Rattle.tree.specs.JudgeLaws.{directory-is-one, kind-by-modes, passes-by-modes, readable-by-modes}
 use Rattle.tree.specs.StepLaws.{enters}
-use Rattle.tree.specs.ForestLaws.{empty-map, leaf-map}
-use Rattle.tree.specs.RootedLaws.{rooted-here, rooted-size, rooted-put, rooted-drop, rooted-alter, rooted-map}
+use Rattle.tree.specs.ForestLaws.{empty-map}
+use Rattle.tree.specs.RootedLaws.{rooted-here, rooted-size, rooted-map}
 use Rattle.tree.specs.PlaceLaws.{leaf-here, leaf-size}
 use Rattle.tree.specs.MapLaws.{map-here, map-below, unused-map, walk-map, parent-walk-map}
+use Rattle.tree.specs.Files.{files-below}
+use Rattle.tree.specs.FilesLaws.{files-seen}
 use Rattle.tree.specs.Graft.{graft, Outside, Seen}
-use Rattle.tree.specs.GraftLaws.{nodes-graft, update-inside, walk-inside, parent-walk-inside, seen-here}
+use Rattle.tree.specs.GraftLaws.{nodes-graft, walk-inside, parent-walk-inside, seen-here}
 use Rattle.copying.specs.Copying.{Source, copy}
 use Rattle.copying.specs.CopyLaws.{copy-map}
 use Rattle.shell.specs.Steps.{fit, run-shell}
-use Rattle.shell.specs.HidingLaws.{Kept-out, Beside, Alike, update-beside, walk-alike, owned-outside, file-outside, room-alike, fit-alike, run-shell-alike}
-use Rattle.store.specs.State.{Registry, Store}
+use Rattle.shell.specs.HidingLaws.{Kept-out, Alike, walk-alike, owned-outside, file-outside, room-alike, fit-alike, run-shell-alike}
+use Rattle.store.specs.State.{Store}
 use Rattle.store.specs.Initial.{directory-of, top-node, rep-node}
 use Rattle.store.specs.Callers.{caller}
-use Rattle.machine.specs.Machine.{source, run-login, run-logout, run-cd, session, run-add, run-co, working-file, original, run-commit, run-up, run-del, run-account, run-entry, run}
-use Rattle.machine.specs.StoreMachine.{entry-node, next-node, on-tree, store}
-use Rattle.machine.specs.AbstractMachine.{Entry, Abstract, Filed, top, an-entry, new-entry, next-entry, on-entries}
+use Rattle.machine.specs.Working.{Commits, then-commits, commit-each}
+use Rattle.machine.specs.Machine.{source, run-login, run-logout, run-cd, session, run-add, run-co, working-file, original, commit-found, commit-file, commit-directory, run-commit, run-up, run-del, run-account, run-entry, run}
+use Rattle.machine.specs.StoreMachine.{store}
+use Rattle.machine.specs.AbstractMachine.{Entry, Abstract, Filed, top, an-entry}
 use Rattle.machine.specs.AbstractInstance.{abstract}
 use Rattle.machine.specs.Embedding.{in-store, stored, met, embed}
-use Rattle.machine.specs.EntryJudgeLaws.{kind-law, passes-law, readable-law, writable-law, top-passed, revision-law, content-law, next-law}
+use Rattle.machine.specs.EntryJudgeLaws.{kind-law, passes-law, readable-law, writable-law, top-passed, revision-law, content-law}
 use Rattle.machine.specs.CallerLaws.{person-not-root, person-top, person-rep}
 use Rattle.machine.specs.Simulation.{Kept, Tie, Tied}
-
--- ---- what stands for what
-
--- the store's tree has them at `/rep`
-beside : {s : Store} {h : Abstract} → Tie s h → Beside (stored (h .entries)) (leaf rep-node) top-node (s .tree) (h .workspace)
-unfolding embed
-beside t = record { same = ap (λ s. s .tree) (t .same); here = t .kept .top; there = t .kept .there }
-
--- another people's tree in both
-workspace-tie : {s : Store} {h : Abstract} → Tie s h → {a b : Place Node} → Beside (stored (h .entries)) (leaf rep-node) top-node a b
-    → Tie (store .on-workspace (λ t. a) s) (abstract .on-workspace (λ t. b) h)
-unfolding embed
-workspace-tie t w = record {
-  same = λ i. record { tree = w .same i; registry = t .same i .registry };
-  kept = record { top = w .here; there = w .there };
-}
-
--- one change of it in both, outside `/rep`
-people-tie : {s : Store} {h : Abstract} → Tie s h → (p : Path) → Outside p → (f : Place Node → Place Node)
-    → Tie (store .on-workspace (update p f) s) (abstract .on-workspace (update p f) h)
-people-tie t p o f = workspace-tie t (update-beside (beside t) p o f)
-
--- a change of the entries in both
-entries-tie : {s : Store} {h : Abstract} → Tie s h → (p : Path) (f : Place Node → Place Node) (g : Forest Entry → Forest Entry)
-    → update p f (stored (h .entries)) ≡ stored (g (h .entries)) → Tie (on-tree (update (in-rep p) f) s) (on-entries g h)
-unfolding embed
-entries-tie {h} t p f g law = record {
-  same = rw (t .same, update-inside p f (stored (h .entries)) (h .workspace), law);
-  kept = record { top = t .kept .top; there = t .kept .there };
-}
-
--- a new entry in both
-pub file-tie : {s : Store} {h : Abstract} → Tie s h → (e : Entry-path) (kind : Kind) (r : Bounded-role) (content : Text)
-    → Tie (store .file e kind r content s) (abstract .file e kind r content h)
-unfolding stored in-store new-entry
-file-tie {h} t e kind r content =
-    let x = leaf (new-entry kind r content) in
-    entries-tie t (e .folder) (put (e .name) (leaf (entry-node kind r 1 content))) (update-forest (e .folder) (insert (e .name) x))
-    (rw (leaf-map in-store (new-entry kind r content)) (rooted-put in-store rep-node (e .folder) (e .name) x (h .entries)))
-
--- an entry revised in both
-revise-tie : {s : Store} {h : Abstract} → Tie s h → (e : Entry-path) (content : Text) → Tie (store .revise e content s) (abstract .revise e content h)
-unfolding stored entry-location in-rep
-revise-tie {h} t e content =
-    entries-tie t (e .folder ▹ e .name) (alter (next-node content)) (update-forest (e .folder) (at (e .name) (alter (next-entry content))))
-    (rooted-alter in-store rep-node (next-node content) (next-entry content) (next-law content) (e .folder) (e .name) (h .entries))
-
--- an entry taken out of both
-pub remove-tie : {s : Store} {h : Abstract} → Tie s h → (e : Entry-path) → Tie (store .remove e s) (abstract .remove e h)
-unfolding stored
-remove-tie {h} t e = entries-tie t (e .folder) (drop (e .name)) (update-forest (e .folder) (remove (e .name))) (rooted-drop in-store rep-node (e .folder) (e .name) (h .entries))
-
--- another registry in both
-registry-tie : {s : Store} {h : Abstract} → Tie s h → (r : Registry) → Tie (store .with-registry r s) (abstract .with-registry r h)
-unfolding embed
-registry-tie t r = record {
-  same = rw (t .same);
-  kept = record { top = t .kept .top; there = t .kept .there };
-}
-
--- done without a text
-changed : {s : Store} {h : Abstract} → Tie s h → Tied (record { text = none; state = s }) (record { text = none; state = h })
-changed t = record { text = refl; state = t }
+use Rattle.machine.specs.TieLaws.{workspace-tie, people-tie, file-tie, revise-tie, remove-tie, registry-tie, changed}
 
 module _ (h : Abstract) (k : Kept h) where
   start : Tie (embed h) h
@@ -175,7 +118,7 @@ module _ (u : Setup) (z : Bounded-role) where
 -- ---- the commands
 
 -- a person may do nothing at `/rep` and has neither it nor `/` to change
-kept-out : (u : Setup) → is-setup u ≡ true → (v : Uid) (c : Caller) → is-root v ≡ false
+pub kept-out : (u : Setup) → is-setup u ≡ true → (v : Uid) (c : Caller) → is-root v ≡ false
     → caller u v ≡ done c → Kept-out c top-node (leaf rep-node .here)
 unfolding top-node rep-node directory-of
 kept-out u s v c r h = rw (leaf-here rep-node) (record {
@@ -232,11 +175,10 @@ module _ (u : Setup) (c : Caller) (out : Kept-out c top-node (leaf rep-node .her
   shell-agrees = run-shell-alike c (stored (h .entries)) (leaf rep-node) top-node out (rep-alike h k) (h .workspace) (k .top) (k .there) 0 (size (h .entries)) (count h k)
 
   -- the parts that commands share
-  working-agrees : (right : Right) (p : Path)
-      → Agree (λ a b. (a ≡ b) × Outside p) (working-file store u (embed h) c right p) (working-file abstract u h c right p)
+  working-agrees : (right : Right) {p : Path} {d e : Place Node} → Meets p d e
+      → Agree (λ a b. (a ≡ b) × Outside p) (working-file store u (embed h) c right d) (working-file abstract u h c right e)
   unfolding working-file
-  working-agrees right p =
-      bind (person-walk p) λ d e s.
+  working-agrees right {e = e} s =
       check WrongKind (test (λ n. not (is-directory (n .kind))) s) λ i.
       check Access (test (allows (c .account) right) s) λ _.
       rw (seen-here (rep-alike h k) s) (
@@ -298,11 +240,11 @@ module _ (u : Setup) (c : Caller) (out : Kept-out c top-node (leaf rep-node .her
       check Full (fits-agree _) λ _.
       both (changed (people-tie (start h k) (parent p) (s .1) _))))
 
-  commit-agrees : (w : Path) → Agree Tied (run-commit store u (embed h) c w) (run-commit abstract u h c w)
-  unfolding run-commit session embed
-  commit-agrees w =
-      each (session abstract u h c) λ z _.
-      bind (working-agrees R w) λ f g s.
+  found-agrees : (z : Bounded-role) (w : Path) {x y : Place Node} → Meets w x y
+      → Agree Tied (commit-found store u (embed h) c z w x) (commit-found abstract u h c z w y)
+  unfolding commit-found embed
+  found-agrees z w m =
+      bind (working-agrees R m) λ f g s.
       rw (s .0) (
       bind (original-agrees z (g .tag .path)) λ a b y.
       rw y (rw (map-here met b, revision-law (b .here)) (
@@ -313,11 +255,19 @@ module _ (u : Setup) (c : Caller) (out : Kept-out c top-node (leaf rep-node .her
       check RevisionsSpent refl λ _.
       both (changed (people-tie (revise-tie (start h k) (g .tag .path) (g .node .content)) w (s .1) _)))))))
 
+  pub file-agrees : (w : Path) → Agree Tied (commit-file store u (embed h) c w) (commit-file abstract u h c w)
+  unfolding commit-file session embed
+  file-agrees w =
+      each (session abstract u h c) λ z _.
+      bind (person-walk w) λ d e s.
+      found-agrees z w s
+
   up-agrees : (w : Path) → Agree Tied (run-up store u (embed h) c w) (run-up abstract u h c w)
   unfolding run-up session embed
   up-agrees w =
       each (session abstract u h c) λ z _.
-      bind (working-agrees W w) λ f g s.
+      bind (person-walk w) λ d e m.
+      bind (working-agrees W m) λ f g s.
       rw (s .0) (
       bind (original-agrees z (g .tag .path)) λ a b y.
       rw y (rw (map-here met b) (rw (revision-law (b .here), content-law (b .here)) (
@@ -342,19 +292,66 @@ module _ (u : Setup) (c : Caller) (out : Kept-out c top-node (leaf rep-node .her
   account-agrees logout = logout-agrees
   account-agrees (cd p) = cd-agrees p
 
-  entry-agrees : (command : Entry-command) → Agree Tied (run-entry store u (embed h) c command) (run-entry abstract u h c command)
-  unfolding run-entry
-  entry-agrees (add w e role) = add-agrees w e role
-  entry-agrees (co e p) = co-agrees e p
-  entry-agrees (commit w) = commit-agrees w
-  entry-agrees (up w) = up-agrees w
-  entry-agrees (del e) = del-agrees e
+  -- nor may the person read `/rep`, so a readable directory has the same files below it in both
+  files-agree : {w : Path} {d e : Place Node} → Meets w d e → by-modes (c .account) .readable (e .here) ≡ true
+      → files-below (by-modes (c .account)) w (d .below) ≡ files-below (by-modes (c .account)) w (e .below)
+  files-agree =
+      files-seen (by-modes (c .account)) (stored (h .entries)) (leaf rep-node) (h .workspace) (rep-alike h k)
+      (ap is-directory (kind-by-modes (c .account) (leaf rep-node .here)) ∙ out .rep-directory)
+      (readable-by-modes (c .account) (leaf rep-node .here) ∙ rw (out .rep-shut R)) (k .there)
 
-  run-kept-out : (command : Command) → Agree Tied (run store u (embed h) c command) (run abstract u h c command)
-  unfolding run
-  run-kept-out (shell command) = bind (shell-agrees command) λ a b s. both (record { text = s .text; state = workspace-tie (start h k) (s .state) })
-  run-kept-out (account command) = account-agrees command
-  run-kept-out (entry command) = entry-agrees command
+-- commits one after another in both
+then-agree : {s : Store} {h : Abstract} {a : Result (Outcome Store)} {b : Result (Outcome Abstract)} (f : Store → Commits Store) (g : Abstract → Commits Abstract)
+    → Tie s h → Agree Tied a b → ((s : Store) (h : Abstract) → Tie s h → (f s .count ≡ g h .count) × Tie (f s .state) (g h .state))
+    → (then-commits s a f .count ≡ then-commits h b g .count) × Tie (then-commits s a f .state) (then-commits h b g .state)
+unfolding then-commits
+then-agree f g t (refusal n) k = k _ _ t
+then-agree f g t (both q) k = let r = k _ _ (q .state) in (ap suc (r .0), r .1)
+
+module _ (u : Setup) (c : Caller) (out : Kept-out c top-node (leaf rep-node .here)) where
+  -- the single commits of both
+  abbrev stored-commit : Store → Path → Result (Outcome Store)
+  stored-commit s w = commit-file store u s c w
+
+  abbrev commit-apart : Abstract → Path → Result (Outcome Abstract)
+  commit-apart h w = commit-file abstract u h c w
+
+  each-agrees : (ws : List Path) (s : Store) (h : Abstract) → Tie s h
+      → (commit-each stored-commit ws s .count ≡ commit-each commit-apart ws h .count) × Tie (commit-each stored-commit ws s .state) (commit-each commit-apart ws h .state)
+  unfolding commit-each
+  each-agrees [] s h t = (refl, t)
+  each-agrees (w ∷ ws) s h t =
+      then-agree (commit-each stored-commit ws) (commit-each commit-apart ws) t (rw (t .same) (file-agrees u c out h (t .kept) w)) (each-agrees ws)
+
+  module _ (h : Abstract) (k : Kept h) where
+    commit-agrees : (w : Path) → Agree Tied (run-commit store u (embed h) c w) (run-commit abstract u h c w)
+    unfolding run-commit commit-directory session embed
+    commit-agrees w =
+        each (session abstract u h c) λ z _.
+        bind (person-walk u c out h k w) λ d e s.
+        let same = test u c out h k (λ n. is-directory (n .kind)) s in
+        let alike = test u c out h k (by-modes (c .account) .readable) s in
+        case (is-directory (e .here .kind))
+        (λ i. rw (same, i) (
+        check Access alike λ r.
+        rw (files-agree u c out h k s (sym alike ∙ r)) (
+        let q = each-agrees (files-below (by-modes (c .account)) w (e .below)) (embed h) h (start h k) in
+        both (record { text = ap (λ n. some (decimal-text n)) (q .0); state = q .1 }))))
+        (λ i. rw (same, i) (found-agrees u c out h k z w s))
+
+    entry-agrees : (command : Entry-command) → Agree Tied (run-entry store u (embed h) c command) (run-entry abstract u h c command)
+    unfolding run-entry
+    entry-agrees (add w e role) = add-agrees u c out h k w e role
+    entry-agrees (co e p) = co-agrees u c out h k e p
+    entry-agrees (commit w) = commit-agrees w
+    entry-agrees (up w) = up-agrees u c out h k w
+    entry-agrees (del e) = del-agrees u c out h k e
+
+    run-kept-out : (command : Command) → Agree Tied (run store u (embed h) c command) (run abstract u h c command)
+    unfolding run
+    run-kept-out (shell command) = bind (shell-agrees u c out h k command) λ a b s. both (record { text = s .text; state = workspace-tie (start h k) (s .state) })
+    run-kept-out (account command) = account-agrees u c out h k command
+    run-kept-out (entry command) = entry-agrees command
 
 -- one command of a person
 pub run-agrees : (u : Setup) → is-setup u ≡ true → (v : Uid) (c : Caller) → is-root v ≡ false → caller u v ≡ done c

@@ -15,8 +15,9 @@ use Rattle.accounts.specs.declared.Caller.{Caller}
 use Rattle.accounts.specs.declared.Uid.{Uid}
 use Rattle.accounts.specs.Access.{is-root}
 use Rattle.accounts.specs.Dominance.{Bounded-role}
+use Rattle.syntax.specs.Number.{decimal-text}
 use Rattle.syntax.specs.Path.{Path, root, _▹_, Entry-path, rep, same-path, within, lies-below}
-use Rattle.commands.specs.Command.{Shell-command, mv, cd, Command, shell, account, some-path, some-walked-path, Line, line}
+use Rattle.commands.specs.Command.{Shell-command, mv, cd, commit, Command, shell, account, entry, some-path, some-walked-path, Line, line}
 use Rattle.setup.specs.Setup.{Setup, accepted, setup, is-setup}
 use Rattle.setup.specs.SetupLaws.{accepted-is-setup}
 use Rattle.tree.specs.declared.Kind.{Kind}
@@ -25,7 +26,9 @@ use Rattle.tree.specs.declared.Cause.the-variants.{Access, Unsound, ShortAnswer
 use Rattle.tree.specs.Result.{refused, done, Outcome}
 use Rattle.tree.specs.Outcomes.{Ensures}
 use Rattle.tree.specs.Forest.{Place, place-at}
-use Rattle.tree.specs.Node.{Node}
+use Rattle.tree.specs.Node.{is-directory, Node}
+use Rattle.tree.specs.Walk.{by-modes, walk}
+use Rattle.tree.specs.Files.{files-below}
 use Rattle.tree.specs.WellFormed.{is-tree}
 use Rattle.shell.specs.Privacy.{Private, Unaltered, walks-first}
 use Rattle.shell.specs.Replaced.{Replaced}
@@ -37,7 +40,7 @@ use Rattle.store.specs.StoreBytes.{encode, decode}
 use Rattle.store.specs.SoundStore.{Sound}
 use Rattle.store.specs.SoundStoreLaws
 use Rattle.store.specs.Callers.{caller}
-use Rattle.machine.specs.Machine.{Machine, run}
+use Rattle.machine.specs.Machine.{Machine, session, run}
 use Rattle.machine.specs.StoreMachine.{store}
 use Rattle.machine.specs.AbstractMachine.{Abstract, Filed, dominated, abstract-step, abstract-runs, initial-abstract}
 use Rattle.machine.specs.AbstractInstance.{abstract}
@@ -56,8 +59,10 @@ use Rattle.machine.specs.WorkingDirectory.{Moved-by-cd}
 use Rattle.machine.specs.WorkingDirectoryLaws
 use Rattle.machine.specs.ReplacedFileLaws
 use Rattle.machine.specs.EntryChanges.{node-of, Filed-as, Rightful, Change, Making}
-use Rattle.machine.specs.EntryChangesLaws
+use Rattle.machine.specs.EntryRevisionLaws
 use Rattle.machine.specs.EntryMakingLaws
+use Rattle.machine.specs.SingleCommits.{single-commits, how-many-done}
+use Rattle.machine.specs.SingleCommitsLaws
 use Rattle.machine.specs.ReadingLaws
 use Rattle.machine.specs.MachinePrivacyLaws
 
@@ -139,13 +144,23 @@ pub moved-onto-itself : (u : Setup) (s : Store) (c : Caller) (a : Path) (o : Out
 moved-onto-itself = ReplacedFileLaws.moved-onto-itself
 
 -- A person's done command leaves an entry as it is, or the session's role dominates the entry's and writes in its directory, and the
--- command is a `commit` of a file tagged with its path and revision, which gives it the file's content and the next revision, or the
--- `del` that removes it.
+-- command is a `commit` of a file tagged with its path and revision, which gives it the file's content and the next revision, a
+-- `commit` of a directory that does so once or more, one file within it after another, or the `del` that removes it.
 pub entry-changed-by-right : (u : Setup) (s : Store) → Reached-without-root u s → (v : Uid) (c : Caller) → is-root v ≡ false → caller u v ≡ done c →
     (command : Command) (o : Outcome Store) → run store u s c command ≡ done o →
     (e : Entry-path) (kind : Kind) (r : Bounded-role) (revision : ℕ) (content : Text) → Filed-as s e kind r revision content →
     Filed-as (o .state) e kind r revision content ⊎ (Change s (o .state) e kind r revision command × Rightful u s c e r)
-entry-changed-by-right = EntryChangesLaws.stored-entry-changed
+entry-changed-by-right = EntryRevisionLaws.stored-entry-changed
+
+-- The commit of a directory that the caller can read, in a session and on a well-formed tree, is the command `commit` of the files
+-- below it in path order, through directories the caller can read, one after another: it leaves the state that they leave, and its text
+-- is how many of them are done.
+pub directory-commit-is-commits : (u : Setup) (s : Store) (c : Caller) (w : Path) (found : Place Node) (z : Bounded-role) → is-tree (s .tree) ≡ true →
+    session store u s c ≡ done z → walk (by-modes (c .account)) (s .tree) w ≡ done found → is-directory (found .here .kind) ≡ true →
+    by-modes (c .account) .readable (found .here) ≡ true →
+    (let ran = single-commits u c (files-below (by-modes (c .account)) w (found .below)) s in
+    run store u s c (entry (commit w)) ≡ done (record { text = some (decimal-text (how-many-done (ran .replies))); state = ran .state }))
+directory-commit-is-commits = SingleCommitsLaws.directory-commits
 
 -- Where nothing stands, a person's done command leaves nothing, or is an `add` there in a session whose role dominates that of the
 -- new entry and writes in its directory; the entry has revision 1 and the kind and content of the file or directory added.
