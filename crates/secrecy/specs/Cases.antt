@@ -148,7 +148,8 @@ no-senior = refl
 -- ---- a junior's list
 
 -- what may not be read is refused or skipped; a `commit` of the working file that is left is refused for the entry, before it is told
--- whether it is stale, which it is in the second store alone; what is the junior's is done
+-- whether it is stale, which it is in the second store alone; what is the junior's is done. A directory with that file is committed
+-- without it, and so the number is the same in both
 junior : List Case
 junior =
     "2,del,/rep/d/a" gives 12 ∷
@@ -164,6 +165,9 @@ junior =
     "2,del,/rep/d/a" gives 5 ∷
     "2,write,/u2/w/b,t" gives 0 ∷
     "2,commit,/u2/w/b" gives 0 ∷
+    "2,commit,/u1" shows "0" ∷
+    "2,commit,/u2/w" shows "1" ∷
+    "2,commit,/" shows "1" ∷
     "2,nothing" gives 1 ∷ []
 
 by-junior-alone : by-juniors u r (calls 4096 junior) ≡ true
@@ -182,12 +186,16 @@ learns-nothing = junior-learns-nothing u r s s′ reached reached′ same no-sen
 answers′ : replied junior (runs store u s′ (calls 4096 junior) .replies) ≡ junior
 answers′ = ap (replied junior) (sym learns-nothing) ∙ answers
 
--- a senior who logs in reads another text in each
-senior : String → List Case
-senior shown = all-done "1,login,0,oak\n1,up,/u1/c" ++ ("1,read,/u1/c" shows shown ∷ [])
+-- a senior who logs in commits another number of files in each, and reads another text
+senior : String → String → List Case
+senior count shown =
+    "1,login,0,oak" gives 0 ∷
+    "1,commit,/u1" shows count ∷
+    "1,up,/u1/c" gives 0 ∷
+    "1,read,/u1/c" shows shown ∷ []
 
-senior-learns : (replied (senior "51") (runs store u s (calls 4096 (senior "51")) .replies) ≡ senior "51")
-    × (replied (senior "52 53") (runs store u s′ (calls 4096 (senior "52 53")) .replies) ≡ senior "52 53")
+senior-learns : (replied (senior "2" "51") (runs store u s (calls 4096 (senior "2" "51")) .replies) ≡ senior "2" "51")
+    × (replied (senior "1" "52 53") (runs store u s′ (calls 4096 (senior "1" "52 53")) .replies) ≡ senior "1" "52 53")
 unfolding secrets senior
 senior-learns = (refl, refl)
 

@@ -4,17 +4,18 @@ use mathlib.Core.Path.{_≡_, refl, sym, _∙_, ap, ap₂}
 use mathlib.Core.List.{List, [], _∷_}
 use mathlib.Core.Option.{Option, none, some}
 use mathlib.Core.Bool.{true, false, not}
-use Prim.Native.Nat.{ℕ, _+_}
+use Prim.Native.Nat.{ℕ, suc, _+_}
 use borrow.Author.Tests.{not-true}
 use lib.Dec.{leb}
 use lib.ListN.{getD}
-use Rattle.buffers.specs.Cases.{and-both}
+use Rattle.buffers.specs.Cases.{case, and-both}
 use Rattle.buffers.specs.Text.{Text, every}
 use Rattle.buffers.specs.TextLaws.{every-set, every-getD}
 use Rattle.accounts.specs.declared.Caller.{Caller}
 use Rattle.accounts.specs.declared.Right.the-variants.{R, W}
 use Rattle.accounts.specs.Access.{is-root}
 use Rattle.accounts.specs.Dominance.{Bounded-role}
+use Rattle.syntax.specs.Number.{decimal-text}
 use Rattle.syntax.specs.Path.{Path, Entry-path, below-rep}
 use Rattle.commands.specs.Command.{Account-command, login, logout, cd, Entry-command, add, co, commit, up, del, Command, Typed-command, shell, account, entry, Line, line}
 use Rattle.setup.specs.Setup.{Setup}
@@ -27,8 +28,9 @@ use Rattle.tree.specs.AgreeLaws.{bind, each, check, guard}
 use Rattle.tree.specs.Forest.{Place, leaf, size, map-place}
 use Rattle.tree.specs.ForestLaws.{size-map, empty-map}
 use Rattle.tree.specs.MapLaws.{map-here, map-below, unused-map}
-use Rattle.tree.specs.Node.{is-directory}
+use Rattle.tree.specs.Node.{is-directory, Node}
 use Rattle.tree.specs.Walk.{by-modes, walk, room}
+use Rattle.tree.specs.Files.{files-below}
 use Rattle.tree.specs.WellFormed.{most-nodes, nodes}
 use Rattle.shell.specs.Steps.{run-shell}
 use Rattle.shell.specs.Replies.{reply, after}
@@ -36,7 +38,8 @@ use Rattle.shell.specs.WholePaths.{account-paths, command-paths, meant-path, wh
 use Rattle.store.specs.State.{Sessions, Registry, set-session, working-directory}
 use Rattle.store.specs.RegistryLaws.{session-is-set, directory-keeps-sessions}
 use Rattle.store.specs.Callers.{caller}
-use Rattle.machine.specs.AbstractMachine.{Abstract, Filed, new-entry, with-registry, dominated, filed-readable, abstract-login, abstract-logout, abstract-cd, abstract-session, abstract-add, abstract-co, abstract-working, abstract-original, abstract-commit, abstract-up, abstract-del, abstract-account, abstract-entry, abstract-run, abstract-step, abstract-runs}
+use Rattle.machine.specs.Working.{Commits, then-commits, commit-each}
+use Rattle.machine.specs.AbstractMachine.{Abstract, Filed, new-entry, with-registry, dominated, filed-readable, abstract-login, abstract-logout, abstract-cd, abstract-session, abstract-add, abstract-co, abstract-working, abstract-original, abstract-commit-found, abstract-commit-file, abstract-commit-directory, abstract-commit, abstract-up, abstract-del, abstract-account, abstract-entry, abstract-run, abstract-step, abstract-runs}
 use Rattle.machine.specs.Runs.{Call}
 use Rattle.secrecy.specs.Redacted.{is-senior, without-seniors, admits-senior, is-junior's, by-junior, by-juniors}
 use Rattle.secrecy.specs.RedactedLaws.{redacted-entry, redacted-filed, hidden, redacted-abstract, hidden-twice, redacted-twice, insert-alike, remove-alike, revise-alike, kind-kept, readable-kept, writable-kept, walk-kept, parent-walk-kept, open-filed, copy-kept}
@@ -46,6 +49,16 @@ module _ (u : Setup) (r : Bounded-role) where
   record Alike (a b : Abstract) : Type 0 where
     same : redacted-abstract r a ≡ redacted-abstract r b
     junior : without-seniors u r (b .registry .sessions) ≡ true
+
+  -- nor has the first one
+  junior-first : {a b : Abstract} → Alike a b → without-seniors u r (a .registry .sessions) ≡ true
+  unfolding redacted-abstract
+  junior-first t = ap (λ s. without-seniors u r (s .registry .sessions)) (t .same) ∙ t .junior
+
+  -- what is the same of a state and its redacted self is the same of such states
+  same-of : {B : Type 0} (f : Abstract → B) → ((h : Abstract) → without-seniors u r (h .registry .sessions) ≡ true → f (redacted-abstract r h) ≡ f h)
+      → {a b : Abstract} → Alike a b → f a ≡ f b
+  same-of f k {a} {b} t = sym (k a (junior-first t)) ∙ ap f (t .same) ∙ k b (t .junior)
 
   -- outcomes with one text and such states
   record Alike-outcomes (a b : Outcome Abstract) : Type 0 where
@@ -153,25 +166,34 @@ module _ (u : Setup) (r : Bounded-role) where
         check Full (fits-kept _) λ _.
         both (changed _ _ refl (hidden-twice r (h .entries)) refl w)))
 
-    commit-kept : (p : Path) → Agree Alike-outcomes (abstract-commit u h′ c p) (abstract-commit u h c p)
-    unfolding abstract-commit abstract-session abstract-working redacted-abstract
-    commit-kept p =
-        each (abstract-session u h c) λ z j.
-        each (abstract-working u h c R p) λ k _.
-        bind (original-kept z (junior-of z j) (k .tag .path)) λ a b y.
+    -- a commit from the found place on
+    found-kept : (z : Bounded-role) → dominated u z r ≡ false → (p : Path) (d : Place Node)
+        → Agree Alike-outcomes (abstract-commit-found u h′ c z p d) (abstract-commit-found u h c z p d)
+    unfolding abstract-commit-found abstract-working redacted-abstract
+    found-kept z j p d =
+        each (abstract-working u h c R d) λ k _.
+        bind (original-kept z j (k .tag .path)) λ a b y.
         rw y (
-        bind (walk-kept r u z (h .entries) (k .tag .path .folder)) λ d l v.
+        bind (walk-kept r u z (h .entries) (k .tag .path .folder)) λ m l v.
         rw v (rw (map-here (redacted-filed r) l) (
         check Access (writable-kept r u z (l .here)) λ _.
         check Stale refl λ _.
         check RevisionsSpent refl λ _.
         both (changed _ _ refl (revise-alike r (k .tag .path .folder) (k .tag .path .name) (k .node .content) (h .entries)) refl w))))
 
+    file-kept : (p : Path) → Agree Alike-outcomes (abstract-commit-file u h′ c p) (abstract-commit-file u h c p)
+    unfolding abstract-commit-file abstract-session redacted-abstract
+    file-kept p =
+        each (abstract-session u h c) λ z j.
+        each (walk (by-modes (c .account)) (h .workspace) p) λ d _.
+        found-kept z (junior-of z j) p d
+
     up-kept : (p : Path) → Agree Alike-outcomes (abstract-up u h′ c p) (abstract-up u h c p)
     unfolding abstract-up abstract-session abstract-working redacted-abstract
     up-kept p =
         each (abstract-session u h c) λ z j.
-        each (abstract-working u h c W p) λ k _.
+        each (walk (by-modes (c .account)) (h .workspace) p) λ d _.
+        each (abstract-working u h c W d) λ k _.
         bind (original-kept z (junior-of z j) (k .tag .path)) λ a b y.
         rw y (
         both (changed _ _ refl (hidden-twice r (h .entries)) refl w))
@@ -196,20 +218,63 @@ module _ (u : Setup) (r : Bounded-role) where
     account-kept logout j = logout-kept
     account-kept (cd p) j = cd-kept p
 
-    entry-kept : (command : Entry-command) → Agree Alike-outcomes (abstract-entry u h′ c command) (abstract-entry u h c command)
-    unfolding abstract-entry
-    entry-kept (add p e q) = add-kept p e q
-    entry-kept (co e p) = co-kept e p
-    entry-kept (commit p) = commit-kept p
-    entry-kept (up p) = up-kept p
-    entry-kept (del e) = del-kept e
+  -- ---- commits one after another
 
-    run-kept : (command : Command) → is-junior's u r command ≡ true → Agree Alike-outcomes (abstract-run u h′ c command) (abstract-run u h c command)
+  -- as many, and states that are one once redacted
+  record Alike-commits (a b : Commits Abstract) : Type 0 where
+    count : a .count ≡ b .count
+    state : Alike (a .state) (b .state)
+
+  -- a commit, and others behind it, of a state and its redacted self
+  then-kept : (f : Abstract → Commits Abstract)
+      → ((h : Abstract) → without-seniors u r (h .registry .sessions) ≡ true → Alike-commits (f (redacted-abstract r h)) (f h))
+      → (h : Abstract) → without-seniors u r (h .registry .sessions) ≡ true → {a b : Result (Outcome Abstract)} → Agree Alike-outcomes a b
+      → Alike-commits (then-commits (redacted-abstract r h) a f) (then-commits h b f)
+  unfolding then-commits
+  then-kept f k h w (refusal n) = k h w
+  then-kept f k h w (both {y = y} q) = record {
+    count = ap suc (same-of (λ s. f s .count) (λ g v. k g v .count) (q .state));
+    state = record { same = same-of (λ s. redacted-abstract r (f s .state)) (λ g v. k g v .state .same) (q .state); junior = k (y .state) (q .state .junior) .state .junior };
+  }
+
+  module _ (c : Caller) where
+    -- the single commit of the abstract machine
+    abbrev commits-file : Abstract → Path → Result (Outcome Abstract)
+    commits-file h p = abstract-commit-file u h c p
+
+    each-kept : (ps : List Path) (h : Abstract) → without-seniors u r (h .registry .sessions) ≡ true
+        → Alike-commits (commit-each commits-file ps (redacted-abstract r h)) (commit-each commits-file ps h)
+    unfolding commit-each
+    each-kept [] h w = record { count = refl; state = record { same = redacted-twice r h; junior = w } }
+    each-kept (p ∷ ps) h w = then-kept (commit-each commits-file ps) (each-kept ps) h w (file-kept c h w p)
+
+  module _ (c : Caller) (h : Abstract) (w : without-seniors u r (h .registry .sessions) ≡ true) where
+    commit-kept : (p : Path) → Agree Alike-outcomes (abstract-commit u (redacted-abstract r h) c p) (abstract-commit u h c p)
+    unfolding abstract-commit abstract-commit-directory abstract-session redacted-abstract
+    commit-kept p =
+        each (abstract-session u h c) λ z j.
+        each (walk (by-modes (c .account)) (h .workspace) p) λ d _.
+        case (is-directory (d .here .kind))
+        (λ i. rw i (
+        check Access refl λ _.
+        let q = each-kept c (files-below (by-modes (c .account)) p (d .below)) h w in
+        both (record { text = ap (λ n. some (decimal-text n)) (q .count); state = q .state })))
+        (λ i. rw i (found-kept c h w z (junior-of c h w z j) p d))
+
+    entry-kept : (command : Entry-command) → Agree Alike-outcomes (abstract-entry u (redacted-abstract r h) c command) (abstract-entry u h c command)
+    unfolding abstract-entry
+    entry-kept (add p e q) = add-kept c h w p e q
+    entry-kept (co e p) = co-kept c h w e p
+    entry-kept (commit p) = commit-kept p
+    entry-kept (up p) = up-kept c h w p
+    entry-kept (del e) = del-kept c h w e
+
+    run-kept : (command : Command) → is-junior's u r command ≡ true → Agree Alike-outcomes (abstract-run u (redacted-abstract r h) c command) (abstract-run u h c command)
     unfolding abstract-run is-junior's redacted-abstract
     run-kept (shell command) j = rw (size-map (redacted-entry r) (h .entries)) (
         each (run-shell c (size (h .entries)) (h .workspace) command) λ o _.
         both (record { text = refl; state = record { same = λ i. record { workspace = o .state; entries = hidden-twice r (h .entries) i; registry = h .registry }; junior = w } }))
-    run-kept (account command) j = account-kept command (not-true (admits-senior u r command) j)
+    run-kept (account command) j = account-kept c h w command (not-true (admits-senior u r command) j)
     run-kept (entry command) j = entry-kept command
 
   -- ---- calls
@@ -262,23 +327,28 @@ module _ (u : Setup) (r : Bounded-role) where
     after-kept = after-alike (record { same = redacted-twice r h; junior = w }) (step-kept call j h w)
 
   -- on states that are one once redacted
-  module _ (call : Call) (j : by-junior u r (line (call .line)) ≡ true) (g h : Abstract) (same : redacted-abstract r g ≡ redacted-abstract r h)
-      (v : without-seniors u r (g .registry .sessions) ≡ true) (w : without-seniors u r (h .registry .sessions) ≡ true) where
+  module _ (call : Call) (j : by-junior u r (line (call .line)) ≡ true) {g h : Abstract} (t : Alike g h) where
     reply-same : reply (abstract-step u g call) ≡ reply (abstract-step u h call)
-    reply-same = sym (reply-kept call j g v) ∙ ap (λ s. reply (abstract-step u s call)) same ∙ reply-kept call j h w
+    reply-same = same-of (λ s. reply (abstract-step u s call)) (reply-kept call j) t
 
-    after-same : redacted-abstract r (after g (abstract-step u g call)) ≡ redacted-abstract r (after h (abstract-step u h call))
-    after-same = sym (after-kept call j g v .same) ∙ ap (λ s. redacted-abstract r (after s (abstract-step u s call))) same ∙ after-kept call j h w .same
+    after-same : Alike (after g (abstract-step u g call)) (after h (abstract-step u h call))
+    after-same = record {
+      same = same-of (λ s. redacted-abstract r (after s (abstract-step u s call))) (λ h w. after-kept call j h w .same) t;
+      junior = after-kept call j h (t .junior) .junior;
+    }
 
   -- a list of calls is answered alike on states that are one once redacted, and leaves such states
+  runs-same : (calls : List Call) → by-juniors u r calls ≡ true → (g h : Abstract) → Alike g h
+      → (abstract-runs u g calls .replies ≡ abstract-runs u h calls .replies) × Alike (abstract-runs u g calls .state) (abstract-runs u h calls .state)
+  unfolding abstract-runs by-juniors every
+  runs-same [] j g h t = (refl, t)
+  runs-same (call ∷ calls) j g h t =
+      let k = and-both (by-junior u r (line (call .line))) (by-juniors u r calls) j in
+      let rest = runs-same calls (k .1) (after g (abstract-step u g call)) (after h (abstract-step u h call)) (after-same call (k .0) t) in
+      (ap₂ _∷_ (reply-same call (k .0) t) (rest .0), rest .1)
+
   pub runs-alike : (calls : List Call) → by-juniors u r calls ≡ true → (g h : Abstract) → redacted-abstract r g ≡ redacted-abstract r h
-      → without-seniors u r (g .registry .sessions) ≡ true → without-seniors u r (h .registry .sessions) ≡ true
+      → without-seniors u r (h .registry .sessions) ≡ true
       → (abstract-runs u g calls .replies ≡ abstract-runs u h calls .replies)
       × (redacted-abstract r (abstract-runs u g calls .state) ≡ redacted-abstract r (abstract-runs u h calls .state))
-  unfolding abstract-runs by-juniors every
-  runs-alike [] j g h same v w = (refl, same)
-  runs-alike (call ∷ calls) j g h same v w =
-      let k = and-both (by-junior u r (line (call .line))) (by-juniors u r calls) j in
-      let rest = runs-alike calls (k .1) (after g (abstract-step u g call)) (after h (abstract-step u h call))
-      (after-same call (k .0) g h same v w) (after-kept call (k .0) g v .junior) (after-kept call (k .0) h w .junior) in
-      (ap₂ _∷_ (reply-same call (k .0) g h same v w) (rest .0), rest .1)
+  runs-alike calls j g h same w = let rest = runs-same calls j g h (record { same = same; junior = w }) in (rest .0, rest .1 .same)

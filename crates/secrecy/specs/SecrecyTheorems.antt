@@ -51,7 +51,7 @@ module _ (u : Setup) (r : Bounded-role) where
         let k = rootless calls j in
         let plain = lists-agree u g calls k s h t in
         let hidden = lists-agree u g calls k (redacted r s) (redacted-abstract r h) (tie-redacted r t) in
-        let apart = runs-alike u r calls j (redacted-abstract r h) h (redacted-twice r h) junior junior in (
+        let apart = runs-alike u r calls j (redacted-abstract r h) h (redacted-twice r h) junior in (
           plain .0 ∙ sym (apart .0) ∙ sym (hidden .0),
           tie-redacted r (plain .1) .same ∙ ap embed (sym (apart .1)) ∙ sym (tie-redacted r (hidden .1) .same),
         )
