@@ -17,7 +17,12 @@ use Rattle.tree.specs.Node.{is-directory, Tag, Node, allows, set-tag, set-conte
 use Rattle.tree.specs.Walk.{by-modes, walk}
 use Rattle.tree.specs.WellFormed.{last-revision}
 use Rattle.tree.specs.RowPlaces.{index-of}
+use Rattle.tree.specs.Encoding.{encode-tree}
 use Rattle.tree.specs.TreeBytes.{At}
+use Rattle.shell.specs.declared.Answer.{Answer}
+use Rattle.shell.specs.declared.Answer.the-variants.{Done}
+use Rattle.shell.specs.declared.Answer.the-variants
+use Rattle.shell.specs.CommandBytes.{bytes-after}
 use Rattle.machine.specs.Working.{tagged}
 use Rattle.machine.specs.StoreMachine.{next-node}
 use Rattle.entries.specs.declared.Links.{Links}
@@ -56,11 +61,17 @@ link-on account t w found = do
   filed ← file-walk account R t (entry-location (tag .path))
   done (record { path = w; found = found; tag = tag; filed = filed })
 
--- after the person's part, which asks for a right at the working file
+-- after the person's tests at the working file found at w, which ask for a right
+unfoldable pub link-at : Account → Right → Account → Place Node → Path → Place Node → Result Link
+link-at person right account t w found = do
+  file-tests person right (found .here)
+  link-on account t w found
+
+-- and after the person's walk there
 unfoldable pub link : Account → Right → Account → Place Node → Path → Result Link
 link person right account t w = do
-  found ← file-walk person right t w
-  link-on account t w found
+  found ← walk (by-modes person) t w
+  link-at person right account t w found
 
 -- w on the entry's parent 5; the tag's revision differs 14; revision is 9999 16
 unfoldable pub commit-tests : Account → Node → ℕ → ℕ → Result (Unit {0})
@@ -69,9 +80,10 @@ commit-tests a above given v = do
   require (eqb given v) Stale
   require (not (eqb v last-revision)) RevisionsSpent
 
-unfoldable pub commit-link : Account → Account → Place Node → Path → Result Link
-commit-link person account t w = do
-  l ← link person R account t w
+-- `commit` of the file found at w, up to its change
+unfoldable pub commit-at : Account → Account → Place Node → Path → Place Node → Result Link
+commit-at person account t w found = do
+  l ← link-at person R account t w found
   above ← walk (by-modes account) t (in-rep (l .tag .path .folder))
   commit-tests account (above .here) (l .tag .revision) (l .filed .here .revision)
   done l
@@ -114,8 +126,9 @@ after-del t e = update (in-rep (e .folder)) (drop (e .name)) t
 abbrev pub changing : {A : Type 0} → Result A → (A → Place Node) → Result (Outcome (Place Node))
 changing steps after = steps >>= λ x. done (record { text = none; state = after x })
 
-abbrev pub commit-steps : Account → Account → Place Node → Path → Result (Outcome (Place Node))
-commit-steps person account t w = changing (commit-link person account t w) (after-commit t)
+-- `commit` of the file found at w
+abbrev pub commit-steps : Account → Account → Place Node → Path → Place Node → Result (Outcome (Place Node))
+commit-steps person account t w found = changing (commit-at person account t w found) (after-commit t)
 
 abbrev pub up-steps : Account → Account → Place Node → Path → Result (Outcome (Place Node))
 up-steps person account t w = changing (link person W account t w) (after-up t)
@@ -149,6 +162,16 @@ passing tests x = tests >> done x
 unfoldable pub links-told : Links → Result Link-rows
 links-told (To working entry above) = done (three-rows working entry above)
 links-told (Refused cause) = refused cause
+
+-- what a command answers for it
+unfoldable pub links-answer : Links → Answer
+links-answer (To working entry above) = Done
+links-answer (Refused cause) = the-variants.Refused cause
+
+-- the rows answered are those of the link that the steps of a commit come to, and the bytes those of the tree after them; refused, the bytes stay
+pub record Filed-at (b : List ℕ) (t : Place Node) (steps : Result Link) (r : Links) (b′ : List ℕ) : Type 0 where
+  pub links : links-told r ≡ link-rows-from t steps
+  pub bytes : b′ ≡ bytes-after encode-tree b (changing steps (after-commit t))
 
 -- in the bytes b of the tree t the rows are those of a working file and of the entry that its tag leads to, both files
 pub record Linked (b : List ℕ) (t : Place Node) (l : Link) (working entry : ℕ) : Type 0 where

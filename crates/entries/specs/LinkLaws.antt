@@ -5,12 +5,13 @@
 --   tests before an answer: tests-then;
 --   the walk to a node that passes tests, as to a file: judged-came to file-walked;
 --   from a working file to its entry: has-tag to entry-refused;
---   both: link-came, link-refused, links-not, links-to, and what a link is: Link-facts to linked-above;
+--   with the person's tests before: link-at-came, link-at-refused; and the person's walk: link-came, link-refused;
+--   what an answer says, links-not, links-to, and what a link is: Link-facts to link-linked;
 --   `commit`: commit-came to revision-below;
 --   the changes: commit-law, up-law.
 use mathlib.Core.Path.{_≡_, refl, sym, _∙_, ap}
-use mathlib.Core.List.{List, [], _∷_}
-use mathlib.Core.Option.{Option, none, some}
+use mathlib.Core.List.{List}
+use mathlib.Core.Option.{none, some}
 use mathlib.Core.Bool.{true, false, not}
 use Prim.Native.Nat.{ℕ, suc, _<_}
 use native.Mathlib.Omega.{arith}
@@ -28,7 +29,7 @@ use Rattle.tree.specs.declared.Cause.{Cause}
 use Rattle.tree.specs.declared.Cause.the-variants.{Access, WrongKind, Stale, Untagged, RevisionsSpent}
 use Rattle.tree.specs.Layout.{revision-offset, tag-revision-offset, content-offset}
 use Rattle.tree.specs.Result.{Result, refused, done, _>>=_, _>>_, require, present}
-use Rattle.tree.specs.ResultLaws.{present-some, present-of, present-none, required, bind-done, then-done, refused-before, done-bind, refused-bind, then-bind}
+use Rattle.tree.specs.ResultLaws.{not-done, by-result, present-some, present-of, present-none, required, bind-done, then-done, refused-before, done-then, refused-then, done-bind, refused-bind, then-bind}
 use Rattle.tree.specs.Forest.{Place, update, alter}
 use Rattle.tree.specs.Node.{is-directory, Tag, Node, allows, set-revision, set-tag, set-content}
 use Rattle.tree.specs.NodeLaws.{node-ranges, node-of-revision, node-of-tag, node-of-content, kind-of-set-revision, kind-of-set-tag, kind-of-set-content}
@@ -50,13 +51,14 @@ use Rattle.copying.specs.CopyRowLaws.{row-held}
 use Rattle.walks.specs.declared.Walked.{Walked}
 use Rattle.walks.specs.declared.Walked.the-variants
 use Rattle.walks.specs.RowWalk.{Spot, spot, outcome}
+use Rattle.walks.specs.RowWalkLaws.{outcome-at, outcome-refused}
 use Rattle.walks.specs.WalkBytes.{spot-of, Came, spot-from}
 use Rattle.walks.specs.WalkBytesLaws.{came-to, came-not, came-spot}
 use Rattle.machine.specs.Working.{tagged}
 use Rattle.machine.specs.StoreMachine.{next-node}
 use Rattle.entries.specs.declared.Links.{Links}
 use Rattle.entries.specs.declared.Links.the-variants.{To, Refused}
-use Rattle.entries.specs.EntrySteps.{file-tests, judged-walk, file-walk, Link, link-on, link, commit-tests, commit-link, after-commit, after-up, Link-rows, link-rows, three-rows, link-rows-from, passing, links-told, Linked}
+use Rattle.entries.specs.EntrySteps.{file-tests, judged-walk, file-walk, Link, link-on, link-at, link, commit-tests, commit-at, after-commit, after-up, Link-rows, link-rows, three-rows, link-rows-from, passing, links-told, Linked}
 
 -- ---- steps and tests
 
@@ -107,36 +109,37 @@ module _ (a : Account) (tests : Node → Result (Unit {0})) (t : Place Node) (p 
     pub judged-not : {k : Cause} → r ≡ the-variants.Refused k → judged-walk a tests t p ≡ refused k
     judged-not e = came-not tree (judged-walk a tests t p) p o e
 
--- that to a file leads to a file
-file-walked : (a : Account) (right : Right) (t : Place Node) (p : Path) {d : Place Node} → file-walk a right t p ≡ done d
-    → (walk (by-modes a) t p ≡ done d) × (is-directory (d .here .kind) ≡ false)
+-- tests that are refused before an answer
+tests-refused : {A : Type 0} (r : Result (Unit {0})) (x : A) {k : Cause} → passing r x ≡ refused k → r ≡ refused k
+tests-refused r x {k} e =
+    by-result r
+    (λ c q. let s : refused c ≡ refused k = rw (q, refused-then) at e in let z : c ≡ k = cc in q ∙ ap refused z)
+    (λ u q. not-done (sym (rw (q, done-then) at e)))
+
+-- the tests of a file pass at a file
+file-plain : (a : Account) (right : Right) (n : Node) → file-tests a right n ≡ done tt → is-directory (n .kind) ≡ false
 unfolding file-tests
-file-walked a right t p {d} e =
-    let w = judged-walked a (file-tests a right) t p e in
-    let i = then-done (require (not (is-directory (d .here .kind))) WrongKind) (require (allows a right (d .here)) Access) (w .1) in
-    (w .0, not-true (is-directory (d .here .kind)) (required (not (is-directory (d .here .kind))) WrongKind (i .0)))
+file-plain a right n e =
+    let i = then-done (require (not (is-directory (n .kind))) WrongKind) (require (allows a right n) Access) e in
+    not-true (is-directory (n .kind)) (required (not (is-directory (n .kind))) WrongKind (i .0))
 
 -- ---- from a working file to its entry
 
 -- no tag
-pub link-on-missing : (account : Account) (t : Place Node) (p : Path) (d : Place Node) → d .here .tag ≡ none → link-on account t p d ≡ refused Untagged
+link-on-missing : (account : Account) (t : Place Node) (p : Path) (d : Place Node) → d .here .tag ≡ none → link-on account t p d ≡ refused Untagged
 unfolding link-on
-link-on-missing account t p d e =
-    let rest : Tag → Result Link = λ h. file-walk account R t (entry-location (h .path)) >>= λ x. done (record { path = p; found = d; tag = h; filed = x }) in
-    ap (λ (o : Option Tag). present o Untagged >>= rest) e ∙ ap (λ (o : Result Tag). o >>= rest) (present-none Untagged) ∙ refused-bind Untagged rest
+link-on-missing account t p d e = simp (e, present-none, refused-bind)
 
 module _ (account : Account) (t : Place Node) (p : Path) (d : Place Node) {g : Tag} (e : d .here .tag ≡ some g) where
   link-on-goes : link-on account t p d ≡ (file-walk account R t (entry-location (g .path)) >>= λ x. done (record { path = p; found = d; tag = g; filed = x }))
   unfolding link-on
-  link-on-goes =
-      let rest : Tag → Result Link = λ h. file-walk account R t (entry-location (h .path)) >>= λ x. done (record { path = p; found = d; tag = h; filed = x }) in
-      ap (λ (o : Option Tag). present o Untagged >>= rest) e ∙ ap (λ (o : Result Tag). o >>= rest) (present-of g Untagged) ∙ done-bind g rest
+  link-on-goes = simp (e, present-of, done-bind)
 
-  pub link-on-done : {x : Place Node} → file-walk account R t (entry-location (g .path)) ≡ done x
+  link-on-done : {x : Place Node} → file-walk account R t (entry-location (g .path)) ≡ done x
       → link-on account t p d ≡ done (record { path = p; found = d; tag = g; filed = x })
   link-on-done w = link-on-goes ∙ rw (w, done-bind)
 
-  pub link-on-refused : {k : Cause} → file-walk account R t (entry-location (g .path)) ≡ refused k → link-on account t p d ≡ refused k
+  link-on-refused : {k : Cause} → file-walk account R t (entry-location (g .path)) ≡ refused k → link-on account t p d ≡ refused k
   link-on-refused w = link-on-goes ∙ rw (w, refused-bind)
 
 module _ {b : List ℕ} {t : Place Node} {p : Path} {i : ℕ} {d : Place Node} (a : At b t p i d) where
@@ -180,18 +183,34 @@ module _ {b : List ℕ} {t : Place Node} {p : Path} {i : ℕ} {d : Place Node} (
           let on = link-on-refused account t p d (g .1) (judged-not account (file-tests account R) t q (a .tree) (o q (tag-located (g .0) (g .1))) e) in
           sym (ap (λ (x : Result Link). x >>= λ y. done (link-rows t y)) on ∙ refused-bind k (λ y. done (link-rows t y)))
 
--- ---- both
+-- ---- the person's part before
+
+module _ (person account : Account) (right : Right) {b : List ℕ} {t : Place Node} {w : Path} {row : ℕ} {d : Place Node} (at : At b t w row d) {r : Walked}
+    (o : outcome r ≡ passing (file-tests person right (row-at b row .here)) (spot row row)) where
+  -- the tests at the row are those at its place, and after them comes the account's part
+  pub link-at-came : {i k : ℕ} {x : Result Link-rows} → r ≡ the-variants.To i k → x ≡ link-rows-from t (link-on account t w d)
+      → x ≡ link-rows-from t (link-at person right account t w d)
+  unfolding link-at
+  link-at-came {i} {k} e f =
+      let passed = then-done (file-tests person right (row-at b row .here)) (done (spot row row)) (sym o ∙ ap outcome e ∙ outcome-at i k) .0 in
+      f ∙ rw (ap (file-tests person right) (sym (at-here at)) ∙ passed, done-then)
+
+  pub link-at-refused : {k : Cause} → r ≡ the-variants.Refused k → refused k ≡ link-rows-from t (link-at person right account t w d)
+  unfolding link-at
+  link-at-refused {k} e =
+      let barred = tests-refused (file-tests person right (row-at b row .here)) (spot row row) (sym o ∙ ap outcome e ∙ outcome-refused k) in
+      rw (ap (file-tests person right) (sym (at-here at)) ∙ barred, refused-then) (sym (refused-bind k (λ (l : Link). done (link-rows t l))))
 
 module _ (person account : Account) (right : Right) (t : Place Node) (w : Path) where
-  -- from the working file's row on
-  pub link-came : {b : List ℕ} {row above : ℕ} {x : Result Link-rows} (c : Came b t w (file-walk person right t w) row above)
-      → x ≡ link-rows-from t (link-on account t w (c .place)) → x ≡ link-rows-from t (link person right account t w)
+  -- from the row on to which the walk led
+  pub link-came : {d : Place Node} {x : Result Link-rows} → walk (by-modes person) t w ≡ done d → x ≡ link-rows-from t (link-at person right account t w d)
+      → x ≡ link-rows-from t (link person right account t w)
   unfolding link
-  link-came c o = o ∙ rw (c .walked, done-bind (c .place) (λ d. link-on account t w d))
+  link-came e o = o ∙ rw (e, done-bind)
 
-  pub link-refused : {k : Cause} → file-walk person right t w ≡ refused k → refused k ≡ link-rows-from t (link person right account t w)
+  pub link-refused : {k : Cause} → walk (by-modes person) t w ≡ refused k → refused k ≡ link-rows-from t (link person right account t w)
   unfolding link
-  link-refused {k} e = rw (e, refused-bind k (λ d. link-on account t w d), refused-bind k (λ l. done (link-rows t l)))
+  link-refused {k} e = rw (e, refused-bind) (sym (refused-bind k (λ (l : Link). done (link-rows t l))))
 
 -- what an answer says of the steps to a link
 module _ (t : Place Node) (steps : Result Link) {r : Links} (o : links-told r ≡ link-rows-from t steps) where
@@ -206,99 +225,107 @@ module _ (t : Place Node) (steps : Result Link) {r : Links} (o : links-told r �
       let q : link-rows t (v .0) ≡ three-rows i k a = cc (v .2) in
       (v .0, v .1, q)
 
--- what a link is: where the two walks lead
-pub record Link-facts (person account : Account) (t : Place Node) (w : Path) (l : Link) : Type 0 where
+-- what a link is: the working file found, and where the account's walk leads
+pub record Link-facts (account : Account) (t : Place Node) (w : Path) (d : Place Node) (l : Link) : Type 0 where
   pub path : l .path ≡ w
-  pub found : walk (by-modes person) t w ≡ done (l .found)
-  pub plain : is-directory (l .found .here .kind) ≡ false
-  pub tagged : l .found .here .tag ≡ some (l .tag)
+  pub found : l .found ≡ d
+  pub plain : is-directory (d .here .kind) ≡ false
+  pub tagged : d .here .tag ≡ some (l .tag)
   pub filed : walk (by-modes account) t (entry-location (l .tag .path)) ≡ done (l .filed)
   pub original-plain : is-directory (l .filed .here .kind) ≡ false
 
-pub link-facts : (person account : Account) (right : Right) (t : Place Node) (w : Path) {l : Link}
-    → link person right account t w ≡ done l → Link-facts person account t w l
-unfolding link link-on
-link-facts person account right t w {l} e =
-    let x = bind-done (file-walk person right t w) (λ d. link-on account t w d) e in
-    let f = file-walked person right t w (x .1) in
-    let made : Tag → Place Node → Link = λ g y. record { path = w; found = x .0; tag = g; filed = y } in
-    let y = bind-done (present (x .0 .here .tag) Untagged) (λ g. file-walk account R t (entry-location (g .path)) >>= λ v. done (made g v)) (x .2) in
-    let z = bind-done (file-walk account R t (entry-location (y .0 .path))) (λ v. done (made (y .0) v)) (y .2) in
-    let g = file-walked account R t (entry-location (y .0 .path)) (z .1) in
-    let q : l ≡ made (y .0) (z .0) = cc (z .2) in
-    rw q (record {
+pub link-facts : (person account : Account) (right : Right) (t : Place Node) (w : Path) (d : Place Node) {l : Link}
+    → link-at person right account t w d ≡ done l → Link-facts account t w d l
+unfolding link-at link-on
+link-facts person account right t w d {l} e =
+    let made : Tag → Place Node → Link = λ g y. record { path = w; found = d; tag = g; filed = y } in
+    let x = then-done (file-tests person right (d .here)) (link-on account t w d) e in
+    let y = bind-done (present (d .here .tag) Untagged) (λ g. file-walk account R t (entry-location (g .path)) >>= λ v. done (made g v)) (x .1) in
+    let q = entry-location (y .0 .path) in
+    let z = bind-done (file-walk account R t q) (λ v. done (made (y .0) v)) (y .2) in
+    let g = judged-walked account (file-tests account R) t q (z .1) in
+    let is : l ≡ made (y .0) (z .0) = cc (z .2) in
+    rw is (record {
       path = refl;
-      found = f .0;
-      plain = f .1;
-      tagged = present-some (x .0 .here .tag) Untagged (y .1);
+      found = refl;
+      plain = file-plain person right (d .here) (x .0);
+      tagged = present-some (d .here .tag) Untagged (y .1);
       filed = g .0;
-      original-plain = g .1;
+      original-plain = file-plain account R (z .0 .here) (g .1);
     })
 
-module _ {person account : Account} {b : List ℕ} {t : Place Node} {w : Path} {l : Link} {i k a : ℕ} (tree : Encodes b t) (f : Link-facts person account t w l)
-    (rows : link-rows t l ≡ three-rows i k a) where
+module _ (person account : Account) (right : Right) {b : List ℕ} {t : Place Node} {w : Path} {j : ℕ} {d : Place Node} (at : At b t w j d) {l : Link} {i k a : ℕ}
+    (e : link-at person right account t w d ≡ done l) (rows : link-rows t l ≡ three-rows i k a) where
   -- its rows are linked
   pub linked : Linked b t l i k
   unfolding link-rows
-  linked = record {
-    file = record { tree = tree; there = rw (f .path) (walked-at t (by-modes person) w (l .found) (f .found)); row = sym (ap (λ (x : Link-rows). x .working) rows) };
-    tagged = f .tagged;
-    original = record {
-      tree = tree;
-      there = walked-at t (by-modes account) (entry-location (l .tag .path)) (l .filed) (f .filed);
-      row = sym (ap (λ (x : Link-rows). x .entry) rows);
-    };
-    plain = f .plain;
-    original-plain = f .original-plain;
-  }
+  linked =
+      let f = link-facts person account right t w d e in
+      record {
+        file = record { tree = at .tree; there = rw (f .path, f .found) (at .there); row = sym (ap (λ (x : Link-rows). x .working) rows) };
+        tagged = rw (f .found) (f .tagged);
+        original = record {
+          tree = at .tree;
+          there = walked-at t (by-modes account) (entry-location (l .tag .path)) (l .filed) (f .filed);
+          row = sym (ap (λ (x : Link-rows). x .entry) rows);
+        };
+        plain = rw (f .found) (f .plain);
+        original-plain = f .original-plain;
+      }
 
   -- and the third is that of the directory above the entry
   pub linked-above : (o : Place Node) × (walk (by-modes account) t (in-rep (l .tag .path .folder)) ≡ done o) × At b t (in-rep (l .tag .path .folder)) a o
   unfolding link-rows entry-location parent
   linked-above =
       let p = in-rep (l .tag .path .folder) in
-      let v = walked (by-modes account) t p (l .tag .path .name) (f .filed) in
-      (v .0, v .1, record { tree = tree; there = walked-at t (by-modes account) p (v .0) (v .1); row = sym (ap (λ (x : Link-rows). x .above) rows) })
+      let v = walked (by-modes account) t p (l .tag .path .name) (link-facts person account right t w d e .filed) in
+      (v .0, v .1, record { tree = at .tree; there = walked-at t (by-modes account) p (v .0) (v .1); row = sym (ap (λ (x : Link-rows). x .above) rows) })
+
+-- the rows of a link that a walk led to
+pub link-linked : (person account : Account) (right : Right) {b : List ℕ} {t : Place Node} (w : Path) {l : Link} {i k a : ℕ} → Encodes b t
+    → link person right account t w ≡ done l → link-rows t l ≡ three-rows i k a → Linked b t l i k
+unfolding link
+link-linked person account right {t = t} w tree e rows =
+    let x = bind-done (walk (by-modes person) t w) (λ d. link-at person right account t w d) e in
+    linked person account right (record { tree = tree; there = walked-at t (by-modes person) w (x .0) (x .1); row = refl }) (x .2) rows
 
 -- ---- `commit`
 
-module _ (person account : Account) (t : Place Node) (w : Path) where
+module _ (person account : Account) {b : List ℕ} {t : Place Node} {w : Path} {j : ℕ} {d : Place Node} (at : At b t w j d) where
   -- the tests at the rows are those at the nodes
-  pub commit-came : {b : List ℕ} {l : Link} {i k a : ℕ} {x : Result Link-rows} → Encodes b t → link person R account t w ≡ done l
-      → link-rows t l ≡ three-rows i k a
+  pub commit-came : {l : Link} {i k a : ℕ} {x : Result Link-rows} → link-at person R account t w d ≡ done l → link-rows t l ≡ three-rows i k a
       → x ≡ passing (commit-tests account (row-at b a .here) (tag-number-at b i) (row-at b k .here .revision)) (three-rows i k a)
-      → x ≡ link-rows-from t (commit-link person account t w)
-  unfolding commit-link
-  commit-came {b} {l} {i} {k} {a} tree e rows o =
-      let f = link-facts person account R t w e in
-      let x = linked tree f rows in
-      let above = linked-above tree f rows in
+      → x ≡ link-rows-from t (commit-at person account t w d)
+  unfolding commit-at
+  commit-came {l} {i} {k} {a} e rows o =
+      let x = linked person account R at e rows in
+      let above = linked-above person account R at e rows in
       let v = above .0 in
       let tests = commit-tests account (v .here) (l .tag .revision) (l .filed .here .revision) in
-      let goes : commit-link person account t w ≡ (tests >> done l) = rw (e, done-bind, above .1, done-bind) in
+      let goes : commit-at person account t w d ≡ (tests >> done l) = rw (e, done-bind, above .1, done-bind) in
       o ∙ rw (at-here (above .2), at-here (x .original), tag-reads (x .file) (l .tag) (x .tagged) .1)
       (ap (λ (y : Link-rows). tests >> done y) (sym rows) ∙ tests-then tests l (link-rows t) ∙ ap (λ (y : Result Link). y >>= λ z. done (link-rows t z)) (sym goes))
 
-  pub commit-refused : {k : Cause} → link person R account t w ≡ refused k → refused k ≡ link-rows-from t (commit-link person account t w)
-  unfolding commit-link
+  pub commit-refused : {k : Cause} → link-at person R account t w d ≡ refused k → refused k ≡ link-rows-from t (commit-at person account t w d)
+  unfolding commit-at
   commit-refused {k} e = rw (e, refused-bind) (sym (refused-bind k (λ (x : Link). done (link-rows t x))))
 
-  -- where they pass, the nodes are linked and the entry's revision is not the last
-  pub commit-parts : {l : Link} → commit-link person account t w ≡ done l
-      → (link person R account t w ≡ done l) × (eqb (l .filed .here .revision) last-revision ≡ false)
-  unfolding commit-link commit-tests
-  commit-parts {l} e =
-      let tests : Link → Place Node → Result (Unit {0}) = λ y v. commit-tests account (v .here) (y .tag .revision) (y .filed .here .revision) in
-      let x = bind-done (link person R account t w) (λ y. walk (by-modes account) t (in-rep (y .tag .path .folder)) >>= λ v. tests y v >> done y) e in
-      let m = x .0 in
-      let y = bind-done (walk (by-modes account) t (in-rep (m .tag .path .folder))) (λ v. tests m v >> done m) (x .2) in
-      let z = then-done (tests m (y .0)) (done m) (y .2) in
-      let u = m .filed .here .revision in
-      let spent = require (not (eqb u last-revision)) RevisionsSpent in
-      let first = then-done (require (allows account W (y .0 .here)) Access) (require (eqb (m .tag .revision) u) Stale >> spent) (z .0) in
-      let second = then-done (require (eqb (m .tag .revision) u) Stale) spent (first .1) in
-      let q : l ≡ m = cc (z .1) in
-      rw q (x .1, not-true (eqb u last-revision) (required (not (eqb u last-revision)) RevisionsSpent (second .1)))
+-- where they pass, the nodes are linked and the entry's revision is not the last
+pub commit-parts : (person account : Account) (t : Place Node) (w : Path) (d : Place Node) {l : Link} → commit-at person account t w d ≡ done l
+    → (link-at person R account t w d ≡ done l) × (eqb (l .filed .here .revision) last-revision ≡ false)
+unfolding commit-at commit-tests
+commit-parts person account t w d {l} e =
+    let tests : Link → Place Node → Result (Unit {0}) = λ y v. commit-tests account (v .here) (y .tag .revision) (y .filed .here .revision) in
+    let x = bind-done (link-at person R account t w d) (λ y. walk (by-modes account) t (in-rep (y .tag .path .folder)) >>= λ v. tests y v >> done y) e in
+    let m = x .0 in
+    let y = bind-done (walk (by-modes account) t (in-rep (m .tag .path .folder))) (λ v. tests m v >> done m) (x .2) in
+    let z = then-done (tests m (y .0)) (done m) (y .2) in
+    let u = m .filed .here .revision in
+    let spent = require (not (eqb u last-revision)) RevisionsSpent in
+    let first = then-done (require (allows account W (y .0 .here)) Access) (require (eqb (m .tag .revision) u) Stale >> spent) (z .0) in
+    let second = then-done (require (eqb (m .tag .revision) u) Stale) spent (first .1) in
+    let q : l ≡ m = cc (z .1) in
+    rw q (x .1, not-true (eqb u last-revision) (required (not (eqb u last-revision)) RevisionsSpent (second .1)))
 
 -- so the next is in range
 pub revision-below : {b : List ℕ} {t : Place Node} {q : Path} {k : ℕ} {d : Place Node} (a : At b t q k d) → eqb (d .here .revision) last-revision ≡ false

@@ -6,10 +6,11 @@ ghost use Rattle.tree.specs.Node.{Node};
 ghost use Rattle.tree.specs.Encoding.{encode-tree};
 ghost use Rattle.tree.specs.RowAt.{row-at, tag-number-at};
 ghost use Rattle.tree.specs.WellFormed.{last-revision};
-ghost use Rattle.tree.specs.TreeBytes.{Has-row, Whole, Path-text, Whichever};
+ghost use Rattle.tree.specs.TreeBytes.{Has-row, Whole, Path-text, Some-place, Whichever-place};
 ghost use Rattle.shell.specs.CommandBytes.{Follows-at};
-ghost use Rattle.entries.specs.EntrySteps.{commit-tests, commit-link, after-commit, after-up, commit-steps, up-steps, three-rows, link-rows-from, passing, links-told, Link, Linked, Some-link};
+ghost use Rattle.entries.specs.EntrySteps.{commit-tests, commit-at, after-commit, after-up, up-steps, three-rows, link-rows-from, passing, links-told, Link, Linked, Some-link, Filed-at};
 use crate::Links;
+use crate::tagged::linked_at;
 use crate::tagged::linked_rows;
 use accounts::Account;
 use accounts::Caller;
@@ -49,18 +50,17 @@ fn judge_commit(tree: &[u8], account: Account, working: usize, entry: usize, abo
     }
 }
 
-// What `commit` is about, or why it is refused.
-fn commit_rows(tree: &[u8], person: Account, account: Account, working: &[u8]) -> Links
-    requires { ⌜ Whole (now tree) ⌝ }
-    requires { ⌜ Path-text (now working) ⌝ }
-    ensures { λ r. ⌜ Whichever (now (tree .entry)) (now (working .entry)) (λ t w. links-told r ≡ link-rows-from t (commit-link person account t w)) ⌝ }
+// What `commit` of the file at a row is about, or why it is refused.
+fn commit_rows(tree: &[u8], person: Account, account: Account, row: usize) -> Links
+    requires { ⌜ Some-place (now tree) row ⌝ }
+    ensures { λ r. ⌜ Whichever-place (now (tree .entry)) row (λ t p d. links-told r ≡ link-rows-from t (commit-at person account t p d)) ⌝ }
 {
-    match linked_rows(tree, person, Right::R, account, working) {
+    match linked_at(tree, person, Right::R, account, row) {
         Links::To {
-            working: row,
+            working,
             entry,
             above,
-        } => judge_commit(tree, account, row, entry, above),
+        } => judge_commit(tree, account, working, entry, above),
         Links::Refused(cause) => Links::Refused(cause),
     }
 }
@@ -87,23 +87,26 @@ fn bring_up(tree: &mut [u8], working: usize, entry: usize)
     copy_content(tree, entry, working);
 }
 
-// `commit,w`: the entry of a working file takes its content.
-pub fn commit(tree: &mut [u8], caller: Caller, account: Account, working: &[u8]) -> Answer
-    requires { ⌜ Whole (now tree) ⌝ }
-    requires { ⌜ Path-text (now working) ⌝ }
-    ensures { λ r. ⌜ Follows-at (commit-steps (caller .account) account) (now (tree .entry)) (now (working .entry)) r (now (tree .exit)) ⌝ }
+// `commit` of the file at a row: its entry takes its content. Answers the rows that it linked, or why not: a directory is of the wrong kind.
+pub fn commit_at(tree: &mut [u8], person: Account, account: Account, row: usize) -> Links
+    requires { ⌜ Some-place (now tree) row ⌝ }
+    ensures { λ r. ⌜ Whichever-place (now (tree .entry)) row (λ t p d.
+        Filed-at (now (tree .entry)) t (commit-at person account t p d) r (now (tree .exit))) ⌝ }
 {
-    let person = caller.account;
-    match commit_rows(tree, person, account, working) {
+    match commit_rows(tree, person, account, row) {
         Links::To {
-            working: row,
+            working,
             entry,
-            above: _,
+            above,
         } => {
-            file_content(tree, row, entry);
-            Answer::Done
+            file_content(tree, working, entry);
+            Links::To {
+                working,
+                entry,
+                above,
+            }
         }
-        Links::Refused(cause) => Answer::Refused(cause),
+        Links::Refused(cause) => Links::Refused(cause),
     }
 }
 

@@ -3,7 +3,7 @@ mod filing;
 mod removal;
 mod tagged;
 
-pub use filing::commit;
+pub use filing::commit_at;
 pub use filing::up;
 pub use removal::del;
 use tree::Cause;

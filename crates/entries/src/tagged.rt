@@ -4,7 +4,7 @@ ghost use Rattle.tree.specs.RowAt.{row-at};
 ghost use Rattle.tree.specs.TreeBytes.{Has-row, Whole, Path-text, Whichever, Some-place, Whichever-place};
 ghost use Rattle.walks.specs.RowWalk.{spot, outcome};
 ghost use Rattle.walks.specs.WalkBytes.{spot-from};
-ghost use Rattle.entries.specs.EntrySteps.{file-tests, file-walk, link-on, link, link-rows-from, passing, links-told};
+ghost use Rattle.entries.specs.EntrySteps.{file-tests, file-walk, link-on, link-at, link, link-rows-from, passing, links-told};
 use crate::Links;
 use accounts::Account;
 use accounts::Right;
@@ -63,7 +63,18 @@ fn entry_rows(tree: &[u8], account: Account, working: usize) -> Links
     }
 }
 
-// The person's walk to a working file, and the account's to its entry.
+// The person's tests at a working file, then the account's walk to its entry. What stands above the file is not asked for.
+pub fn linked_at(tree: &[u8], person: Account, right: Right, account: Account, row: usize) -> Links
+    requires { ⌜ Some-place (now tree) row ⌝ }
+    ensures { λ r. ⌜ Whichever-place (now (tree .entry)) row (λ t p d. links-told r ≡ link-rows-from t (link-at person right account t p d)) ⌝ }
+{
+    match judge_file(tree, person, right, row, row) {
+        Walked::To { row: _, above: _ } => entry_rows(tree, account, row),
+        Walked::Refused(cause) => Links::Refused(cause),
+    }
+}
+
+// The person's walk to a working file, then that.
 pub fn linked_rows(
     tree: &[u8],
     person: Account,
@@ -75,8 +86,8 @@ pub fn linked_rows(
     requires { ⌜ Path-text (now working) ⌝ }
     ensures { λ r. ⌜ Whichever (now (tree .entry)) (now (working .entry)) (λ t w. links-told r ≡ link-rows-from t (link person right account t w)) ⌝ }
 {
-    match walk_file(tree, person, right, working) {
-        Walked::To { row, above: _ } => entry_rows(tree, account, row),
+    match walk(tree, person, working) {
+        Walked::To { row, above: _ } => linked_at(tree, person, right, account, row),
         Walked::Refused(cause) => Links::Refused(cause),
     }
 }

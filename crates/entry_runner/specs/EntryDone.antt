@@ -1,5 +1,7 @@
--- What the code of the commands on entries promises, for the command that a line's parts mean.
+-- What the code of the commands on entries promises on a store's bytes, in the caller's session.
+use mathlib.Core.Path.{_≡_}
 use mathlib.Core.List.{List}
+use mathlib.Core.Option.{some}
 use mathlib.Core.Bool.{Bool}
 use Prim.Native.Nat.{ℕ}
 use Rattle.buffers.specs.Text.{Text}
@@ -8,30 +10,47 @@ use Rattle.accounts.specs.declared.Caller.{Caller}
 use Rattle.accounts.specs.declared.Dominance.{Dominance}
 use Rattle.accounts.specs.declared.Role.{Role}
 use Rattle.accounts.specs.declared.Session.{Session}
-use Rattle.accounts.specs.Closure.{session-dominates}
+use Rattle.accounts.specs.Closure.{rows-of}
+use Rattle.accounts.specs.Dominance.{Bounded-role, dominates}
+use Rattle.syntax.specs.Path.{Path, Entry-path, path, entry-path}
 use Rattle.commands.specs.declared.EntryCommand.{EntryCommand as Entry-parts}
-use Rattle.commands.specs.Command.{Entry-command, add, co, commit, up, del}
+use Rattle.commands.specs.Command.{Entry-command}
 use Rattle.commands.specs.Meaning.{Entry-means}
-use Rattle.tree.specs.Result.{Result, Outcome}
-use Rattle.tree.specs.Forest.{Place}
-use Rattle.tree.specs.Node.{Node}
-use Rattle.tree.specs.TreeBytes.{Encodes}
 use Rattle.shell.specs.declared.Answer.{Answer}
-use Rattle.shell.specs.CommandBytes.{Follows}
-use Rattle.entries.specs.EntrySteps.{commit-steps, up-steps, del-steps}
-use Rattle.adding.specs.AddSteps.{add-steps}
-use Rattle.checkout.specs.Checkout.{copier, co-steps}
+use Rattle.shell.specs.CommandBytes.{Carries, Carries-silently}
+use Rattle.store.specs.State.{state-of}
+use Rattle.header.specs.HeaderBytes.{session-held}
+use Rattle.machine.specs.Machine.{run-add, run-co, run-up, run-del, run-entry}
+use Rattle.machine.specs.StoreMachine.{store}
+use Rattle.machine.specs.Acting.{Acting}
+use Rattle.stored_header.specs.Stored.{Stored, bytes-with, In-session-silently}
 
--- the steps of a command in a session, for its account and by whether it dominates a role
-unfoldable pub entry-steps : Caller → Account → (Role → Bool) → Place Node → Entry-command → Result (Outcome (Place Node))
-entry-steps c account dominates t (add w e z) = add-steps (c .account) account (dominates (z .role)) z t w e
-entry-steps c account dominates t (co e d) = co-steps (copier account c) t e d
-entry-steps c account dominates t (commit w) = commit-steps (c .account) account t w
-entry-steps c account dominates t (up w) = up-steps (c .account) account t w
-entry-steps c account dominates t (del e) = del-steps account t e
+-- ---- a command that works on the tree alone, whatever its texts read as
 
--- the answer and the bytes are those of the steps, whatever the account, the session and the rows of dominance are
+-- `add`, where it is told whether the session's role dominates the entry's
+abbrev pub Add-done : Caller → Account → Bool → Text → Text → Role → List ℕ → Answer → List ℕ → Type 0
+Add-done c account dominated working entry role b r b′ =
+    (w : Path) (e : Entry-path) (z : Bounded-role) → path working ≡ some w → entry-path entry ≡ some e → z .role ≡ role
+    → (j : Acting c account) → Stored b (state-of (j .setup) (j .state)) → dominated ≡ dominates (j .setup .pairs) (j .role .role) (z .role)
+    → Carries-silently (bytes-with (j .setup)) (run-add store (j .setup) (j .state) c w e z) b r b′
+
+abbrev pub Co-done : Caller → Account → Text → Text → List ℕ → Answer → List ℕ → Type 0
+Co-done c account entry to b r b′ = (e : Entry-path) (d : Path) → entry-path entry ≡ some e → path to ≡ some d
+    → In-session-silently c account (λ u s. run-co store u s c e d) b r b′
+
+abbrev pub Up-done : Caller → Account → Text → List ℕ → Answer → List ℕ → Type 0
+Up-done c account working b r b′ = (w : Path) → path working ≡ some w → In-session-silently c account (λ u s. run-up store u s c w) b r b′
+
+-- `del`, whoever's session it is
+abbrev pub Del-done : Account → Text → List ℕ → Answer → List ℕ → Type 0
+Del-done account entry b r b′ = (c : Caller) (e : Entry-path) → entry-path entry ≡ some e
+    → In-session-silently c account (λ u s. run-del store u s c e) b r b′
+
+-- ---- any of them
+
+-- the command that a line's parts mean, where the session and the rows of dominance are those of the session in which it acts
 abbrev pub Entry-done : Caller → Text → Entry-parts → Account → Session → Dominance → List ℕ → List ℕ → Answer → List ℕ → List ℕ → Type 0
 Entry-done c line command account session dominance b a r b′ a′ =
-    (t : Place Node) (k : Entry-command) → Encodes b t → Entry-means line command k
-    → Follows (entry-steps c account (session-dominates session (dominance .rows)) t k) b a r b′ a′
+    (j : Acting c account) (k : Entry-command) → Stored b (state-of (j .setup) (j .state)) → Entry-means line command k
+    → session ≡ session-held (some (j .role)) → dominance .rows ≡ rows-of (j .setup .pairs)
+    → Carries (bytes-with (j .setup)) (run-entry store (j .setup) (j .state) c k) b a r b′ a′

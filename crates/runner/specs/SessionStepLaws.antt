@@ -1,5 +1,5 @@
--- Commands in a session: without one they are refused, and with one they act for the service account of its role and keep the registry.
-use mathlib.Core.Path.{_≡_, refl}
+-- Commands in a session: without one they are refused, and with one they act for the service account of its role.
+use mathlib.Core.Path.{_≡_, refl, sym, _∙_, ap}
 use mathlib.Core.List.{List}
 use mathlib.Core.Option.{Option, none, some}
 use mathlib.Core.Bool.{true}
@@ -11,25 +11,22 @@ use Rattle.accounts.specs.declared.Caller.{Caller}
 use Rattle.accounts.specs.declared.Role.{Role}
 use Rattle.accounts.specs.declared.Session.the-variants.{Nobody, As}
 use Rattle.accounts.specs.Dominance.{Bounded-role}
-use Rattle.accounts.specs.Service.{service}
+use Rattle.accounts.specs.Closure.{rows-of, row-account}
 use Rattle.commands.specs.Command.{Entry-command, add, co, commit, up, del}
 use Rattle.tree.specs.declared.Cause.the-variants.{NoSession}
 use Rattle.tree.specs.Result.{refused, done}
 use Rattle.tree.specs.ResultLaws.{present-of, present-none, refused-bind}
-use Rattle.shell.specs.declared.Answer.{Answer}
 use Rattle.shell.specs.declared.Answer.the-variants.{Refused}
 use Rattle.store.specs.State.{State}
-use Rattle.tree.specs.TreeBytes.{Encodes}
 use Rattle.header.specs.HeaderBytes.{session-held}
+use Rattle.header.specs.SessionBytesLaws.{role-is}
+use Rattle.header.specs.PairRowsLaws.{rows-tell-account}
 use Rattle.machine.specs.Machine.{session, run-add, run-co, run-commit, run-up, run-del, run-entry}
 use Rattle.machine.specs.StoreMachine.{store}
-use Rattle.shell.specs.CommandBytes.{Carries, Carries-silently, Follows}
+use Rattle.shell.specs.CommandBytes.{Carries-silently}
 use Rattle.shell.specs.CommandBytesLaws.{refusal-follows}
-use Rattle.machine.specs.Acting.{Acting, on-tree-steps}
-use Rattle.machine.specs.ActingLaws.{entry-keeps-registry}
+use Rattle.machine.specs.Acting.{Acting}
 use Rattle.stored_header.specs.Stored.{Stored, bytes-with}
-use Rattle.stored_header.specs.StoredLaws.{lent-tree}
-use Rattle.runner.specs.RunnerLaws.{tree-back, lent-carries}
 
 -- no session is held where none is, and a role's where it is
 held-none : (o : Option Bounded-role) → Nobody ≡ session-held o → o ≡ none
@@ -68,18 +65,20 @@ module _ {b : List ℕ} {s : State} (h : Stored b s) (c : Caller) where
       → Carries-silently (bytes-with (s .setup)) (run-entry store (s .setup) (s .store) c k) b (Refused NoSession) b
   nobody-carries k e = refusal-follows b (refused-without (held-none held e) k)
 
-  -- in one it acts for the account of its role
-  abbrev pub acting : {z : Bounded-role} {account : Account} → held ≡ some z → account ≡ service (s .setup .pairs) z → Acting c account
-  acting {z} e q = record {
-    setup = s .setup;
-    state = s .store;
-    role = z;
-    session = some-session z e;
-    served = q;
-  }
+  -- in one of a role it acts for the account that the rows tell of the role
+  module _ {role : Role} {rows : List ℕ} {account : Account} (kept : As role ≡ session-held held) (same : rows ≡ rows-of (s .setup .pairs))
+      (told : account ≡ row-account rows role) where
+    abbrev of-role : (z : Bounded-role) × (held ≡ some z) × (z .role ≡ role)
+    of-role = held-some role held kept
 
-  -- and what follows its steps on the tree is carried out on the store, since it keeps the registry
-  pub role-carries : (k : Entry-command) (a a′ : List ℕ) (r : Answer) (T : List ℕ)
-      → (Encodes (lent-tree b) (s .store .tree) → Follows (on-tree-steps (run-entry store (s .setup) (s .store) c k)) (lent-tree b) a r T a′)
-      → Carries (bytes-with (s .setup)) (run-entry store (s .setup) (s .store) c k) b a r (tree-back b T) a′
-  role-carries k a a′ r T f = lent-carries h (run-entry store (s .setup) (s .store) c k) (λ o. entry-keeps-registry (s .setup) (s .store) c k) a a′ r T f
+    abbrev pub acting : Acting c account
+    acting = record {
+      setup = s .setup;
+      state = s .store;
+      role = of-role .0;
+      session = some-session (of-role .0) (of-role .1);
+      served = told ∙ ap (row-account rows) (sym (of-role .2)) ∙ rows-tell-account (s .setup .pairs) rows same (of-role .0);
+    }
+
+    pub acting-as : As role ≡ session-held (some (acting .role))
+    acting-as = role-is role (of-role .0) (of-role .2)

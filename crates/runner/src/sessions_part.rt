@@ -10,7 +10,6 @@ use accounts::Session;
 use commands::EntryCommand;
 use entry_runner::entry_command;
 use shell::Answer;
-use store::HEADER;
 use stored_header::dominance_in;
 use stored_header::session_in;
 use tree::Cause;
@@ -36,7 +35,7 @@ fn as_role(
     let account = dominance.account(role);
     let session = Session::As(role);
     entry_command(
-        &mut store[HEADER..],
+        store,
         caller,
         account,
         session,

@@ -19,13 +19,14 @@ use Rattle.commands.specs.declared.AccountCommand.{AccountCommand as Account-pa
 use Rattle.commands.specs.Command.{Account-command}
 use Rattle.commands.specs.Meaning.{Account-means}
 use Rattle.setup.specs.Setup.{Setup}
+use Rattle.tree.specs.Result.{Result, Outcome}
 use Rattle.tree.specs.TreeBytes.{Encodes}
 use Rattle.walks.specs.declared.Walked.{Walked}
 use Rattle.walks.specs.RowWalk.{outcome}
 use Rattle.attributes.specs.declared.Deed.the-variants.{Enter}
 use Rattle.attributes.specs.Checks.{may-do-at}
 use Rattle.shell.specs.declared.Answer.{Answer}
-use Rattle.shell.specs.CommandBytes.{Carries-silently}
+use Rattle.shell.specs.CommandBytes.{Carries, Carries-silently}
 use Rattle.store.specs.HeaderLayout.{header-width}
 use Rattle.store.specs.State.{working-directory, set-directory, Store, State, state-of}
 use Rattle.store.specs.StoreBytes.{store-width, encode}
@@ -34,6 +35,7 @@ use Rattle.header.specs.declared.Known.{Known}
 use Rattle.header.specs.HeaderBytes.{Heads, known, session-held}
 use Rattle.machine.specs.Machine.{run-login, run-logout, run-cd, run-account}
 use Rattle.machine.specs.StoreMachine.{store}
+use Rattle.machine.specs.Acting.{Acting}
 
 -- ---- what is asked
 
@@ -47,11 +49,25 @@ pub record Stored (b : List ℕ) (s : State) : Type 0 where
 abbrev pub Some-store : List ℕ → Type 0
 Some-store b = (s : State) × Stored b s
 
+-- the bytes of a store in which the account is that of the caller's session
+abbrev pub Acts-in : List ℕ → Caller → Account → Type 0
+Acts-in b c account = (j : Acting c account) × Stored b (state-of (j .setup) (j .state))
+
 -- ---- what is promised
 
 -- a store's bytes with its setup
 abbrev pub bytes-with : Setup → Store → List ℕ
 bytes-with u s = encode (state-of u s)
+
+-- the answer and the bytes are those of a command's steps in the caller's session, whichever store's bytes these are
+abbrev pub In-session : Caller → Account → (Setup → Store → Result (Outcome Store)) → List ℕ → List ℕ → Answer → List ℕ → List ℕ → Type 0
+In-session c account steps b a r b′ a′ = (j : Acting c account) → Stored b (state-of (j .setup) (j .state))
+    → Carries (bytes-with (j .setup)) (steps (j .setup) (j .state)) b a r b′ a′
+
+-- and so of a command without a text, whatever the answer buffer holds
+abbrev pub In-session-silently : Caller → Account → (Setup → Store → Result (Outcome Store)) → List ℕ → Answer → List ℕ → Type 0
+In-session-silently c account steps b r b′ = (j : Acting c account) → Stored b (state-of (j .setup) (j .state))
+    → Carries-silently (bytes-with (j .setup)) (steps (j .setup) (j .state)) b r b′
 
 -- the answer is whom the setup knows, whichever store's bytes these are
 abbrev pub Caller-told : List ℕ → Uid → Known → Type 0

@@ -3,6 +3,7 @@
 use mathlib.Core.Path.{_≡_, sym, _∙_, ap, ap₂}
 use mathlib.Core.List.{List, _++_}
 use mathlib.Core.Option.{none, some}
+use mathlib.Core.Bool.{true}
 use Prim.Native.Nat.{ℕ, _-_, _≤_}
 use native.Mathlib.Omega.{arith}
 use lib.ListN.{length, take, drop, take-append-drop, length-drop}
@@ -34,11 +35,11 @@ use Rattle.shell.specs.CommandBytesLaws.{refusal-follows, silence-follows}
 use Rattle.shell.specs.Replies.{reply, answer-of, written}
 use Rattle.shell.specs.CommandBytes.{bytes-after, Carries-silently}
 use Rattle.store.specs.HeaderLayout.{header-width}
-use Rattle.store.specs.State.{Registry, set-directory, Store, State}
-use Rattle.store.specs.StateLaws.{parts}
+use Rattle.store.specs.State.{Registry, set-directory, Store, State, well-formed}
+use Rattle.store.specs.StateLaws.{parts, formed}
 use Rattle.store.specs.StoreBytes.{store-width, header-bytes, encode, decode}
 use Rattle.store.specs.HeaderLaws.{length-header}
-use Rattle.store.specs.StoreBytesLaws.{encode-decode, decode-length}
+use Rattle.store.specs.StoreBytesLaws.{decode-encode, encode-decode, decode-length}
 use Rattle.store.specs.DecodeLaws.{tree-read}
 use Rattle.store.specs.Logins.{logged-in, logged-out}
 use Rattle.header.specs.HeaderBytes.{Headed, Tells-path, Header-follows}
@@ -65,6 +66,19 @@ read-stored b s e =
       };
       tree = tree-read b s e;
     }
+
+-- a store's bytes are its encoding, and it is well-formed
+module _ {b : List ℕ} {s : State} (h : Stored b s) where
+  pub stored-bytes : b ≡ encode s
+  unfolding encode
+  stored-bytes = sym (take-append-drop header-width b) ∙ ap₂ _++_ (h .header .bytes) (h .tree .bytes)
+
+  pub stored-formed : well-formed s ≡ true
+  stored-formed = formed (s .setup) (h .header .in-range) (s .store) (h .header .registered) (h .tree .whole)
+
+-- the encoding of a well-formed state is that store's bytes
+pub formed-stored : {b : List ℕ} (s : State) → well-formed s ≡ true → b ≡ encode s → Stored b s
+formed-stored s w e = rw e (read-stored (encode s) s (decode-encode s w))
 
 -- the bytes behind the header as they are lent
 abbrev pub lent-tree : List ℕ → List ℕ

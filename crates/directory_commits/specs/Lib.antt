@@ -1,0 +1,5 @@
+pub mod Steps
+pub mod StepsLaws
+pub mod Commits
+pub mod BelowLaws
+pub mod CommandLaws
