@@ -56,7 +56,8 @@ fn random_input(rng: &mut Rng) -> Vec<u8> {
         return odd_setup(rng);
     }
     let theme = Theme::any(rng);
-    let mut input = if rng.percent(40) { generous_setup(rng) } else { good_setup(rng) };
+    let generous = matches!(theme, Theme::DirectoryCommits) || rng.percent(40);
+    let mut input = if generous { generous_setup(rng) } else { good_setup(rng) };
     let Ok(mut state) = read_setup(&input) else { return input };
     if rng.percent(20) {
         fill(rng, &mut state, &mut input);

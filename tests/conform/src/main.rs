@@ -25,8 +25,8 @@ const USAGE: &str = "\
 usage: tests/conformance PROGRAM [ARGUMENT...] [--seed S] [--inputs N] [--seconds T]
 
 PROGRAM reads a setup and command lines from standard input and prints answers and the listing on standard output, as document 01
-says. It is run once for each file of tests/vectors and for each of N random inputs, which the seed determines. The first output
-that is not the one due is shown, with its input made shorter.
+says with the first five requests of document 02. It is run once for each file of tests/vectors and for each of N random inputs,
+which the seed determines. The first output that is not the one due is shown, with its input made shorter.
 
     --seed S       the seed of the random inputs (1 if not given)
     --inputs N     how many random inputs (1000)

@@ -1,6 +1,7 @@
 //! The cases that documents 01 and 02 name, both sides of each edge. What is expected is written by hand, and the model and
 //! the library are each held against it. Those of contents stand in `edges_content`, those of working directories in
-//! `edges_cd`, those of moves onto what is there in `edges_onto`.
+//! `edges_cd`, those of moves onto what is there in `edges_onto`, those of directories' commits in `edges_commits` and
+//! `edges_turns`.
 
 use crate::layout::STORE;
 use crate::model::setup::read_setup;
@@ -8,7 +9,7 @@ use crate::model::state::State;
 use crate::tally::Tally;
 use crate::trial::Trial;
 use crate::twin::Bench;
-use crate::{edges_cd, edges_content, edges_onto};
+use crate::{edges_cd, edges_commits, edges_content, edges_onto, edges_turns};
 
 pub const EXAMPLE_SETUP: &str = "p,1,1\np,2,2\nr,0,1\nl,1,0,oak\nl,2,1,elm\nend\n";
 
@@ -74,7 +75,9 @@ pub fn edges(seed: u64) -> Tally {
         ("setup r,0,7 / r,3,3", role_pairs),
         ("setup lines", setup_lines),
     ];
-    for (name, test) in tests.into_iter().chain(edges_content::TESTS).chain(edges_cd::TESTS).chain(edges_onto::TESTS) {
+    let others = edges_content::TESTS.into_iter().chain(edges_cd::TESTS).chain(edges_onto::TESTS);
+    let commits = edges_commits::TESTS.into_iter().chain(edges_turns::TESTS);
+    for (name, test) in tests.into_iter().chain(others).chain(commits) {
         let mut trial = Trial::new(&mut bench, name, EXAMPLE_SETUP);
         test(&mut trial);
         println!("{name}: {}", if trial.failed() { "failed" } else { "passed" });

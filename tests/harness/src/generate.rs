@@ -15,12 +15,20 @@ pub enum Theme {
     Filling,
     Deep,
     Repository,
+    DirectoryCommits,
     Root,
 }
 
 impl Theme {
     pub fn any(rng: &mut Rng) -> Theme {
-        *rng.pick(&[Theme::Mixed, Theme::Mixed, Theme::Filling, Theme::Deep, Theme::Repository, Theme::Repository, Theme::Root])
+        match rng.below(9) {
+            0 | 1 => Theme::Mixed,
+            2 => Theme::Filling,
+            3 => Theme::Deep,
+            4 | 5 => Theme::Repository,
+            6 | 7 => Theme::DirectoryCommits,
+            _ => Theme::Root,
+        }
     }
 
     /// The words that come up more often than the others.
@@ -31,6 +39,9 @@ impl Theme {
             Theme::Deep => &["mkdir", "mkdir", "mv", "mv", "co", "create", "cd"],
             Theme::Repository => {
                 &["add", "co", "commit", "commit", "up", "del", "write", "write", "login", "mkdir", "create", "cd", "mv", "mv"]
+            }
+            Theme::DirectoryCommits => {
+                &["commit", "commit", "commit", "co", "co", "add", "add", "create", "mkdir", "write", "up", "del", "chmod", "mv"]
             }
             Theme::Root => &["mv", "mv", "chmod", "chmod", "chown", "chgrp", "add", "co", "commit", "up", "rm", "rmdir", "cd"],
         }
@@ -106,9 +117,10 @@ impl<'a> Lines<'a> {
             "cd" => vec![self.directory()],
             "login" => self.grant(),
             "logout" => Vec::new(),
-            "add" => vec![self.path(), self.new_entry(), self.number(8)],
+            "add" => self.added(),
             "co" => vec![self.entry(), self.new_path()],
-            "commit" | "up" => vec![self.working()],
+            "commit" => vec![self.committed()],
+            "up" => vec![self.working()],
             "del" => vec![self.entry()],
             _ => vec![self.path()],
         }
@@ -124,6 +136,20 @@ impl<'a> Lines<'a> {
             17 => vec![self.directory(), self.file()],
             18 => vec![self.path(), self.path()],
             _ => self.onto_itself(),
+        }
+    }
+
+    /// What is added, where and under which role; where directories are to be committed, mostly an own file under the session's
+    /// role.
+    fn added(&mut self) -> Vec<Vec<u8>> {
+        let (state, caller) = (self.state, self.caller);
+        let session = state.sessions.get(usize::from(caller)).copied().flatten();
+        match (self.theme, session) {
+            (Theme::DirectoryCommits, Some(role)) if self.rng.percent(80) => {
+                let own = self.present_path(|path| state.node(path).owner == caller && !state.node(path).is_directory());
+                vec![self.given(own), self.new_entry(), role.to_string().into_bytes()]
+            }
+            _ => vec![self.path(), self.new_entry(), self.number(8)],
         }
     }
 
@@ -256,6 +282,20 @@ impl<'a> Lines<'a> {
         self.given(path)
     }
 
+    /// Mostly a working file; often a directory, and then mostly one with a tagged file somewhere below it.
+    fn committed(&mut self) -> Vec<u8> {
+        if self.rng.percent(55) {
+            return self.working();
+        }
+        let tagged = self.state.nodes.iter().filter(|(_, node)| node.tag.is_some() && !node.is_directory());
+        let files: Vec<&Path> = tagged.map(|(path, _)| path).collect();
+        if files.is_empty() || self.rng.percent(20) {
+            return self.directory();
+        }
+        let path = self.present_path(|path| files.iter().any(|file| file.len() > path.len() && file.starts_with(path)));
+        self.given(path)
+    }
+
     /// Any path of the tree for which something holds, often the caller's own or one below the caller's working directory;
     /// `/rep` where there is none.
     fn present_path(&mut self, holds: impl Fn(&Path) -> bool) -> Path {
@@ -325,7 +365,11 @@ impl<'a> Lines<'a> {
     /// A role and password, mostly of a grant that the caller has.
     fn grant(&mut self) -> Vec<Vec<u8>> {
         let caller = self.caller;
-        let own: Vec<_> = self.state.grants.iter().filter(|grant| grant.uid == caller).collect();
+        let mut own: Vec<_> = self.state.grants.iter().filter(|grant| grant.uid == caller).collect();
+        // Role 0 alone may write in `/rep`, so that with it more gets done.
+        if matches!(self.theme, Theme::DirectoryCommits) && own.iter().any(|grant| grant.role == 0) && self.rng.percent(60) {
+            own.retain(|grant| grant.role == 0);
+        }
         if own.is_empty() || self.rng.percent(20) {
             return vec![self.number(8), self.rng.pick(&PASSWORDS).as_bytes().to_vec()];
         }

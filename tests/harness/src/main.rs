@@ -3,10 +3,13 @@
 mod damage;
 mod damage_cd;
 mod damage_content;
+mod directory_commits;
 mod edges;
 mod edges_cd;
+mod edges_commits;
 mod edges_content;
 mod edges_onto;
+mod edges_turns;
 mod generate;
 mod layout;
 #[path = "../../library.rs"]
@@ -19,6 +22,7 @@ mod rng;
 #[path = "../../search.rs"]
 mod search;
 mod setups;
+mod singles;
 mod states;
 mod steps;
 mod steps_hand;
@@ -26,6 +30,7 @@ mod steps_kinds;
 mod steps_model;
 mod steps_trees;
 mod stories;
+mod stories_commits;
 mod table;
 mod tally;
 mod trial;

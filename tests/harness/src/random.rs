@@ -34,7 +34,7 @@ pub fn random(seed: u64, lines: u64) -> Tally {
 /// One store and a list of lines of one theme.
 fn list(bench: &mut Bench, length: u64) {
     let theme = Theme::any(&mut bench.rng);
-    let generous = matches!(theme, Theme::Repository) || bench.rng.percent(20);
+    let generous = matches!(theme, Theme::Repository | Theme::DirectoryCommits) || bench.rng.percent(20);
     let text = if generous { generous_setup(&mut bench.rng) } else { good_setup(&mut bench.rng) };
     let Some(mut twin) = Twin::set_up(bench, &text) else { return };
     if bench.rng.percent(if generous { 30 } else { 60 }) {

@@ -1,4 +1,5 @@
-//! Short stories with random details that surely bring up every pair of call and number.
+//! Short stories with random details that surely bring up every pair of call and number. Those of directories' commits stand
+//! in `stories_commits`.
 
 use crate::layout::STORE;
 use crate::library::{self, Answer, NO_VALUE};
@@ -6,10 +7,11 @@ use crate::model::line::path;
 use crate::model::run::LEAST_ANSWER;
 use crate::model::state::{LAST_REVISION, MOST_NODES};
 use crate::rng::Rng;
+use crate::stories_commits;
 use crate::twin::{differ, unlike, Bench, Twin};
 
 /// Who plays: persons `a` (role 0) and `b` (role `j`), a stranger who is no person, and names that differ.
-struct Cast {
+pub struct Cast {
     a: usize,
     b: usize,
     stranger: usize,
@@ -21,7 +23,7 @@ struct Cast {
 }
 
 impl Cast {
-    fn new(rng: &mut Rng) -> Cast {
+    pub fn new(rng: &mut Rng) -> Cast {
         let mut uids: Vec<usize> = (1..=15).collect();
         rng.shuffle(&mut uids);
         let mut gids: Vec<usize> = (1..=15).collect();
@@ -46,7 +48,7 @@ impl Cast {
 
     /// Puts the players into a template: `A` and `B` uids, `X` the stranger, `J` the role, `G` and `H` their groups,
     /// `W` the password, `#0` to `#9` names, `D` a short path of six names, too deep for a person at home.
-    fn line(&self, template: &str) -> Vec<u8> {
+    pub fn line(&self, template: &str) -> Vec<u8> {
         let mut line = template.replace('D', "#0/#1/#2/#3/#4/#5");
         for n in 0..10 {
             line = line.replace(&format!("#{n}"), &self.names[n]);
@@ -170,6 +172,7 @@ pub fn tell(bench: &mut Bench) {
         let cast = Cast::new(&mut bench.rng);
         play(bench, &cast, story);
     }
+    stories_commits::tell(bench);
     let wrong = Cast::new(&mut bench.rng).setup().replace("\nr,0,", "\nr,8,");
     Twin::set_up(bench, wrong.as_bytes());
     forms(bench);
@@ -179,7 +182,7 @@ pub fn tell(bench: &mut Bench) {
 }
 
 /// Plays the lines of a story from a fresh store.
-fn play(bench: &mut Bench, cast: &Cast, story: &[&str]) -> Twin {
+pub fn play(bench: &mut Bench, cast: &Cast, story: &[&str]) -> Twin {
     let mut twin = Twin::set_up(bench, cast.setup().as_bytes()).expect("a story's setup is good");
     for template in story {
         twin.run_with(bench, &cast.line(template), LEAST_ANSWER);
@@ -209,7 +212,11 @@ fn spent(bench: &mut Bench) {
         state.node_mut(&entry).revision = LAST_REVISION - 1;
         state.node_mut(&working).tag.as_mut().expect("a tag").revision = LAST_REVISION - 1;
     });
-    for template in ["A,commit,/uA/#0", "A,commit,/uA/#0", "A,up,/uA/#0", "A,co,/rep/#0,/uA/#1", "A,commit,/uA/#1"] {
+    let commits = [
+        "A,commit,/uA/#0", "A,commit,/uA/#0", "A,commit,/uA", "A,up,/uA/#0", "A,co,/rep/#0,/uA/#1", "A,commit,/uA/#1",
+        "A,commit,/uA",
+    ];
+    for template in commits {
         twin.run_with(bench, &cast.line(template), LEAST_ANSWER);
     }
 }

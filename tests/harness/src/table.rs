@@ -1,6 +1,7 @@
 //! The pairs of call and number that documents 01 and 02 allow, written by hand from their words, with counts of what came
 //! up.
 
+use crate::directory_commits;
 use crate::model::line::WORDS;
 use crate::model::state::State;
 use crate::onto;
@@ -48,13 +49,17 @@ impl Table {
         *self.counts.entry((call, number)).or_default() += 1;
     }
 
-    /// Notes what a line gave, under its command, and under the kinds of moves that it is in the state before it.
+    /// Notes what a line gave, under its command, and under the kinds of moves and of directories' commits that it is in the
+    /// state before it.
     pub fn note_line(&mut self, before: &State, line: &[u8], number: u32) {
         if matches!(number, 18 | 20) {
             return self.note("run", number);
         }
         self.note(word(line), number);
         for kind in onto::kinds(before, line) {
+            self.note(kind, number);
+        }
+        for (kind, number) in directory_commits::notes(before, line, number) {
             self.note(kind, number);
         }
     }
@@ -80,9 +85,9 @@ impl Table {
     }
 }
 
-/// The rows of calls, then those of moves onto what is there.
+/// The rows of calls, then those of moves onto what is there and of directories' commits.
 fn allowed() -> impl Iterator<Item = (&'static str, &'static [u32])> {
-    ALLOWED.into_iter().chain(onto::ALLOWED)
+    ALLOWED.into_iter().chain(onto::ALLOWED).chain(directory_commits::ALLOWED)
 }
 
 /// The command's word that a line's second field says.

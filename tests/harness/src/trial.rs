@@ -6,6 +6,7 @@ use crate::model::line::path;
 use crate::model::run::LEAST_ANSWER;
 use crate::model::setup::read_setup;
 use crate::model::state::{text, State};
+use crate::singles::Singles;
 use crate::tally::show;
 use crate::twin::{unlike, Bench, Twin};
 
@@ -53,8 +54,10 @@ impl<'a> Trial<'a> {
         self.check((given != wanted).then(|| format!("{what}: {who} gives {given} and not {wanted}")));
     }
 
-    /// Runs a line; `wanted` is what the program prints for it: `ok`, `ok,text` or `no,number`.
+    /// Runs a line; `wanted` is what the program prints for it: `ok`, `ok,text` or `no,number`. A directory's commit is also held
+    /// to its single commits.
     pub fn say(&mut self, line: &str, wanted: &str) {
+        let singles = Singles::of(&self.twin, line.as_bytes());
         let given = match self.twin.model.run(line.as_bytes(), LEAST_ANSWER) {
             Ok(None) => "ok".to_string(),
             Ok(Some(text)) => format!("ok,{}", text.escape_ascii()),
@@ -67,6 +70,9 @@ impl<'a> Trial<'a> {
         self.expect("the library", &what, printed(answer, &buffer), wanted);
         let problem = self.twin.state_problem();
         self.check(problem.map(|problem| format!("{what}: {problem}")));
+        if let (Some(singles), Some(text)) = (singles, wanted.strip_prefix("ok")) {
+            singles.check(self.bench, line.as_bytes(), &self.twin, text.strip_prefix(',').map(str::as_bytes));
+        }
     }
 
     /// Where an account stands, by the model and by the library's store.
@@ -83,6 +89,22 @@ impl<'a> Trial<'a> {
     pub fn place(&mut self, account: usize, directory: &str) {
         let directory = path(directory.as_bytes()).expect("a path");
         self.twin.patch(self.bench, |state| state.working_directories[account] = directory);
+    }
+
+    /// Brings an entry and the tag of a working file to a revision in both states.
+    pub fn revise(&mut self, entry: &str, working: &str, revision: u16) {
+        let [entry, working] = [entry, working].map(|text| path(text.as_bytes()).expect("a path"));
+        self.twin.patch(self.bench, |state| {
+            state.node_mut(&entry).revision = revision;
+            state.node_mut(&working).tag.as_mut().expect("a tag").revision = revision;
+        });
+    }
+
+    /// The listing's line of a path, wherever it stands.
+    pub fn shows(&mut self, wanted: &str) {
+        let path = wanted.split_inclusive(',').next().unwrap_or("").as_bytes();
+        let n = self.twin.model.listing().iter().position(|line| line.starts_with(path));
+        self.listing_line(n.unwrap_or(usize::MAX), wanted);
     }
 
     /// The whole listing.

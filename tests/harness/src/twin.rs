@@ -6,6 +6,7 @@ use crate::model::run::LEAST_ANSWER;
 use crate::model::setup::read_setup;
 use crate::model::state::{text, State};
 use crate::rng::Rng;
+use crate::singles::Singles;
 use crate::table::Table;
 use crate::tally::{show, Tally};
 
@@ -38,6 +39,7 @@ impl Bench {
     }
 }
 
+#[derive(Clone)]
 pub struct Twin {
     pub store: Vec<u8>,
     pub model: State,
@@ -72,11 +74,13 @@ impl Twin {
         self.run_with(bench, line, length)
     }
 
-    /// Runs one line on both and compares number, value, text and every byte of both buffers.
+    /// Runs one line on both and compares number, value, text and every byte of both buffers; a directory's commit with its
+    /// single commits, too.
     pub fn run_with(&mut self, bench: &mut Bench, line: &[u8], answer_len: usize) -> u32 {
         let mut buffer = bench.answer_buffer(answer_len);
         let mut wanted_buffer = buffer.clone();
         let before = self.store.clone();
+        let singles = Singles::of(self, line);
         let answer = library::run(&mut self.store, line, &mut buffer);
         bench.table.note_line(&self.model, line, answer.number);
         let wanted = self.model.run(line, answer_len);
@@ -90,13 +94,15 @@ impl Twin {
         };
         let problem = differ(answer, wanted_answer).or_else(|| unlike(&buffer, &wanted_buffer, "answer buffer"));
         let problem = problem.or_else(|| match wanted {
-            Ok(None) => self.state_problem(),
-            _ => unlike(&self.store, &before, "store"),
+            Ok(_) => self.state_problem(),
+            Err(_) => unlike(&self.store, &before, "store"),
         });
         let failed = problem.is_some();
         bench.tally.check(problem.map(|what| format!("line {} (answer buffer {answer_len}): {what}", show(line))));
         if failed {
             self.recover(&before);
+        } else if let (Some(singles), Ok(text)) = (singles, wanted) {
+            singles.check(bench, line, self, text.as_deref());
         }
         answer.number
     }

@@ -1,4 +1,4 @@
-//! The repository commands: the person's part, then the account's, in the order of document 01.
+//! The repository commands: the person's part, then the account's, in the order of documents 01 and 02.
 
 use super::access::{refuse_if, Step, R, W};
 use super::state::{parent, Kind, Node, Path, State, Tag, LAST_REVISION, MOST_NAMES};
@@ -81,7 +81,7 @@ impl State {
         copy
     }
 
-    /// What `commit` and `up` ask of the person: the tag of the working file.
+    /// What a file's `commit` and `up` ask of the person: the tag of the working file.
     fn working_tag(&self, uid: u8, w: &Path, bit: u16) -> Step<Tag> {
         self.walk(uid, w)?;
         refuse_if(self.node(w).is_directory(), 7)?;
@@ -89,14 +89,25 @@ impl State {
         self.node(w).tag.clone().ok_or(15)
     }
 
-    /// What `commit` and `up` ask of the account first: the tag's path leads to a file with r.
+    /// What a file's `commit` and `up` ask of the account first: the tag's path leads to a file with r.
     fn tagged_entry(&self, account: u8, tag: &Tag) -> Step<()> {
         self.walk(account, &tag.path)?;
         refuse_if(self.node(&tag.path).kind == Kind::Directory, 7)?;
         self.need(account, &tag.path, R)
     }
 
-    pub fn commit(&mut self, uid: u8, w: &Path) -> Step<()> {
+    /// A file's `commit` has no text; a directory's has the number of files committed.
+    pub fn commit(&mut self, uid: u8, w: &Path) -> Step<Option<Vec<u8>>> {
+        self.session(uid)?;
+        self.walk(uid, w)?;
+        if self.node(w).is_directory() {
+            return self.commit_directory(uid, w).map(Some);
+        }
+        self.commit_file(uid, w).map(|()| None)
+    }
+
+    /// A single `commit`; refused, it changes nothing.
+    fn commit_file(&mut self, uid: u8, w: &Path) -> Step<()> {
         let account = 16 + self.session(uid)?;
         let tag = self.working_tag(uid, w, R)?;
         self.tagged_entry(account, &tag)?;
@@ -110,6 +121,33 @@ impl State {
         entry.revision = revision + 1;
         self.node_mut(w).tag = Some(Tag { path: tag.path, revision: revision + 1 });
         Ok(())
+    }
+
+    /// Each file below, in path order, that a single `commit` accepts in the state that those before it left; the rest are
+    /// passed over. A tag on the directory itself is not looked at.
+    fn commit_directory(&mut self, uid: u8, w: &Path) -> Step<Vec<u8>> {
+        refuse_if(!self.readable(uid, w), 5)?;
+        let mut files = Vec::new();
+        self.files_below(uid, w, &mut files);
+        let mut committed = 0;
+        for file in files {
+            if self.commit_file(uid, &file).is_ok() {
+                committed += 1;
+            }
+        }
+        Ok(committed.to_string().into_bytes())
+    }
+
+    /// The files below a directory in path order, through directories that the person can read; whether a file can be read is
+    /// asked by its own `commit`.
+    fn files_below(&self, uid: u8, directory: &Path, files: &mut Vec<Path>) {
+        for child in self.children(directory) {
+            if !self.node(&child).is_directory() {
+                files.push(child);
+            } else if self.readable(uid, &child) {
+                self.files_below(uid, &child, files);
+            }
+        }
     }
 
     pub fn up(&mut self, uid: u8, w: &Path) -> Step<()> {

@@ -9,7 +9,7 @@ use super::working::joined;
 pub const LEAST_ANSWER: usize = 4096;
 
 impl State {
-    /// The text of `read`, nothing for the other commands, or the refusal's number.
+    /// The text of `read` and of a directory's `commit`, nothing for the other commands, or the refusal's number.
     pub fn run(&mut self, line: &[u8], answer_len: usize) -> Step<Option<Vec<u8>>> {
         refuse_if(answer_len < LEAST_ANSWER, 20)?;
         let (uid, command) = read_line(line).ok_or(1u32)?;
@@ -32,7 +32,7 @@ impl State {
             Command::Logout => self.logout(uid),
             Command::Add(w, e, role) => self.add(uid, &at(w)?, &e, role)?,
             Command::Co(e, d) => self.co(uid, &e, &at(d)?)?,
-            Command::Commit(w) => self.commit(uid, &at(w)?)?,
+            Command::Commit(w) => return self.commit(uid, &at(w)?),
             Command::Up(w) => self.up(uid, &at(w)?)?,
             Command::Del(e) => self.del(uid, &e)?,
         }
