@@ -2,6 +2,7 @@
 //! for a child.
 
 use crate::cases::nodes;
+use crate::fixed::{DIRECTORY_COMMITS, SELDOM};
 use crate::library;
 use crate::plain::{self, Answer, ANSWER, STORE, TREE};
 use crate::random::Random;
@@ -34,39 +35,14 @@ enum Call<'a> {
     Listing(usize),
 }
 
-/// Lines for what random ones seldom bring up: stale (14), too deep (19), into itself (11), not empty (8), untagged (15), and
-/// moves of a tagged file onto one without a tag, the other way, and onto itself.
-const SELDOM: [&str; 22] = [
-    "1,login,0,oak",
-    "1,create,/u1/a,0600",
-    "1,add,/u1/a,/rep/a,0",
-    "1,co,/rep/a,/u1/b",
-    "1,commit,/u1/a",
-    "1,commit,/u1/b",
-    "1,mkdir,/u1/d,0700",
-    "1,mkdir,/u1/d/d,0700",
-    "1,mkdir,/u1/d/d/d,0700",
-    "1,mkdir,/u1/d/d/d/d,0700",
-    "1,mkdir,/u1/c,0700",
-    "1,mkdir,/u1/c/c,0700",
-    "1,mv,/u1/c,/u1/d/d/d/d/c",
-    "1,mv,/u1/d,/u1/d/d/x",
-    "1,rmdir,/u1/d",
-    "1,create,/u1/e,0600",
-    "1,commit,/u1/e",
-    "1,mv,/u1/a,/u1/a",
-    "1,mv,/u1/a,/u1/e",
-    "1,mv,/u1/e,/u1/a",
-    "1,create,/u1/e,0644",
-    "1,mv,/u1/e,/u1/b",
-];
-
-/// Comparisons, how often each call gave each number, and how often a child was found, missing, or sought where no row is.
+/// Comparisons, how often each call gave each number, how often a child was found, missing, or sought where no row is, and how
+/// often a directory's commit was of none, of one, of several, or refused for want of r or x.
 struct Tally {
     passed: usize,
     failed: usize,
     numbers: [[usize; 21]; GIVEN.len()],
     searches: [usize; 3],
+    commits: [usize; 4],
 }
 
 impl Call<'_> {
@@ -96,13 +72,21 @@ impl Tally {
         println!("searches found {}  missing {}  no row {}", self.searches[0], self.searches[1], self.searches[2]);
         self.failed += self.searches.iter().filter(|count| **count == 0).count();
     }
+
+    /// Fails for each outcome of a directory's commit that did not come up in these lines, and counts anew.
+    fn check_commits(&mut self, lines: &str) {
+        let [none, one, several, refused] = std::mem::take(&mut self.commits);
+        println!("directory commits, {lines} lines: of none {none}  of one {one}  of several {several}  refused {refused}");
+        self.failed += [none, one, several, refused].iter().filter(|count| **count == 0).count();
+    }
 }
 
 pub fn agree(seed: u64, lines: u64) -> bool {
     let mut random = Random::new(seed);
-    let mut tally = Tally { passed: 0, failed: 0, numbers: [[0; 21]; GIVEN.len()], searches: [0; 3] };
+    let mut tally = Tally { passed: 0, failed: 0, numbers: [[0; 21]; GIVEN.len()], searches: [0; 3], commits: [0; 4] };
     let mut buffers = Buffers { store: vec![0x5a; STORE], into: vec![0xa5; ANSWER] };
-    seldom(&mut buffers, &mut tally);
+    fixed(&mut buffers, &mut tally);
+    tally.check_commits("fixed");
     let mut left = lines;
     while left > 0 {
         let text = random.setup();
@@ -123,26 +107,28 @@ pub fn agree(seed: u64, lines: u64) -> bool {
                 }
                 _ => step(&mut random, &mut buffers, &mut tally),
             }
-            if random.once_in(500) {
+            if random.once_in(1000) {
                 age(&mut buffers.store);
             }
         }
         left -= run;
     }
+    tally.check_commits("random");
     tally.check_numbers();
     println!("{} passed, {} failed", tally.passed, tally.failed);
     tally.failed == 0
 }
 
-/// The lines of `SELDOM`; then a commit where all revisions are the last (16), and more nodes than there is room for (10).
-fn seldom(buffers: &mut Buffers, tally: &mut Tally) {
+/// The fixed lines; then commits where all revisions are the last (16, and of none), and more nodes than there is room for (10).
+fn fixed(buffers: &mut Buffers, tally: &mut Tally) {
     both(buffers, &Call::Setup(b"p,1,1\nl,1,0,oak\n"), tally);
     both(buffers, &Call::Setup(b"p,1,1\nl,1,0,oak\nend\n"), tally);
-    for line in SELDOM {
+    for line in SELDOM.iter().chain(&DIRECTORY_COMMITS) {
         both(buffers, &Call::Run(line.as_bytes()), tally);
     }
     age(&mut buffers.store);
     both(buffers, &Call::Run(b"1,commit,/u1/a"), tally);
+    both(buffers, &Call::Run(b"1,commit,/u1"), tally);
     for n in 0..256 {
         both(buffers, &Call::Run(format!("0,mkdir,/n{n},0777").as_bytes()), tally);
     }
@@ -271,6 +257,9 @@ fn both(buffers: &mut Buffers, call: &Call, tally: &mut Tally) -> Answer {
         }
     };
     tally.numbers[call.place()][theirs.number as usize] += 1;
+    if let Some(outcome) = directory_commit(call, theirs, &other) {
+        tally.commits[outcome] += 1;
+    }
     if ours == theirs && *buffers == other {
         tally.passed += 1;
     } else {
@@ -280,6 +269,30 @@ fn both(buffers: &mut Buffers, call: &Call, tally: &mut Tally) -> Answer {
         }
     }
     ours
+}
+
+/// What became of a directory's commit, as its place in the tally.
+fn directory_commit(call: &Call, answer: Answer, after: &Buffers) -> Option<usize> {
+    let Call::Run(line) = call else { return None };
+    if !leads_to_directory(line, &after.store) {
+        return None;
+    }
+    match answer.number {
+        0 => match after.into.get(..answer.value as usize)? {
+            b"0" => Some(0),
+            b"1" => Some(1),
+            _ => Some(2),
+        },
+        5 => Some(3),
+        _ => None,
+    }
+}
+
+/// Whether a line is a commit whose caller's walk leads to a directory: `write` there is refused as of the wrong kind.
+fn leads_to_directory(line: &[u8], store: &[u8]) -> bool {
+    let Some((caller, path)) = std::str::from_utf8(line).ok().and_then(|line| line.split_once(",commit,")) else { return false };
+    let write = format!("{caller},write,{path},");
+    plain::run(&mut store.to_vec(), write.as_bytes(), &mut [0; ANSWER]).number == 7
 }
 
 fn show(call: &Call, ours: Answer, theirs: Answer, buffers: &Buffers, other: &Buffers) {

@@ -15,9 +15,9 @@ const LIMITS: [Option<f64>; 3] = [None, Some(5_000.0), Some(40_000.0)];
 
 /// What one call takes, in nanoseconds.
 #[derive(Clone, Copy)]
-struct Times {
-    library: f64,
-    plain: f64,
+pub struct Times {
+    pub library: f64,
+    pub plain: f64,
 }
 
 pub fn bench() {
@@ -25,7 +25,7 @@ pub fn bench() {
     println!("nanoseconds a call, the clock's {overhead:.0} taken off");
     println!("! misses a target: ratio {RATIO}, under 5,000 ns at 30 nodes, under 40,000 at 256");
     println!(
-        "{:<16} {:>5} {:>10} {:>10} {:>7}   {:>15} {:>15}",
+        "{:<17} {:>5} {:>10} {:>10} {:>7}   {:>15} {:>15}",
         "command", "nodes", "library ns", "Rust ns", "ratio", "growth, library", "growth, Rust"
     );
     let mut missed = [0; 3];
@@ -33,7 +33,8 @@ pub fn bench() {
         let mut first = None;
         for (size, limit) in SIZES.into_iter().zip(LIMITS) {
             let store = case.store(size);
-            let times = measure(&case, &store, overhead);
+            let times =
+                measure(&store, overhead, |work, into| call_library(&case, work, into), |work, into| case.call_plain(work, into));
             let first = *first.get_or_insert(times);
             let slow = limit.is_some_and(|limit| times.library >= limit);
             missed[0] += 1;
@@ -48,7 +49,7 @@ pub fn bench() {
 fn row(name: &str, nodes: usize, times: Times, first: Times, slow: bool) {
     let ratio = times.library / times.plain;
     println!(
-        "{name:<16} {nodes:>5} {:>9.0}{} {:>10.0} {ratio:>7.2}{} {:>15.2} {:>15.2}",
+        "{name:<17} {nodes:>5} {:>9.0}{} {:>10.0} {ratio:>7.2}{} {:>15.2} {:>15.2}",
         times.library,
         if slow { "!" } else { " " },
         times.plain,
@@ -65,14 +66,19 @@ pub fn overhead() -> f64 {
 }
 
 /// Batches of both in turn, each call on a fresh copy of the store and timed alone.
-fn measure(case: &Case, store: &[u8], overhead: f64) -> Times {
+pub fn measure(
+    store: &[u8],
+    overhead: f64,
+    mut ours: impl FnMut(&mut [u8], &mut [u8]) -> u32,
+    mut theirs: impl FnMut(&mut [u8], &mut [u8]) -> u32,
+) -> Times {
     let mut work = store.to_vec();
     let mut into = vec![0; ANSWER];
     let mut best = Times { library: f64::MAX, plain: f64::MAX };
     for _ in 0..BATCHES {
-        let a = batch(store, &mut work, |work| call_library(case, work, &mut into));
+        let a = batch(store, &mut work, |work| ours(work, &mut into));
         best.library = best.library.min(a - overhead);
-        let b = batch(store, &mut work, |work| case.call_plain(work, &mut into));
+        let b = batch(store, &mut work, |work| theirs(work, &mut into));
         best.plain = best.plain.min(b - overhead);
     }
     best

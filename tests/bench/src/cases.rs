@@ -54,6 +54,7 @@ pub fn cases() -> Vec<Case> {
         run("co, file", "1,co,/rep/m,/u1/k", ENTRY, 0),
         run("co, directory", "1,co,/rep/m,/u1/k", ENTRIES, 0),
         run("commit", "1,commit,/u1/m", ENTRY, 0),
+        run("commit, directory", "1,commit,/u1", ENTRY, 0),
         run("up", "1,up,/u1/m", ENTRY, 0),
         run("del", "1,del,/rep/m", ENTRY, 0),
         run("refused 1", "1,create,/u1/m", &[], 1),

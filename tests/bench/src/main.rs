@@ -3,11 +3,14 @@
 //!     bench agree [--seed S] [--lines N]     random setups and lines through both
 //!     bench bench                            nanoseconds a call
 //!     bench searches                         nanoseconds of the search for a child
+//!     bench commits                          nanoseconds of a directory's commit, by the number of its files
 //!     bench program < input                  the program by plain Rust, for tests/vectors
 
 mod agree;
 mod bench;
 mod cases;
+mod commits;
+mod fixed;
 #[path = "../../library.rs"]
 mod library;
 mod plain;
@@ -39,12 +42,16 @@ fn main() -> ExitCode {
             searches::searches();
             ExitCode::SUCCESS
         }
+        Some("commits") => {
+            commits::commits();
+            ExitCode::SUCCESS
+        }
         Some("program") => {
             program::program();
             ExitCode::SUCCESS
         }
         _ => {
-            eprintln!("usage: bench agree [--seed S] [--lines N] | bench bench | bench searches | bench program");
+            eprintln!("usage: bench agree [--seed S] [--lines N] | bench bench | bench searches | bench commits | bench program");
             ExitCode::FAILURE
         }
     }

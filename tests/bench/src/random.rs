@@ -115,6 +115,16 @@ impl Random {
         self.path(store, nodes)
     }
 
+    /// The path of some directory above a node that has a tag, if one is soon found.
+    fn above_tagged(&mut self, store: &[u8], nodes: usize) -> String {
+        let path = self.tagged(store, nodes);
+        let ends: Vec<usize> = path.match_indices('/').map(|(at, _)| at).collect();
+        match ends.len() {
+            0 => path,
+            names => path[..ends[self.below(names)].max(1)].to_string(),
+        }
+    }
+
     /// A path of the store's, or near one, or any.
     fn path(&mut self, store: &[u8], nodes: usize) -> String {
         let more = [0, 0, 1, 1, 1, 2][self.below(6)];
@@ -170,13 +180,36 @@ impl Random {
         format!("{uid},login,{role},{password}").into_bytes()
     }
 
+    /// A line about the files of a person's home: a few of them, made, filed, copied, written and committed together.
+    fn filing(&mut self) -> Vec<u8> {
+        let uid = 1 + self.below(3);
+        let (home, name) = (format!("/u{uid}"), self.pick(&["a", "w/a", "w/b", "x"]));
+        let entry = format!("/rep/{}{uid}", self.pick(&["a", "b", "c", "d"]));
+        match self.below(11) {
+            0 => format!("{uid},login,0,oak"),
+            1 => format!("{uid},mkdir,{home}/w,{}", self.pick(&MODES)),
+            2 | 3 => format!("{uid},create,{home}/{name},{}", self.pick(&MODES)),
+            4 | 5 => format!("{uid},add,{home}/{name},{entry},{}", self.below(2)),
+            6 => format!("{uid},co,{entry},{home}/{name}"),
+            7 => format!("{uid},write,{home}/{name},{}", self.content()),
+            8 => format!("{uid},chmod,{home}/w,{}", self.pick(&MODES)),
+            9 => format!("{uid},commit,{home}/w"),
+            _ => format!("{uid},commit,{home}"),
+        }
+        .into_bytes()
+    }
+
     /// A line for a store of so many nodes.
     pub fn line(&mut self, store: &[u8], nodes: usize) -> Vec<u8> {
+        if self.once_in(4) {
+            return self.filing();
+        }
         let uid = if self.once_in(20) { self.below(26) } else { self.caller() };
         let word = self.pick(if self.growing { &COMMANDS[..24] } else { &COMMANDS });
         let arguments = match word {
             "create" | "mkdir" | "chmod" => format!(",{},{}", self.path(store, nodes), self.pick(&MODES)),
             "read" | "rm" | "rmdir" | "cd" => format!(",{}", self.path(store, nodes)),
+            "commit" if self.once_in(2) => format!(",{}", self.above_tagged(store, nodes)),
             "commit" | "up" => format!(",{}", self.tagged(store, nodes)),
             "write" => format!(",{},{}", self.path(store, nodes), self.content()),
             "mv" => format!(",{},{}", self.path(store, nodes), self.path(store, nodes)),

@@ -2,6 +2,7 @@
 
 mod access;
 mod command;
+mod filing;
 mod header;
 mod listing;
 mod number;

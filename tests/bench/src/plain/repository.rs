@@ -1,22 +1,23 @@
 //! The repository's commands. The person's part comes first, the session's service account then does the rest.
 
-use super::access::{Who, R, W};
+use super::access::Who;
 use super::command::Command;
+use super::filing::{commit, up};
 use super::header::{dominated, has_grant, primary, session, set_session};
 use super::number::*;
-use super::rows::{new_row, unpadded, Fields, Row, Store, LAST_REVISION, MOST_NAMES, MOST_NODES};
+use super::rows::{new_row, unpadded, Fields, Row, Store, MOST_NAMES, MOST_NODES};
 use super::shell::{new_group, new_place};
 use super::text::{Path, Writer};
-use super::tree::Found;
+use super::Outcome;
 
 const LONGEST_PATH: usize = 54;
 
-pub fn run(store: &mut Store, who: &Who, command: &Command) -> Result<(), Number> {
+pub fn run(store: &mut Store, who: &Who, command: &Command, into: &mut [u8]) -> Outcome {
     match command {
-        Command::Login(role, password) => return login(store, who, *role, *password),
+        Command::Login(role, password) => return login(store, who, *role, *password).map(|()| None),
         Command::Logout => {
             set_session(store.header, who.uid, None);
-            return Ok(());
+            return Ok(None);
         }
         _ => {}
     }
@@ -25,11 +26,12 @@ pub fn run(store: &mut Store, who: &Who, command: &Command) -> Result<(), Number
     match command {
         Command::Add(w, e, to) => add(store, who, &account, w, e, *to),
         Command::Co(e, d) => co(store, who, &account, e, d),
-        Command::Commit(w) => commit(store, who, &account, w),
+        Command::Commit(w) => return commit(store, who, &account, w, into),
         Command::Up(w) => up(store, who, &account, w),
         Command::Del(e) => del(store, &account, e),
         _ => Err(NO_FORM),
-    }
+    }?;
+    Ok(None)
 }
 
 fn login(store: &mut Store, who: &Who, role: u8, password: u64) -> Result<(), Number> {
@@ -40,21 +42,13 @@ fn login(store: &mut Store, who: &Who, role: u8, password: u64) -> Result<(), Nu
     Ok(())
 }
 
-fn need_take(account: &Who, row: &Row) -> Result<(), Number> {
-    if account.may_take(row) {
-        Ok(())
-    } else {
-        Err(ACCESS)
-    }
-}
-
 fn add(store: &mut Store, who: &Who, account: &Who, w: &Path, e: &Path, role: u8) -> Result<(), Number> {
     let at = store.walk(who, w.names())?.at;
     let row = &store.rows[at];
     if !who.is_owner_or_root(row) {
         return Err(RESERVED);
     }
-    need_take(who, row)?;
+    store.need_take(who, at)?;
     if dominated(store.header, account.uid - 16) >> role & 1 == 0 {
         return Err(RESERVED);
     }
@@ -96,7 +90,7 @@ impl<'a> Reach<'a> {
 fn co(store: &mut Store, who: &Who, account: &Who, e: &Path, d: &Path) -> Result<(), Number> {
     let new = new_place(store, who, d)?;
     let from = store.walk(account, e.names())?.at;
-    need_take(account, &store.rows[from])?;
+    store.need_take(account, from)?;
     let end = store.end(from);
     let (old, deep) = (e.names().len(), d.names().len());
     let (mut copies, mut deepest) = (0, 0);
@@ -182,52 +176,9 @@ impl EntryPath {
     }
 }
 
-/// The working file of `commit` and `up`, which need r or w on it, and the file its tag names.
-fn working(store: &Store, who: &Who, account: &Who, w: &Path, bits: u16) -> Result<(usize, Found), Number> {
-    let at = store.walk(who, w.names())?.at;
-    let row = &store.rows[at];
-    if row.is_directory() {
-        return Err(WRONG_KIND);
-    }
-    store.need(who, at, bits)?;
-    let tag = Path::parse_entry(unpadded(row.tag_path())).ok_or(UNTAGGED)?;
-    let entry = store.walk(account, tag.names())?;
-    if store.rows[entry.at].is_directory() {
-        return Err(WRONG_KIND);
-    }
-    store.need(account, entry.at, R)?;
-    Ok((at, entry))
-}
-
-fn commit(store: &mut Store, who: &Who, account: &Who, w: &Path) -> Result<(), Number> {
-    let (at, entry) = working(store, who, account, w, R)?;
-    store.need_parent(account, &entry)?;
-    let revision = store.rows[entry.at].revision();
-    if store.rows[at].tag_revision() != revision {
-        return Err(STALE);
-    }
-    if revision == LAST_REVISION {
-        return Err(REVISIONS_SPENT);
-    }
-    let content = *store.rows[at].content();
-    store.rows[entry.at].set_content(&content);
-    store.rows[entry.at].set_revision(revision + 1);
-    store.rows[at].set_tag_revision(revision + 1);
-    Ok(())
-}
-
-fn up(store: &mut Store, who: &Who, account: &Who, w: &Path) -> Result<(), Number> {
-    let (at, entry) = working(store, who, account, w, W)?;
-    let content = *store.rows[entry.at].content();
-    let revision = store.rows[entry.at].revision();
-    store.rows[at].set_content(&content);
-    store.rows[at].set_tag_revision(revision);
-    Ok(())
-}
-
 fn del(store: &mut Store, account: &Who, e: &Path) -> Result<(), Number> {
     let found = store.walk(account, e.names())?;
-    need_take(account, &store.rows[found.at])?;
+    store.need_take(account, found.at)?;
     store.need_parent(account, &found)?;
     if !store.is_empty(found.at) {
         return Err(NOT_EMPTY);

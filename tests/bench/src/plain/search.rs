@@ -1,5 +1,5 @@
 //! The search for a child as the library makes it, names measured and compared in one pass, to be measured beside it. The walks
-//! of this plain Rust compare a name as one number.
+//! of this plain Rust compare a name as one number, but with the feature `same_search`.
 
 use super::rows::{Fields, Row, MOST_NODES};
 use crate::search::{Child, Search};
@@ -16,7 +16,7 @@ pub fn search(tree: &[u8], at: usize, name: &[u8]) -> Option<Search> {
     (at < nodes.len()).then(|| search_rows(nodes, at, name))
 }
 
-fn search_rows(nodes: &[Row], parent: usize, name: &[u8]) -> Search {
+pub fn search_rows(nodes: &[Row], parent: usize, name: &[u8]) -> Search {
     let depth = nodes[parent].depth() + 1;
     let mut steps = 0;
     'children: for (at, row) in nodes.iter().enumerate().skip(parent + 1) {

@@ -24,7 +24,7 @@ pub fn run(store: &mut Store, uid: u8, command: &Command, into: &mut [u8]) -> Ou
         Command::Chgrp(path, gid) => chgrp(store, &who, path, *gid),
         Command::Chown(path, uid) => chown(store, &who, path, *uid),
         Command::Cd(path) => cd(store, &who, path),
-        _ => repository::run(store, &who, command),
+        _ => return repository::run(store, &who, command, into),
     }?;
     Ok(None)
 }

@@ -3,6 +3,10 @@
 use super::access::{Who, W, X};
 use super::number::{Number, ACCESS, MISSING, NOT_DIRECTORY};
 use super::rows::{Fields, Row, Store};
+#[cfg(feature = "same_search")]
+use super::search::search_rows;
+#[cfg(feature = "same_search")]
+use crate::search::Child;
 
 /// Where a walk leads: the parent's row and the node's.
 pub struct Found {
@@ -18,6 +22,7 @@ pub struct Spot {
 
 impl Store<'_> {
     /// A directory's child of that name, or the row where it would stand.
+    #[cfg(not(feature = "same_search"))]
     fn child(&self, parent: usize, name: u64) -> Result<usize, usize> {
         let nodes = self.nodes();
         let depth = nodes[parent].depth() + 1;
@@ -30,6 +35,16 @@ impl Store<'_> {
             }
         }
         Err(nodes.len())
+    }
+
+    /// The same by the search that the library makes.
+    #[cfg(feature = "same_search")]
+    fn child(&self, parent: usize, name: u64) -> Result<usize, usize> {
+        let length = 8 - name.trailing_zeros() as usize / 8;
+        match search_rows(self.nodes(), parent, &name.to_be_bytes()[..length]).child {
+            Child::Found(at) => Ok(at as usize),
+            Child::Missing(at) => Err(at as usize),
+        }
     }
 
     /// Walks all names but the last, which is only looked up after its x test. Not for `/`.
@@ -58,6 +73,15 @@ impl Store<'_> {
     /// Refused unless these bits are granted.
     pub fn need(&self, who: &Who, at: usize, bits: u16) -> Result<(), Number> {
         if who.may(&self.rows[at], bits) {
+            Ok(())
+        } else {
+            Err(ACCESS)
+        }
+    }
+
+    /// Refused unless the node is readable.
+    pub fn need_take(&self, who: &Who, at: usize) -> Result<(), Number> {
+        if who.may_take(&self.rows[at]) {
             Ok(())
         } else {
             Err(ACCESS)
