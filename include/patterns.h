@@ -28,7 +28,7 @@
 
 /* How many of document 02's requests this library carries out, and the number of the store's format: stores of another are set up
  * again. */
-#define PATTERNS_REQUESTS 4
+#define PATTERNS_REQUESTS 5
 #define PATTERNS_FORMAT 3
 
 #ifdef __cplusplus
