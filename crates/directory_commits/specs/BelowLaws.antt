@@ -6,17 +6,15 @@
 --   commits one after another: passed-over, one-more;
 --   the step in a session: row-in to step-done;
 --   what holds at each turn: Going; at the first: begins; the row at hand: turn-place; at the last: comes-to-all; one more: goes-on, rises.
-use mathlib.Core.Path.{_≡_, refl, sym, _∙_, ap, ap₂}
+use mathlib.Core.Path.{_≡_, refl, sym, _∙_, ap}
 use mathlib.Core.List.{List, [], _∷_}
-use mathlib.Core.Option.{some}
-use mathlib.Core.Bool.{true, false, not}
+use mathlib.Core.Bool.{true, false}
 use Prim.Native.Nat.{ℕ, suc, _+_, _≤_, _<_}
 use native.Mathlib.Omega.{arith}
 use lib.ListN.{length}
-use Rattle.buffers.specs.Cases.{case, contra}
+use Rattle.buffers.specs.Cases.{case}
 use Rattle.accounts.specs.declared.Account.{Account}
 use Rattle.accounts.specs.declared.Caller.{Caller}
-use Rattle.accounts.specs.Dominance.{Bounded-role}
 use Rattle.syntax.specs.Path.{Path}
 use Rattle.setup.specs.Setup.{Setup}
 use Rattle.tree.specs.declared.Cause.{Cause}
@@ -48,7 +46,7 @@ use Rattle.machine.specs.ActingLaws.{file-registry}
 use Rattle.machine.specs.DirectoryCommitLaws.{commits-below, file-found}
 use Rattle.machine.specs.MachineKeepingLaws.{file-keeps}
 use Rattle.machine.specs.SingleCommitsLaws.{file-outlines}
-use Rattle.stored_header.specs.Stored.{Stored, bytes-with}
+use Rattle.stored_header.specs.Stored.{bytes-with}
 use Rattle.stored_header.specs.StoredLaws.{stored-bytes, stored-formed, formed-stored}
 use Rattle.entries.specs.declared.Links.{Links}
 use Rattle.entries.specs.declared.Links.the-variants.{To, Refused}
@@ -127,8 +125,8 @@ row-in {c = c} x = record {
 }
 
 -- the store of another turn, whose registry is that of the first, has the session too
-abbrev acting-in : {c : Caller} {account : Account} (j : Acting c account) (s : Store) → s .registry ≡ j .state .registry → session store (j .setup) s c ≡ done (j .role) → Acting c account
-acting-in j s e q = record { setup = j .setup; state = s; role = j .role; session = q; served = j .served }
+abbrev acting-in : {c : Caller} {account : Account} (j : Acting c account) (s : Store) → session store (j .setup) s c ≡ done (j .role) → Acting c account
+acting-in j s q = record { setup = j .setup; state = s; role = j .role; session = q; served = j .served }
 
 session-kept : {c : Caller} {account : Account} (j : Acting c account) (s : Store) → s .registry ≡ j .state .registry → session store (j .setup) s c ≡ done (j .role)
 unfolding session
@@ -211,7 +209,7 @@ module _ {b₀ : List ℕ} {c : Caller} {account : Account} {row : ℕ} (x : Dir
     state = state-of u (g .now)
 
     abbrev acting : Acting c account
-    acting = acting-in (x .at .acting) (g .now) (g .registry) (session-kept (x .at .acting) (g .now) (g .registry))
+    acting = acting-in (x .at .acting) (g .now) (session-kept (x .at .acting) (g .now) (g .registry))
 
     -- what was met at a row of the first store is there now
     record Here (q : Path) (d : Place Node) : Type 0 where

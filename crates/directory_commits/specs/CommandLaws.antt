@@ -7,7 +7,7 @@
 --   a directory's: that its number fits, and stands in the answer: number-fits, directory-carries.
 use mathlib.Core.Path.{_≡_, refl, sym, _∙_, ap}
 use mathlib.Core.List.{List, _++_}
-use mathlib.Core.Option.{Option, none, some}
+use mathlib.Core.Option.{none}
 use mathlib.Core.Bool.{true, false}
 use Prim.Native.Nat.{ℕ, _+_, _≤_}
 use native.Mathlib.Omega.{arith}
@@ -23,9 +23,9 @@ use Rattle.syntax.specs.Path.{Path}
 use Rattle.tree.specs.declared.Cause.{Cause}
 use Rattle.tree.specs.declared.Cause.the-variants.{Access}
 use Rattle.tree.specs.Result.{Result, refused, done, Outcome}
-use Rattle.tree.specs.ResultLaws.{not-done, by-result, bind-done, refused-before, done-bind, refused-bind, done-then, refused-then, require-true, require-false}
+use Rattle.tree.specs.ResultLaws.{by-result, bind-done, done-bind, refused-bind, done-then, refused-then, require-true, require-false}
 use Rattle.tree.specs.GivesLaws.{done-with}
-use Rattle.tree.specs.Forest.{Place, size}
+use Rattle.tree.specs.Forest.{Place}
 use Rattle.tree.specs.Node.{Node, is-directory}
 use Rattle.tree.specs.Walk.{by-modes, walk}
 use Rattle.tree.specs.RowPlaces.{index-of}
@@ -43,7 +43,7 @@ use Rattle.machine.specs.Machine.{commit-found, commit-file, commit-directory, 
 use Rattle.machine.specs.StoreMachine.{store}
 use Rattle.machine.specs.Acting.{Acting, on-tree-steps}
 use Rattle.machine.specs.ActingLaws.{file-registry}
-use Rattle.machine.specs.DirectoryCommitLaws.{each-counts, commits-below, of-directory, file-found}
+use Rattle.machine.specs.DirectoryCommitLaws.{each-counts, of-directory, file-found}
 use Rattle.stored_header.specs.Stored.{Stored, bytes-with}
 use Rattle.entries.specs.declared.Links.{Links}
 use Rattle.entries.specs.declared.Links.the-variants.{To, Refused}
@@ -53,7 +53,7 @@ use Rattle.entries.specs.LinkLaws.{links-to, links-not}
 use Rattle.directory_commits.specs.declared.Step.{Step}
 use Rattle.directory_commits.specs.declared.Found.{Found}
 use Rattle.directory_commits.specs.declared.Found.the-variants as found
-use Rattle.directory_commits.specs.Steps.{Row-in, Step-in, Row-found, file-at, directory-at, found-steps, found-told}
+use Rattle.directory_commits.specs.Steps.{Step-in, Row-found, file-at, directory-at, found-steps, found-told}
 use Rattle.directory_commits.specs.Commits.{Place-row, Directory-row, Commits-below}
 use Rattle.directory_commits.specs.BelowLaws.{step-refused, step-done}
 

@@ -16,8 +16,8 @@ use Rattle.tree.specs.RowAt.{row-at}
 use Rattle.tree.specs.TreeBytes.{At}
 use Rattle.shell.specs.CommandBytes.{bytes-after}
 use Rattle.entries.specs.declared.Links.{Links}
-use Rattle.entries.specs.declared.Links.the-variants.{To, Refused}
-use Rattle.entries.specs.EntrySteps.{Link, commit-at, after-commit, changing, link-rows-from, links-told, Filed-at, Linked}
+use Rattle.entries.specs.declared.Links.the-variants.{To}
+use Rattle.entries.specs.EntrySteps.{Link, commit-at, after-commit, link-rows-from, links-told, Filed-at, Linked}
 use Rattle.entries.specs.LinkLaws.{links-to, link-facts, linked, commit-parts, revision-below}
 use Rattle.entries.specs.EntryStepsLaws.{comes-to, comes-not}
 

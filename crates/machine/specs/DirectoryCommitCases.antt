@@ -9,7 +9,7 @@ use Prim.Native.String.{String}
 use Rattle.accounts.specs.Dominance.{Bounded-role}
 use Rattle.syntax.specs.Number.{octal}
 use Rattle.syntax.specs.Pieces.{bytes}
-use Rattle.syntax.specs.Path.{Path, root, _▹_}
+use Rattle.syntax.specs.Path.{root, _▹_}
 use Rattle.setup.specs.Setup.{Setup-answer, accepted, wrong-line, setup}
 use Rattle.tree.specs.declared.Kind.{Kind}
 use Rattle.tree.specs.declared.Kind.the-variants.{File, Directory}

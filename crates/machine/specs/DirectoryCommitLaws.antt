@@ -1,5 +1,5 @@
 -- A directory's commit: what every single commit keeps it keeps too, and what it is where it is done.
-use mathlib.Core.Path.{_≡_, refl, sym}
+use mathlib.Core.Path.{_≡_}
 use mathlib.Core.List.{List, [], _∷_}
 use mathlib.Core.Logic.{_⊎_, inl, inr}
 use mathlib.Core.Option.{some}
@@ -16,7 +16,7 @@ use Rattle.setup.specs.Setup.{Setup}
 use Rattle.tree.specs.declared.Cause.the-variants.{Access}
 use Rattle.tree.specs.Result.{Result, refused, done, require, Outcome}
 use Rattle.tree.specs.ResultLaws.{bind-done, then-done, done-bind}
-use Rattle.tree.specs.Outcomes.{Gives, refuses, gives, Ensures}
+use Rattle.tree.specs.Outcomes.{refuses, gives, Ensures}
 use Rattle.tree.specs.GivesLaws.{then-check, then-do}
 use Rattle.tree.specs.Forest.{Place}
 use Rattle.tree.specs.Node.{Node, is-directory}

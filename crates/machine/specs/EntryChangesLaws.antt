@@ -1,7 +1,7 @@
 -- A command of the abstract machine leaves an entry as it is, or changes it by right; and how that stands in the store. Commits one
 -- after another, and any command of a person, are in EntryRevisionLaws.
 use mathlib.Core.Path.{_≡_, refl, sym, _∙_, ap}
-use mathlib.Core.Option.{none, some, Option·map, map-eq-some-iff}
+use mathlib.Core.Option.{none, some, Option·map}
 use mathlib.Core.Bool.{Bool, true, false, not}
 use mathlib.Core.Logic.{_⊎_, inl, inr}
 use Prim.Native.Nat.{ℕ, suc}
@@ -11,9 +11,7 @@ use lib.Dec.{eqb}
 use Rattle.buffers.specs.Cases.{case, contra}
 use Rattle.buffers.specs.Text.{Text}
 use Rattle.accounts.specs.declared.Caller.{Caller}
-use Rattle.accounts.specs.declared.Uid.{Uid}
 use Rattle.accounts.specs.declared.Right.the-variants.{R, W}
-use Rattle.accounts.specs.Access.{is-root}
 use Rattle.accounts.specs.Dominance.{Bounded-role}
 use Rattle.accounts.specs.Service.{service-role}
 use Rattle.syntax.specs.Path.{Path, Entry-path, same-path, in-rep, entry-location, below-rep}
@@ -39,18 +37,16 @@ use Rattle.tree.specs.HoldsLaws.{holds-altered, holds-alter, holds-put, holds-d
 use Rattle.shell.specs.Steps.{run-shell}
 use Rattle.store.specs.State.{Store}
 use Rattle.store.specs.Initial.{directory-of, rep-node}
-use Rattle.store.specs.Callers.{caller}
 use Rattle.machine.specs.Working.{Working, tagged}
 use Rattle.machine.specs.Machine.{run-login, run-logout, run-cd, session, run-add, run-co, working-file, original, commit-found, commit-file, run-up, run-del, run-account, run-entry, run}
 use Rattle.machine.specs.StoreMachine.{entry-mode, entry-node, next-node, store}
 use Rattle.machine.specs.AbstractMachine.{Entry, Abstract, Filed, top, an-entry, filed-kind, filed-readable, by-dominance, filed-revision, next-entry}
 use Rattle.machine.specs.AbstractInstance.{abstract}
 use Rattle.machine.specs.Embedding.{in-store, met, embed}
-use Rattle.machine.specs.Observed.{Reached-without-root}
 use Rattle.machine.specs.EntryJudgeLaws.{next-law}
 use Rattle.machine.specs.TieLaws.{remove-tie}
 use Rattle.machine.specs.EntryChanges.{node-of, Filed-as, entry-of, Rightful, Committed, Change, by-commit, by-del}
-use Rattle.machine.specs.EntryPlacesLaws.{same-entry, holds-of, of-holds, free, next-filed, filed-after, revised-after, removed-after, Rightful-apart, by-session, same-role-right, node-tied, tagged-tied, rightful-tied, In-both, in-both}
+use Rattle.machine.specs.EntryPlacesLaws.{same-entry, holds-of, of-holds, free, next-filed, filed-after, revised-after, removed-after, Rightful-apart, by-session, same-role-right, node-tied, tagged-tied, rightful-tied, In-both}
 
 -- ---- one command of the abstract machine
 

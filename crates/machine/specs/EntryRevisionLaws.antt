@@ -21,7 +21,7 @@ use Rattle.setup.specs.Setup.{Setup, is-setup}
 use Rattle.setup.specs.SetupLaws.{accepted-is-setup}
 use Rattle.tree.specs.declared.Kind.{Kind}
 use Rattle.tree.specs.declared.Cause.the-variants.{Access, Stale, RevisionsSpent}
-use Rattle.tree.specs.Result.{Result, refused, done, Outcome}
+use Rattle.tree.specs.Result.{Result, done, Outcome}
 use Rattle.tree.specs.ResultLaws.{by-result}
 use Rattle.tree.specs.Outcomes.{gives, Ensures}
 use Rattle.tree.specs.GivesLaws.{done-with, then-check, then-do}

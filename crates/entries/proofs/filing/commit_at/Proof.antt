@@ -5,10 +5,6 @@ use Rattle.entries.specs.FiledLaws.{fileable, is-filed, is-kept}
 use borrow.Author.Needs.{needs}
 use Rattle.entries.proofs.filing.commit_at.Statement.{statement}
 use Rattle.entries.proofs.filing.commit_at.Tie as tie
-use Rattle.entries.proofs.filing.commit_at.Reads as reads
-use Rattle.entries.proofs.filing.commit_at.Lts as lts
-use Rattle.entries.proofs.filing.commit_rows.Reads as commit-rows-reads
-use Rattle.entries.proofs.filing.file_content.Reads as file-content-reads
 
 -- src/filing.rt:96:11
 commit-rows-requires : tie.Need-commit-rows-requires

@@ -5,10 +5,6 @@ use Rattle.entries.specs.LinkLaws.{at-has-row, links-to, links-not, link
 use borrow.Author.Needs.{needs}
 use Rattle.entries.proofs.filing.commit_rows.Statement.{statement}
 use Rattle.entries.proofs.filing.commit_rows.Tie as tie
-use Rattle.entries.proofs.filing.commit_rows.Reads as reads
-use Rattle.entries.proofs.filing.commit_rows.Lts as lts
-use Rattle.entries.proofs.filing.judge_commit.Reads as judge-commit-reads
-use Rattle.entries.proofs.tagged.linked_at.Reads as linked-at-reads
 
 -- src/filing.rt:58:11
 linked-at-requires : tie.Need-linked-at-requires

@@ -8,10 +8,6 @@ use Rattle.entries.specs.EntryStepsLaws.{comes-to, comes-not}
 use borrow.Author.Needs.{needs}
 use Rattle.entries.proofs.filing.up.Statement.{statement}
 use Rattle.entries.proofs.filing.up.Tie as tie
-use Rattle.entries.proofs.filing.up.Reads as reads
-use Rattle.entries.proofs.filing.up.Lts as lts
-use Rattle.entries.proofs.filing.bring_up.Reads as bring-up-reads
-use Rattle.entries.proofs.tagged.linked_rows.Reads as linked-rows-reads
 
 -- src/filing.rt:120:11
 linked-rows-requires : tie.Need-linked-rows-requires

@@ -4,10 +4,6 @@ use Rattle.entries.specs.EntrySteps.{links-told}
 use borrow.Author.Needs.{needs}
 use Rattle.entries.proofs.tagged.linked_at.Statement.{statement}
 use Rattle.entries.proofs.tagged.linked_at.Tie as tie
-use Rattle.entries.proofs.tagged.linked_at.Reads as reads
-use Rattle.entries.proofs.tagged.linked_at.Lts as lts
-use Rattle.entries.proofs.tagged.entry_rows.Reads as entry-rows-reads
-use Rattle.entries.proofs.tagged.judge_file.Reads as judge-file-reads
 
 -- src/tagged.rt:71:11
 judge-file-requires : tie.Need-judge-file-requires

@@ -6,10 +6,6 @@ use Rattle.entries.specs.EntrySteps.{links-told}
 use borrow.Author.Needs.{needs}
 use Rattle.entries.proofs.tagged.linked_rows.Statement.{statement}
 use Rattle.entries.proofs.tagged.linked_rows.Tie as tie
-use Rattle.entries.proofs.tagged.linked_rows.Reads as reads
-use Rattle.entries.proofs.tagged.linked_rows.Lts as lts
-use Rattle.entries.proofs.tagged.linked_at.Reads as linked-at-reads
-use Rattle.walks.proofs.walk.Reads as walk-reads
 
 -- src/tagged.rt:89:11
 walk-requires : tie.Need-walk-requires
