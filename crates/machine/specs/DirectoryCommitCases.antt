@@ -202,7 +202,7 @@ unfolding compute many
 many-answered = (refl, refl)
 
 -- ---- what is left: the entry with the first file's content and the next revision, that file's tag with it, and the second's as it was;
--- nor is the directory's own tag asked for or changed
+-- nor is the directory's own tag, whose entry is gone, asked for or changed
 leaving : List Case
 leaving =
     all-done "1,login,0,oak\n1,mkdir,/u1/d,0700\n1,create,/u1/d/b,0600\n1,add,/u1/d/b,/rep/e,1\n1,add,/u1/d,/rep/d,1\n1,co,/rep/e,/u1/d/a\n1,write,/u1/d/a,s\n1,write,/u1/d/b,t\n1,del,/rep/d" ++ (
