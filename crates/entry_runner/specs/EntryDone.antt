@@ -23,7 +23,23 @@ use Rattle.header.specs.HeaderBytes.{session-held}
 use Rattle.machine.specs.Machine.{run-add, run-co, run-up, run-del, run-entry}
 use Rattle.machine.specs.StoreMachine.{store}
 use Rattle.machine.specs.Acting.{Acting}
-use Rattle.stored_header.specs.Stored.{Stored, bytes-with, In-session-silently}
+use Rattle.stored_header.specs.Stored.{Stored, bytes-with, Acts-in, In-session-silently}
+
+-- ---- which inputs are let in, besides `Acts-in`
+
+-- the account is that of anyone's session
+abbrev pub Acts-for-someone : List ℕ → Account → Type 0
+Acts-for-someone b account = (c : Caller) × Acts-in b c account
+
+-- it is told rightly whether the session's role dominates another
+abbrev pub Acts-told : List ℕ → Caller → Account → Bool → Role → Type 0
+Acts-told b c account dominated role =
+    (j : Acting c account) × Stored b (state-of (j .setup) (j .state)) × (dominated ≡ dominates (j .setup .pairs) (j .role .role) role)
+
+-- the session and the rows of dominance are those of the session in which the account acts
+abbrev pub Acts-by : List ℕ → Caller → Account → Session → Dominance → Type 0
+Acts-by b c account session dominance =
+    (j : Acting c account) × Stored b (state-of (j .setup) (j .state)) × (session ≡ session-held (some (j .role))) × (dominance .rows ≡ rows-of (j .setup .pairs))
 
 -- ---- a command that works on the tree alone, whatever its texts read as
 

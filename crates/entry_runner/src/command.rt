@@ -2,8 +2,7 @@
 ghost use Prim.Native.Nat.{_≤_};
 ghost use lib.ListN.{length};
 ghost use Rattle.commands.specs.Meaning.{Some-entry-command};
-ghost use Rattle.stored_header.specs.Stored.{Acts-in};
-ghost use Rattle.entry_runner.specs.EntryDone.{Entry-done};
+ghost use Rattle.entry_runner.specs.EntryDone.{Acts-by, Entry-done};
 use crate::lent::add_in;
 use crate::lent::co_in;
 use crate::lent::del_in;
@@ -28,7 +27,7 @@ pub fn entry_command(
     command: EntryCommand,
     answer: &mut [u8],
 ) -> Answer
-    requires { ⌜ Acts-in (now store) caller account ⌝ }
+    requires { ⌜ Acts-by (now store) caller account session dominance ⌝ }
     requires { ⌜ Some-entry-command (now line) command ⌝ }
     requires { ⌜ 4096 ≤ length (now answer) ⌝ }
     ensures { λ r. ⌜ Entry-done caller (now (line .entry)) command account session dominance

@@ -1,8 +1,8 @@
 // The commands that work on the tree alone, on a store's bytes: the tree is lent.
 ghost use Prim.Native.Nat.{_<_};
 ghost use Rattle.tree.specs.TreeBytes.{Path-text, Entry-path-text};
-ghost use Rattle.stored_header.specs.Stored.{Some-store};
-ghost use Rattle.entry_runner.specs.EntryDone.{Add-done, Co-done, Up-done, Del-done};
+ghost use Rattle.stored_header.specs.Stored.{Acts-in};
+ghost use Rattle.entry_runner.specs.EntryDone.{Acts-told, Acts-for-someone, Add-done, Co-done, Up-done, Del-done};
 use accounts::Account;
 use accounts::Caller;
 use accounts::Role;
@@ -23,7 +23,7 @@ pub fn add_in(
     entry: &[u8],
     role: Role,
 ) -> Answer
-    requires { ⌜ Some-store (now store) ⌝ }
+    requires { ⌜ Acts-told (now store) caller account dominated role ⌝ }
     requires { ⌜ Path-text (now working) ⌝ }
     requires { ⌜ Entry-path-text (now entry) ⌝ }
     requires { ⌜ role .0 < 8 ⌝ }
@@ -42,7 +42,7 @@ pub fn add_in(
 
 // `co,e,d`: an entry is copied to a path.
 pub fn co_in(store: &mut [u8], caller: Caller, account: Account, entry: &[u8], to: &[u8]) -> Answer
-    requires { ⌜ Some-store (now store) ⌝ }
+    requires { ⌜ Acts-in (now store) caller account ⌝ }
     requires { ⌜ Entry-path-text (now entry) ⌝ }
     requires { ⌜ Path-text (now to) ⌝ }
     ensures { λ r. ⌜ Co-done caller account (now (entry .entry)) (now (to .entry)) (now (store .entry)) r (now (store .exit)) ⌝ }
@@ -52,7 +52,7 @@ pub fn co_in(store: &mut [u8], caller: Caller, account: Account, entry: &[u8], t
 
 // `up,w`: a working file takes the content of its entry.
 pub fn up_in(store: &mut [u8], caller: Caller, account: Account, working: &[u8]) -> Answer
-    requires { ⌜ Some-store (now store) ⌝ }
+    requires { ⌜ Acts-in (now store) caller account ⌝ }
     requires { ⌜ Path-text (now working) ⌝ }
     ensures { λ r. ⌜ Up-done caller account (now (working .entry)) (now (store .entry)) r (now (store .exit)) ⌝ }
 {
@@ -61,7 +61,7 @@ pub fn up_in(store: &mut [u8], caller: Caller, account: Account, working: &[u8])
 
 // `del,e`: an entry is taken out. Whose session it is matters to the account alone.
 pub fn del_in(store: &mut [u8], account: Account, entry: &[u8]) -> Answer
-    requires { ⌜ Some-store (now store) ⌝ }
+    requires { ⌜ Acts-for-someone (now store) account ⌝ }
     requires { ⌜ Entry-path-text (now entry) ⌝ }
     ensures { λ r. ⌜ Del-done account (now (entry .entry)) (now (store .entry)) r (now (store .exit)) ⌝ }
 {

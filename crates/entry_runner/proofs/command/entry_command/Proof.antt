@@ -1,7 +1,7 @@
 -- `entry_runner::command::entry_command` meets its contract: each case is the command that its parts mean, in the session.
-use mathlib.Core.Path.{_∙_}
+use mathlib.Core.Path.{_∙_, ap}
 use denote.Ref.{now}
-use Rattle.accounts.specs.Dominance.{role-low}
+use Rattle.accounts.specs.Dominance.{role-low, dominates}
 use Rattle.commands.specs.Meaning.{Entry-means}
 use Rattle.commands.specs.MeaningLaws.{means-as, part-read}
 use Rattle.machine.specs.Machine.{run-entry}
@@ -30,7 +30,9 @@ add-in-requires c κs =
     let s = c .before .before .before .before .before .before .before .before .before .before in
     let i = means-as Entry-means (c .before .before .before .before .before .command .given .1) (s .pre .1 .0 .1) in
     let e = part-read _ (c .part2 .ensures) (i .4) in
-    ((_, s .pre .0 .1), ((i .0, part-read _ (c .before .part .ensures) (i .3)), ((i .1, e), role-low (i .2) (i .5))))
+    let a = s .pre .0 in
+    let told = c .before .before .dominates .ensures ∙ session-tells (a .0) (i .2) (i .5) (a .2) (a .3) ∙ ap (dominates (a .0 .setup .pairs) (a .0 .role .role)) (i .5) in
+    ((a .0, a .1, told), ((i .0, part-read _ (c .before .part .ensures) (i .3)), ((i .1, e), role-low (i .2) (i .5))))
 
 part-requires-3 : tie.Need-part-requires-3
 unfolding Entry-means
@@ -49,7 +51,7 @@ unfolding Entry-means
 co-in-requires c κs =
     let s = c .before .before .before .before .before .before .before .before .before in
     let i = means-as Entry-means (c .before .before .before .before .command2 .given .1) (s .pre .1 .0 .1) in
-    ((_, s .pre .0 .1), ((i .0, part-read _ (c .before .part3 .ensures) (i .2)), (i .1, part-read _ (c .part4 .ensures) (i .3))))
+    ((s .pre .0 .0, s .pre .0 .1), ((i .0, part-read _ (c .before .part3 .ensures) (i .2)), (i .1, part-read _ (c .part4 .ensures) (i .3))))
 
 part-requires-5 : tie.Need-part-requires-5
 unfolding Entry-means
@@ -62,7 +64,7 @@ unfolding Entry-means
 commit-requires c κs =
     let s = c .before .before .before .before .before .before .before .before .before in
     let i = means-as Entry-means (c .before .before .before .before .command3 .given .1) (s .pre .1 .0 .1) in
-    (s .pre .0, ((i .0, part-read _ (c .before .part5 .ensures) (i .1)), s .pre .1 .1))
+    ((s .pre .0 .0, s .pre .0 .1), ((i .0, part-read _ (c .before .part5 .ensures) (i .1)), s .pre .1 .1))
 
 part-requires-6 : tie.Need-part-requires-6
 unfolding Entry-means
@@ -75,7 +77,7 @@ unfolding Entry-means
 up-in-requires c κs =
     let s = c .before .before .before .before .before .before .before .before in
     let i = means-as Entry-means (c .before .before .before .command4 .given .1) (s .pre .1 .0 .1) in
-    ((_, s .pre .0 .1), (i .0, part-read _ (c .part6 .ensures) (i .1)))
+    ((s .pre .0 .0, s .pre .0 .1), (i .0, part-read _ (c .part6 .ensures) (i .1)))
 
 part-requires-7 : tie.Need-part-requires-7
 unfolding Entry-means
@@ -88,7 +90,7 @@ unfolding Entry-means
 del-in-requires c κs =
     let s = c .before .before .before .before .before .before .before .before in
     let i = means-as Entry-means (c .before .before .before .command5 .given .1) (s .pre .1 .0 .1) in
-    ((_, s .pre .0 .1), (i .0, part-read _ (c .part7 .ensures) (i .1)))
+    ((_, (s .pre .0 .0, s .pre .0 .1)), (i .0, part-read _ (c .part7 .ensures) (i .1)))
 
 returns : tie.Need-returns
 unfolding Entry-means run-entry

@@ -9,13 +9,13 @@ use Rattle.entry_runner.proofs.lent.add_in.Statement.{statement}
 use Rattle.entry_runner.proofs.lent.add_in.Tie as tie
 
 sub-add : tie.Need-sub-add
-sub-add c = long-enough (c .before .before .before .pre .0)
+sub-add c = long-enough (_, c .before .before .before .pre .0 .1)
 
 part-add-start : tie.Need-part-add-start
-part-add-start c = long-enough (c .before .before .before .pre .0)
+part-add-start c = long-enough (_, c .before .before .before .pre .0 .1)
 
 add-requires : tie.Need-add-requires
-add-requires c κs = let s = c .before .before .before .before in (lent-whole (s .pre .0), s .pre .1)
+add-requires c κs = let s = c .before .before .before .before in (lent-whole (_, s .pre .0 .1), s .pre .1)
 
 returns : tie.Need-returns
 unfolding run-entry

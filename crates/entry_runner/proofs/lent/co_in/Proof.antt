@@ -9,13 +9,13 @@ use Rattle.entry_runner.proofs.lent.co_in.Statement.{statement}
 use Rattle.entry_runner.proofs.lent.co_in.Tie as tie
 
 sub-co : tie.Need-sub-co
-sub-co c = long-enough (c .before .before .before .pre .0)
+sub-co c = long-enough (_, c .before .before .before .pre .0 .1)
 
 part-co-start : tie.Need-part-co-start
-part-co-start c = long-enough (c .before .before .before .pre .0)
+part-co-start c = long-enough (_, c .before .before .before .pre .0 .1)
 
 co-requires : tie.Need-co-requires
-co-requires c κs = let s = c .before .before .before .before in (lent-whole (s .pre .0), s .pre .1)
+co-requires c κs = let s = c .before .before .before .before in (lent-whole (_, s .pre .0 .1), s .pre .1)
 
 returns : tie.Need-returns
 unfolding run-entry

@@ -9,13 +9,13 @@ use Rattle.entry_runner.proofs.lent.del_in.Statement.{statement}
 use Rattle.entry_runner.proofs.lent.del_in.Tie as tie
 
 sub-del : tie.Need-sub-del
-sub-del c = long-enough (c .before .before .pre .0)
+sub-del c = long-enough (_, c .before .before .pre .0 .1 .1)
 
 part-del-start : tie.Need-part-del-start
-part-del-start c = long-enough (c .before .before .pre .0)
+part-del-start c = long-enough (_, c .before .before .pre .0 .1 .1)
 
 del-requires : tie.Need-del-requires
-del-requires c κs = let s = c .before .before .before in (lent-whole (s .pre .0), s .pre .1)
+del-requires c κs = let s = c .before .before .before in (lent-whole (_, s .pre .0 .1 .1), s .pre .1)
 
 returns : tie.Need-returns
 unfolding run-entry

@@ -9,13 +9,13 @@ use Rattle.entry_runner.proofs.lent.up_in.Statement.{statement}
 use Rattle.entry_runner.proofs.lent.up_in.Tie as tie
 
 sub-up : tie.Need-sub-up
-sub-up c = long-enough (c .before .before .pre .0)
+sub-up c = long-enough (_, c .before .before .pre .0 .1)
 
 part-up-start : tie.Need-part-up-start
-part-up-start c = long-enough (c .before .before .pre .0)
+part-up-start c = long-enough (_, c .before .before .pre .0 .1)
 
 up-requires : tie.Need-up-requires
-up-requires c κs = let s = c .before .before .before in (lent-whole (s .pre .0), s .pre .1)
+up-requires c κs = let s = c .before .before .before in (lent-whole (_, s .pre .0 .1), s .pre .1)
 
 returns : tie.Need-returns
 unfolding run-entry

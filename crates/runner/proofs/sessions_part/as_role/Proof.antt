@@ -14,8 +14,11 @@ entry-command-requires c κs =
     let p = c .before .before .before .before .before .before .before .before in
     let s = p .pre .0 .0 in
     let h = p .pre .0 .1 in
-    let j = acting h (p .args .caller) (p .pre .1 .1 .1 .1 s h) (c .before .before .before .dominance-in .ensures s h) (c .before .before .account .ensures) in
-    ((j, h), (p .pre .1 .0, p .pre .1 .1 .0))
+    let kept = p .pre .1 .1 .1 .1 s h in
+    let rows = c .before .before .before .dominance-in .ensures s h in
+    let told = c .before .before .account .ensures in
+    let j = acting h (p .args .caller) kept rows told in
+    ((j, h, acting-as h (p .args .caller) kept rows told, rows), (p .pre .1 .0, p .pre .1 .1 .0))
 
 returns : tie.Need-returns
 returns c s k h m =
