@@ -37,13 +37,13 @@ pub bit_at : (k : ℕ) → k < 32 → get_or bits k 0 ≡ 2 ^ k
 bit_at k h = power_at bits 0 tt k h ∙ ap (λ (m : ℕ). 2 ^ m) (zero-add k)
 
 -- a number of w bits has none from w on
-pub no-bit : (w k x : ℕ) → x < 2 ^ w → w ≤ k → eqb (x / 2 ^ k % 2) 1 ≡ false
-no-bit w k x l h = rw (div-eq_of_lt (lt_of_lt_of_le l (pow_mono h)))
+pub no_bit : (w k x : ℕ) → x < 2 ^ w → w ≤ k → eqb (x / 2 ^ k % 2) 1 ≡ false
+no_bit w k x l h = rw (div-eq_of_lt (lt_of_lt_of_le l (pow_mono h)))
 
 -- the test by the bit that a call returned
 pub by_bit : (x k b : ℕ) → b ≡ 2 ^ k → eqb (x / b % 2) 1 ≡ eqb (x / 2 ^ k % 2) 1
 by_bit x k b e = rw e
 
 -- such a bit is no zero
-pub bit-above : (k b : ℕ) → b ≡ 2 ^ k → 0 < b
-bit-above k b e = rw e (pow_pos k)
+pub bit_above : (k b : ℕ) → b ≡ 2 ^ k → 0 < b
+bit_above k b e = rw e (pow_pos k)

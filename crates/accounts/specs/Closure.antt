@@ -1,7 +1,7 @@
 -- Dominance as the code holds it: for each of the eight roles a row of bits, closed one pair after another.
 --
--- `rows_of` are the rows of a list of pairs. `ClosureLaws` says that one pair more grows them so (`grown-rows-are`), and that a
--- row tells dominance (`row-dominates-is`) and the service account (`row-account-is`).
+-- `rows_of` are the rows of a list of pairs. `ClosureLaws` says that one pair more grows them so (`grown_rows_are`), and that a
+-- row tells dominance (`row_dominates_is`) and the service account (`row_account_is`).
 use Rattle.std.specs.Prelude.{List, [], ◌∷◌, map, Bool, false, cond, ℕ, zero, suc, ◌+◌, ◌*◌, ◌/◌, ◌%◌, ◌^◌, eqb, get_or}
 use Rattle.std.specs.Int.Bits.{bit_or}
 use Rattle.accounts.specs.declared.Role.{Role}
@@ -10,10 +10,10 @@ use Rattle.accounts.specs.declared.Session.{Session}
 use Rattle.accounts.specs.declared.Session.TheVariants.{Nobody, As}
 use Rattle.accounts.specs.declared.Account.{Account}
 use Rattle.accounts.specs.Dominance.{dominates}
-use Rattle.accounts.specs.Service.{service-uid}
+use Rattle.accounts.specs.Service.{service_uid}
 
-unfoldable pub has-role : ℕ → Role → Bool
-has-role row r = eqb (row / 2 ^ r.0 % 2) 1
+unfoldable pub has_role : ℕ → Role → Bool
+has_role row r = eqb (row / 2 ^ r.0 % 2) 1
 
 -- a row of the roles below k that pass a test
 unfoldable pub row_of : (Role → Bool) → ℕ → ℕ
@@ -21,31 +21,31 @@ row_of test zero = 0
 row_of test (suc k) = let rest = row_of test k in cond (test (record { 0 = k })) (2 ^ k + rest) rest
 
 -- the rows of the roles from k on, as many as n
-unfoldable pub rows-from : List Pair → ℕ → ℕ → List ℕ
-rows-from ps k zero = []
-rows-from ps k (suc n) = row_of (dominates ps (record { 0 = k })) 8 ∷ rows-from ps (suc k) n
+unfoldable pub rows_from : List Pair → ℕ → ℕ → List ℕ
+rows_from ps k zero = []
+rows_from ps k (suc n) = row_of (dominates ps (record { 0 = k })) 8 ∷ rows_from ps (suc k) n
 
 unfoldable pub rows_of : List Pair → List ℕ
-rows_of ps = rows-from ps 0 8
+rows_of ps = rows_from ps 0 8
 
 -- without pairs each role has its own bit alone
-unfoldable pub own-rows : List ℕ
-own-rows = 1 ∷ 2 ∷ 4 ∷ 8 ∷ 16 ∷ 32 ∷ 64 ∷ 128 ∷ []
+unfoldable pub own_rows : List ℕ
+own_rows = 1 ∷ 2 ∷ 4 ∷ 8 ∷ 16 ∷ 32 ∷ 64 ∷ 128 ∷ []
 
-unfoldable pub grown-row : Role → ℕ → ℕ → ℕ
-grown-row senior add row = cond (has-role row senior) (bit_or row add) row
+unfoldable pub grown_row : Role → ℕ → ℕ → ℕ
+grown_row senior add row = cond (has_role row senior) (bit_or row add) row
 
 -- every row that has the senior takes the junior's
-unfoldable pub grown-rows : Pair → List ℕ → List ℕ
-grown-rows p rows = map (grown-row p.senior (get_or rows p.junior.0 0)) rows
+unfoldable pub grown_rows : Pair → List ℕ → List ℕ
+grown_rows p rows = map (grown_row p.senior (get_or rows p.junior.0 0)) rows
 
-unfoldable pub row-dominates : List ℕ → Role → Role → Bool
-row-dominates rows s r = has-role (get_or rows s.0 0) r
+unfoldable pub row_dominates : List ℕ → Role → Role → Bool
+row_dominates rows s r = has_role (get_or rows s.0 0) r
 
 -- group 24, and group 16 + r for each bit r of the row
-unfoldable pub row-account : List ℕ → Role → Account
-row-account rows z = record { uid = service-uid z; groups = record { 0 = 16777216 + 65536 * get_or rows z.0 0 } }
+unfoldable pub row_account : List ℕ → Role → Account
+row_account rows z = record { uid = service_uid z; groups = record { 0 = 16777216 + 65536 * get_or rows z.0 0 } }
 
-unfoldable pub session-dominates : Session → List ℕ → Role → Bool
-session-dominates Nobody rows r = false
-session-dominates (As z) rows r = row-dominates rows z r
+unfoldable pub session_dominates : Session → List ℕ → Role → Bool
+session_dominates Nobody rows r = false
+session_dominates (As z) rows r = row_dominates rows z r

@@ -1,8 +1,8 @@
 // Accounts, groups and roles: numbers that name separate things even when they are equal.
 ghost use Rattle.std.specs.Prelude.{◌≡◌, true, false, ◌<◌, ◌^◌};
-ghost use Rattle.accounts.specs.Groups.{member, no-groups, with-group};
-ghost use Rattle.accounts.specs.Access.{is-root, same-uid, grants, may};
-ghost use Rattle.accounts.specs.Closure.{has-role, own-rows, grown-row, grown-rows, row-dominates, row-account, session-dominates};
+ghost use Rattle.accounts.specs.Groups.{member, no_groups, with_group};
+ghost use Rattle.accounts.specs.Access.{is_root, same_uid, grants, may};
+ghost use Rattle.accounts.specs.Closure.{has_role, own_rows, grown_row, grown_rows, row_dominates, row_account, session_dominates};
 
 // An account: root is 0, persons are 1 to 15, the service account of role r is 16 + r.
 #[derive(Drop)]
@@ -80,7 +80,7 @@ fn bit(g: Gid) -> u32
 impl Groups {
     // The empty set.
     pub fn empty() -> Self
-        ensures { result ≡ no-groups }
+        ensures { result ≡ no_groups }
     {
         Groups(0)
     }
@@ -88,7 +88,7 @@ impl Groups {
     // The set with one group more.
     pub fn with(self, g: Gid) -> Self
         requires { g.0 < 32 }
-        ensures { result ≡ with-group g self }
+        ensures { result ≡ with_group g self }
     {
         Groups(self.0 | bit(g))
     }
@@ -107,14 +107,14 @@ impl Groups {
 impl Uid {
     // Whether it is root's.
     pub fn is_root(self) -> bool
-        ensures { result ≡ is-root self }
+        ensures { result ≡ is_root self }
     {
         self.0 == 0
     }
 
     // Whether it is the same account's as another.
     pub fn is(self, other: Uid) -> bool
-        ensures { result ≡ same-uid self other }
+        ensures { result ≡ same_uid self other }
     {
         self.0 == other.0
     }
@@ -163,7 +163,7 @@ fn wide(row: u8) -> u32
 
 // Whether a row has a role's bit; none from 8 on has.
 fn has_role(row: u8, role: Role) -> bool
-    ensures { result ≡ has-role row role }
+    ensures { result ≡ has_role row role }
 {
     let k = role.0;
     if 8 <= k {
@@ -174,7 +174,7 @@ fn has_role(row: u8, role: Role) -> bool
 
 // A row that has the senior takes what the junior's row has.
 fn grown_row(row: u8, senior: Role, add: u8) -> u8
-    ensures { result ≡ grown-row senior add row }
+    ensures { result ≡ grown_row senior add row }
 {
     if has_role(row, senior) {
         return row | add;
@@ -185,7 +185,7 @@ fn grown_row(row: u8, senior: Role, add: u8) -> u8
 impl Dominance {
     // Without pairs each role dominates itself alone.
     pub fn own() -> Self
-        ensures { result.rows ≡ own-rows }
+        ensures { result.rows ≡ own_rows }
     {
         Dominance {
             rows: [1, 2, 4, 8, 16, 32, 64, 128],
@@ -194,7 +194,7 @@ impl Dominance {
 
     // One pair more: every role that dominates the senior dominates what the junior does.
     pub fn with(self, pair: Pair) -> Self
-        ensures { result.rows ≡ grown-rows pair self.rows }
+        ensures { result.rows ≡ grown_rows pair self.rows }
     {
         let senior = pair.senior;
         let junior = pair.junior;
@@ -214,7 +214,7 @@ impl Dominance {
 
     // Whether a role dominates another.
     pub fn dominates(self, s: Role, r: Role) -> bool
-        ensures { result ≡ row-dominates self.rows s r }
+        ensures { result ≡ row_dominates self.rows s r }
     {
         let k = s.0 as usize;
         if 8 <= k {
@@ -227,7 +227,7 @@ impl Dominance {
     // The service account of a role: 16 + z, in group 24 and in the groups of the roles that z dominates.
     pub fn account(self, z: Role) -> Account
         requires { z.0 < 8 }
-        ensures { result ≡ row-account self.rows z }
+        ensures { result ≡ row_account self.rows z }
     {
         let k = z.0 as usize;
         let rows = self.rows;
@@ -255,7 +255,7 @@ impl Session {
 
     // Whether the session's role dominates a role; without a session none is dominated.
     pub fn dominates(self, d: Dominance, role: Role) -> bool
-        ensures { result ≡ session-dominates self d.rows role }
+        ensures { result ≡ session_dominates self d.rows role }
     {
         match self {
             Session::Nobody => false,

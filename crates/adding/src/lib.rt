@@ -1,18 +1,18 @@
 // `add`: what stands at a path is filed as a new entry.
 ghost use Rattle.std.specs.Prelude.{◌≡◌, ◌≤◌, ◌<◌, length};
 ghost use Rattle.std.proofs.Math.Option.{some};
-ghost use Rattle.accounts.specs.Dominance.{Bounded-role};
-ghost use Rattle.syntax.specs.Path.{Path, Entry-path, entry-location, path, entry-path};
-ghost use Rattle.tree.specs.Layout.{row-width, name-width};
-ghost use Rattle.tree.specs.Encoding.{row-bytes, encode-tree};
+ghost use Rattle.accounts.specs.Dominance.{BoundedRole};
+ghost use Rattle.syntax.specs.Path.{Path, EntryPath, entry_location, path, entry_path};
+ghost use Rattle.tree.specs.Layout.{row_width, name_width};
+ghost use Rattle.tree.specs.Encoding.{row_bytes, encode_tree};
 ghost use Rattle.tree.specs.RowAt.{row_at};
-ghost use Rattle.tree.specs.TreeBytes.{Has-row, Whole, Path-text, Whichever, Entry-path-text, Whichever-entry};
+ghost use Rattle.tree.specs.TreeBytes.{HasRow, Whole, PathText, Whichever, EntryPathText, WhicheverEntry};
 ghost use Rattle.walks.specs.RowWalk.{spot, outcome};
-ghost use Rattle.gaps.specs.Gaps.{gap_from, gap-told};
-ghost use Rattle.machine.specs.StoreMachine.{entry-mode};
-ghost use Rattle.walks.specs.WalkBytes.{spot-from};
+ghost use Rattle.gaps.specs.Gaps.{gap_from, gap_told};
+ghost use Rattle.machine.specs.StoreMachine.{entry_mode};
+ghost use Rattle.walks.specs.WalkBytes.{spot_from};
 ghost use Rattle.entries.specs.EntrySteps.{passing};
-ghost use Rattle.adding.specs.AddSteps.{add-tests, add-walk, add-room, after-add, fresh-entry, filled-node, Addition, Adds};
+ghost use Rattle.adding.specs.AddSteps.{add_tests, add_walk, add_room, after_add, fresh_entry, filled_node, Addition, Adds};
 
 use accounts::{Account, Caller, Gid, Role, Uid};
 use buffers::{clear, write_padded};
@@ -34,8 +34,8 @@ const SERVICE: u8 = 16;
 
 // Whether a person may add a node: the owner or root, with the right to read it, and in a session whose role dominates the entry's.
 fn judge_add(tree: &[u8], person: Account, dominated: bool, row: usize, above: usize) -> Walked
-    requires { Has-row tree.now row }
-    ensures { outcome result ≡ passing (add-tests person dominated (row_at tree.now row).here) (spot row above) }
+    requires { HasRow tree.now row }
+    ensures { outcome result ≡ passing (add_tests person dominated (row_at tree.now row).here) (spot row above) }
 {
     if !owns_at(tree, row, person) {
         return Walked::Refused(Cause::Reserved);
@@ -52,8 +52,8 @@ fn judge_add(tree: &[u8], person: Account, dominated: bool, row: usize, above: u
 // The person's walk to what is added.
 fn walk_add(tree: &[u8], person: Account, dominated: bool, working: &[u8]) -> Walked
     requires whole { Whole tree.now }
-    requires path_text { Path-text working.now }
-    ensures { Whichever tree.now working.now (λ t w. outcome result ≡ spot-from t w (add-walk person dominated t w)) }
+    requires path_text { PathText working.now }
+    ensures { Whichever tree.now working.now (λ t w. outcome result ≡ spot_from t w (add_walk person dominated t w)) }
 {
     match walk(tree, person, working) {
         Walked::To { row, above } => judge_add(tree, person, dominated, row, above),
@@ -64,9 +64,9 @@ fn walk_add(tree: &[u8], person: Account, dominated: bool, working: &[u8]) -> Wa
 // Where the account may put the entry in: room at its path, and fewer than 256 nodes.
 fn entry_room(tree: &[u8], account: Account, entry: &[u8]) -> Room
     requires whole { Whole tree.now }
-    requires entry_path_text { Entry-path-text entry.now }
-    ensures { Whichever-entry tree.now entry.now (λ t e.
-        gap-told result ≡ gap_from t (entry-location e) (add-room account t e)) }
+    requires entry_path_text { EntryPathText entry.now }
+    ensures { WhicheverEntry tree.now entry.now (λ t e.
+        gap_told result ≡ gap_from t (entry_location e) (add_room account t e)) }
 {
     match room_for(tree, account, entry) {
         Room::Refused(cause) => Room::Refused(cause),
@@ -81,7 +81,7 @@ fn entry_room(tree: &[u8], account: Account, entry: &[u8]) -> Room
 
 // A file's entry is 0440, a directory's 0770.
 fn entry_mode(kind: Kind) -> u16
-    ensures { result ≡ entry-mode kind }
+    ensures { result ≡ entry_mode kind }
 {
     match kind {
         Kind::File => 0o440,
@@ -92,7 +92,7 @@ fn entry_mode(kind: Kind) -> u16
 // A new entry of a role, without its content.
 fn new_entry(kind: Kind, role: Role) -> Fresh
     requires { role.0 < 8 }
-    ensures { result ≡ fresh-entry kind role }
+    ensures { result ≡ fresh_entry kind role }
 {
     let number = SERVICE + role.0;
     let mode = entry_mode(kind);
@@ -107,13 +107,13 @@ fn new_entry(kind: Kind, role: Role) -> Fresh
 
 // Writes the row of a new node that has the content of the node at another row.
 fn write_entry(tree: &[u8], working: usize, depth: u8, name: &[u8], node: Fresh, row: &mut [u8])
-    requires has_row { Has-row tree.now working }
-    requires name_len_bound { length name.now ≤ name-width }
-    requires row_len { length row.old ≡ row-width }
-    ensures { row.new ≡ row-bytes (record {
+    requires has_row { HasRow tree.now working }
+    requires name_len_bound { length name.now ≤ name_width }
+    requires row_len { length row.old ≡ row_width }
+    ensures { row.new ≡ row_bytes (record {
       depth = depth;
       name = name.now;
-      here = filled-node node (row_at tree.now working).here.content;
+      here = filled_node node (row_at tree.now working).here.content;
     }) }
 {
     write_head(row, 0, depth, node);
@@ -126,8 +126,8 @@ fn write_entry(tree: &[u8], working: usize, depth: u8, name: &[u8], node: Fresh,
 fn file_entry(tree: &mut [u8], working: usize, at: usize, depth: u8, entry: &[u8], role: Role)
     requires addition { Addition tree.old entry.now working at depth }
     requires role_bound { role.0 < 8 }
-    ensures { (j : Addition tree.old entry.now working at depth) (z : Bounded-role) → z.role ≡ role
-        → tree.new ≡ encode-tree (after-add j.top j.path j.filed z j.found) }
+    ensures { (j : Addition tree.old entry.now working at depth) (z : BoundedRole) → z.role ≡ role
+        → tree.new ≡ encode_tree (after_add j.top j.path j.filed z j.found) }
 {
     let kind = kind_at(tree, working);
     let node = new_entry(kind, role);
@@ -148,10 +148,10 @@ pub fn add(
     role: Role,
 ) -> Answer
     requires whole { Whole tree.old }
-    requires path_text { Path-text working.now }
-    requires entry_path_text { Entry-path-text entry.now }
+    requires path_text { PathText working.now }
+    requires entry_path_text { EntryPathText entry.now }
     requires role_bound { role.0 < 8 }
-    ensures { (w : Path) (e : Entry-path) → path working.now ≡ some w → entry-path entry.now ≡ some e
+    ensures { (w : Path) (e : EntryPath) → path working.now ≡ some w → entry_path entry.now ≡ some e
         → Adds tree.old caller account dominated role w e result tree.new }
 {
     let person = caller.account;

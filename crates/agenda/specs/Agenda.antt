@@ -7,7 +7,7 @@ use Rattle.tree.specs.declared.Cause.TheVariants.{Missing}
 use Rattle.tree.specs.Causes.{number}
 use Rattle.shell.specs.declared.Answer.TheVariants.{WrongLine}
 use Rattle.shell.specs.Replies.{Told, told}
-use Rattle.calls.specs.Program.{text-told, refused-line, call_line}
+use Rattle.calls.specs.Program.{text_told, refused_line, call_line}
 use Rattle.agenda.specs.declared.NextLine.{NextLine}
 use Rattle.agenda.specs.declared.NextLine.TheVariants as found
 use Rattle.agenda.specs.declared.Phase.{Phase}
@@ -21,42 +21,42 @@ use Rattle.agenda.specs.declared.Step.{Step}
 use Rattle.agenda.specs.declared.Step.TheVariants as step
 use Rattle.agenda.specs.declared.Asked.{Asked}
 use Rattle.agenda.specs.declared.Asked.TheVariants as asked
-use Rattle.agenda.specs.InputLines.{next-line}
+use Rattle.agenda.specs.InputLines.{next_line}
 
 -- a place lies in a window of so many bytes
-pub record Place-held (at : Place) (n : ℕ) : Type 0 where
+pub record PlaceHeld (at : Place) (n : ℕ) : Type 0 where
   pub wide : n ≡ 65536
   pub ordered : at.from ≤ at.to
   pub within : at.to ≤ n
 
 -- the bytes that a call is made with lie in it
-abbrev pub Call-held : Call → ℕ → Type 0
-Call-held (call.Run a e) n = (a ≤ e) × (e ≤ n)
-Call-held (call.List k) n = Unit {0}
+abbrev pub CallHeld : Call → ℕ → Type 0
+CallHeld (call.Run a e) n = (a ≤ e) × (e ≤ n)
+CallHeld (call.List k) n = Unit {0}
 
 -- what is to be done stays in it
-abbrev pub Next-held : Next → ℕ → Type 0
-Next-held (next.Line e kind lines) n = e < n
-Next-held (next.Wrong lines) n = Unit {0}
-Next-held (next.Call c then) n = Call-held c n × Place-held then n
-Next-held (next.On at) n = Place-held at n
-Next-held next.Read n = Unit {0}
-Next-held next.Over n = Unit {0}
+abbrev pub NextHeld : Next → ℕ → Type 0
+NextHeld (next.Line e kind lines) n = e < n
+NextHeld (next.Wrong lines) n = Unit {0}
+NextHeld (next.Call c then) n = CallHeld c n × PlaceHeld then n
+NextHeld (next.On at) n = PlaceHeld at n
+NextHeld next.Read n = Unit {0}
+NextHeld next.Over n = Unit {0}
 
 -- behind the setup
-abbrev pub Set-up : Phase → Type 0
-Set-up (phase.Setup kind lines) = ⊥
-Set-up phase.Lines = Unit {0}
-Set-up (phase.Listing n) = Unit {0}
+abbrev pub SetUp : Phase → Type 0
+SetUp (phase.Setup kind lines) = ⊥
+SetUp phase.Lines = Unit {0}
+SetUp (phase.Listing n) = Unit {0}
 
 -- what a turn may rely on, from a place
-abbrev pub Next-leads : Next → Place → Type 0
-Next-leads (next.Line e kind lines) at = (at.phase ≡ phase.Setup kind lines) × ((at.from ≤ e) × (e < at.to))
-Next-leads (next.Wrong lines) at = (kind : ℕ) × (at.phase ≡ phase.Setup kind lines)
-Next-leads (next.Call c then) at = Set-up then.phase
-Next-leads (next.On then) at = Set-up then.phase
-Next-leads next.Read at = Unit {0}
-Next-leads next.Over at = Unit {0}
+abbrev pub NextLeads : Next → Place → Type 0
+NextLeads (next.Line e kind lines) at = (at.phase ≡ phase.Setup kind lines) × ((at.from ≤ e) × (e < at.to))
+NextLeads (next.Wrong lines) at = (kind : ℕ) × (at.phase ≡ phase.Setup kind lines)
+NextLeads (next.Call c then) at = SetUp then.phase
+NextLeads (next.On then) at = SetUp then.phase
+NextLeads next.Read at = Unit {0}
+NextLeads next.Over at = Unit {0}
 
 -- ---- places
 
@@ -65,36 +65,36 @@ abbrev pub lines_from : Place → ℕ → Place
 lines_from at p = record { from = p; to = at.to; ended = at.ended; passing = false; phase = phase.Lines }
 
 -- at a line of the listing
-abbrev pub listed-from : Place → ℕ → Place
-listed-from at n = record { from = at.from; to = at.to; ended = at.ended; passing = false; phase = phase.Listing n }
+abbrev pub listed_from : Place → ℕ → Place
+listed_from at n = record { from = at.from; to = at.to; ended = at.ended; passing = false; phase = phase.Listing n }
 
 -- where all that has been read belongs to a line that has been answered
-abbrev pub passing-from : ℕ → Place
-passing-from p = record { from = p; to = p; ended = false; passing = true; phase = phase.Lines }
+abbrev pub passing_from : ℕ → Place
+passing_from p = record { from = p; to = p; ended = false; passing = true; phase = phase.Lines }
 
 -- when so many bytes have been read behind those that are left, which stand at the window's front
-abbrev pub read-place : Place → ℕ → Place
-read-place at got = record { from = 0; to = (at.to - at.from) + got; ended = eqb got 0; passing = at.passing; phase = at.phase }
+abbrev pub read_place : Place → ℕ → Place
+read_place at got = record { from = 0; to = (at.to - at.from) + got; ended = eqb got 0; passing = at.passing; phase = at.phase }
 
 -- ---- the setup
 
 -- behind a setup line of a kind, with how many lines there were
-abbrev pub setup-from : Place → ℕ → ℕ → ℕ → Place
-setup-from at p kind lines = record { from = p; to = at.to; ended = at.ended; passing = false; phase = phase.Setup kind lines }
+abbrev pub setup_from : Place → ℕ → ℕ → ℕ → Place
+setup_from at p kind lines = record { from = p; to = at.to; ended = at.ended; passing = false; phase = phase.Setup kind lines }
 
 -- a line whose end has not been read: no good line fills a window of so many bytes
-unfoldable pub open-line : ℕ → Place → ℕ → Next
-open-line n at lines = cond (ltb (at.to - at.from) n) next.Read (next.Wrong lines)
+unfoldable pub open_line : ℕ → Place → ℕ → Next
+open_line n at lines = cond (ltb (at.to - at.from) n) next.Read (next.Wrong lines)
 
 -- by what the next line is; one without byte 10 is wrong, and so is none
-unfoldable pub found-setup-line : ℕ → Place → ℕ → ℕ → NextLine → Next
-found-setup-line n at kind lines (found.Line end) = next.Line end kind lines
-found-setup-line n at kind lines found.Last = next.Wrong lines
-found-setup-line n at kind lines found.More = open-line n at lines
-found-setup-line n at kind lines found.Nothing = next.Wrong lines
+unfoldable pub found_setup_line : ℕ → Place → ℕ → ℕ → NextLine → Next
+found_setup_line n at kind lines (found.Line end) = next.Line end kind lines
+found_setup_line n at kind lines found.Last = next.Wrong lines
+found_setup_line n at kind lines found.More = open_line n at lines
+found_setup_line n at kind lines found.Nothing = next.Wrong lines
 
-unfoldable pub setup-next : Text → Place → ℕ → ℕ → Next
-setup-next t at kind lines = found-setup-line (length t) at kind lines (next-line (take at.to t) at.from at.ended)
+unfoldable pub setup_next : Text → Place → ℕ → ℕ → Next
+setup_next t at kind lines = found_setup_line (length t) at kind lines (next_line (take at.to t) at.from at.ended)
 
 -- ---- the command lines
 
@@ -104,47 +104,47 @@ taken at end rest = cond at.passing (next.On rest) (next.Call (call.Run at.from 
 
 -- a line whose end has not been read: of one that fills the window the first bytes stand for the whole
 unfoldable pub unended : ℕ → Place → Next
-unended n at = cond (ltb (at.to - at.from) n) next.Read (taken at at.to (passing-from at.to))
+unended n at = cond (ltb (at.to - at.from) n) next.Read (taken at at.to (passing_from at.to))
 
 -- by what the next line is
-unfoldable pub found-line : ℕ → Place → NextLine → Next
-found-line n at (found.Line end) = taken at end (lines_from at (suc end))
-found-line n at found.Last = taken at at.to (lines_from at at.to)
-found-line n at found.More = unended n at
-found-line n at found.Nothing = next.On (listed-from at 0)
+unfoldable pub found_line : ℕ → Place → NextLine → Next
+found_line n at (found.Line end) = taken at end (lines_from at (suc end))
+found_line n at found.Last = taken at at.to (lines_from at at.to)
+found_line n at found.More = unended n at
+found_line n at found.Nothing = next.On (listed_from at 0)
 
-unfoldable pub line-next : Text → Place → Next
-line-next t at = found-line (length t) at (next-line (take at.to t) at.from at.ended)
+unfoldable pub line_next : Text → Place → Next
+line_next t at = found_line (length t) at (next_line (take at.to t) at.from at.ended)
 
 -- ---- the listing
 
 -- 256 nodes have a line each, and one call more says that there is none
-unfoldable pub list-next : Place → ℕ → Next
-list-next at n = cond (ltb n 257) (next.Call (call.List n) (listed-from at (suc n))) next.Over
+unfoldable pub list_next : Place → ℕ → Next
+list_next at n = cond (ltb n 257) (next.Call (call.List n) (listed_from at (suc n))) next.Over
 
 -- ---- all phases
 
-unfoldable pub by-phase : Text → Place → Phase → Next
-by-phase t at (phase.Setup kind lines) = setup-next t at kind lines
-by-phase t at phase.Lines = line-next t at
-by-phase t at (phase.Listing n) = list-next at n
+unfoldable pub by_phase : Text → Place → Phase → Next
+by_phase t at (phase.Setup kind lines) = setup_next t at kind lines
+by_phase t at phase.Lines = line_next t at
+by_phase t at (phase.Listing n) = list_next at n
 
 unfoldable pub next_of : Text → Place → Next
-next_of t at = by-phase t at at.phase
+next_of t at = by_phase t at at.phase
 
 -- ---- what is printed, and whether the program goes on
 
 -- of a setup the number of its first wrong line
 unfoldable pub refusal : ℕ → Text
-refusal n = refused-line (told (WrongLine n)) ++ (newline ∷ [])
+refusal n = refused_line (told (WrongLine n)) ++ (newline ∷ [])
 
 -- of the listing a line that is there
-unfoldable pub list-report : Told → List ℕ → Text
-list-report t answer = cond (eqb (number Missing) t.number) [] (text-told t.values answer ++ (newline ∷ []))
+unfoldable pub list_report : Told → List ℕ → Text
+list_report t answer = cond (eqb (number Missing) t.number) [] (text_told t.values answer ++ (newline ∷ []))
 
-unfoldable pub report-text : Call → Told → List ℕ → Text
-report-text (call.Run a e) t answer = call_line t answer ++ (newline ∷ [])
-report-text (call.List n) t answer = list-report t answer
+unfoldable pub report_text : Call → Told → List ℕ → Text
+report_text (call.Run a e) t answer = call_line t answer ++ (newline ∷ [])
+report_text (call.List n) t answer = list_report t answer
 
 -- behind every command line, and a line of the listing that is there
 unfoldable pub goes_on : Call → Told → Bool
@@ -154,19 +154,19 @@ goes_on (call.List n) t = not (eqb (number Missing) t.number)
 -- ---- what a turn comes to
 
 -- a number that `read` answered counts no more bytes than the window has room for behind those that are left
-abbrev pub Read-fits : Place → ℤ → Type 0
-Read-fits at (pos n) = (at.to - at.from) + n ≤ 65536
-Read-fits at (negsuc n) = Unit {0}
+abbrev pub ReadFits : Place → ℤ → Type 0
+ReadFits at (pos n) = (at.to - at.from) + n ≤ 65536
+ReadFits at (negsuc n) = Unit {0}
 
 -- a negative one is a failure, any other counts the bytes that were read
 unfoldable pub read_step : Place → ℤ → Step
-read_step at (pos n) = step.On (read-place at n)
+read_step at (pos n) = step.On (read_place at n)
 read_step at (negsuc n) = step.Failed
 
 -- a report that was not printed is a failure; behind one that was, the program goes on from a place if there is more to do
-unfoldable pub print-step : Bool → Bool → Place → Step
-print-step false more then = step.Failed
-print-step true more then = cond more (step.On then) step.Ended
+unfoldable pub print_step : Bool → Bool → Place → Step
+print_step false more then = step.Failed
+print_step true more then = cond more (step.On then) step.Ended
 
 -- ---- what the program is asked for
 

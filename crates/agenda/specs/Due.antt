@@ -2,15 +2,15 @@
 use Rattle.std.specs.Prelude.{◌≡◌, List, [], ◌∷◌, Bool, true, false, cond, ℕ, suc, ◌+◌, ◌-◌, ◌≤◌, length}
 use Rattle.buffers.specs.Text.{Text}
 use Rattle.syntax.specs.Pieces.{newline, pieces}
-use Rattle.setup.specs.Setup.{is-setup}
-use Rattle.store.specs.StoreBytes.{setup-of}
-use Rattle.calls.specs.Transcript.{command-lines, lines-text}
-use Rattle.calls.specs.Program.{list-lines, run-and-list}
-use Rattle.calls.specs.ProgramByLines.{program-from}
+use Rattle.setup.specs.Setup.{is_setup}
+use Rattle.store.specs.StoreBytes.{setup_of}
+use Rattle.calls.specs.Transcript.{command_lines, lines_text}
+use Rattle.calls.specs.Program.{list_lines, run_and_list}
+use Rattle.calls.specs.ProgramByLines.{program_from}
 use Rattle.agenda.specs.declared.Phase.{Phase}
 use Rattle.agenda.specs.declared.Phase.TheVariants.{Setup, Lines, Listing}
 use Rattle.agenda.specs.declared.Place.{Place}
-use Rattle.agenda.specs.Agenda.{Place-held}
+use Rattle.agenda.specs.Agenda.{PlaceHeld}
 use Rattle.agenda.specs.Conversation.{Talk, ahead}
 
 -- all but the first
@@ -19,14 +19,14 @@ past_first [] = []
 past_first (p ∷ ps) = ps
 
 -- the command lines of what is ahead; where its first belongs to a line that has been answered, those behind it
-unfoldable pub lines-due : Bool → List Text → List Text
-lines-due false ps = command-lines ps
-lines-due true ps = command-lines (past_first ps)
+unfoldable pub lines_due : Bool → List Text → List Text
+lines_due false ps = command_lines ps
+lines_due true ps = command_lines (past_first ps)
 
 unfoldable pub due_in : Talk → Phase → Text
-due_in s (Setup kind lines) = program-from s.answer lines (record { kind = kind; so_far = setup-of s.store }) (pieces newline (ahead s.at s.window s.unread))
-due_in s Lines = run-and-list s.store s.answer (lines-due s.at.passing (pieces newline (ahead s.at s.window s.unread)))
-due_in s (Listing n) = lines-text (list-lines (257 - n) s.store s.answer n)
+due_in s (Setup kind lines) = program_from s.answer lines (record { kind = kind; so_far = setup_of s.store }) (pieces newline (ahead s.at s.window s.unread))
+due_in s Lines = run_and_list s.store s.answer (lines_due s.at.passing (pieces newline (ahead s.at s.window s.unread)))
+due_in s (Listing n) = lines_text (list_lines (257 - n) s.store s.answer n)
 
 unfoldable pub due : Talk → Text
 due s = due_in s s.at.phase
@@ -41,21 +41,21 @@ later (Setup kind lines) = 260
 later Lines = 259
 later (Listing n) = suc (257 - n)
 
-abbrev pub turns-due : Place → ℕ → ℕ
-turns-due at unread = busy at unread + later at.phase
+abbrev pub turns_due : Place → ℕ → ℕ
+turns_due at unread = busy at unread + later at.phase
 
 -- in the setup the store's header holds a setup in range
 abbrev pub Ready : Talk → Phase → Type 0
-Ready s (Setup kind lines) = is-setup (setup-of s.store) ≡ true
+Ready s (Setup kind lines) = is_setup (setup_of s.store) ≡ true
 Ready s Lines = Unit {0}
 Ready s (Listing n) = Unit {0}
 
 -- what holds of a run at every turn
 pub record Talking (s : Talk) : Type 0 where
-  pub held : Place-held s.at (length s.window)
+  pub held : PlaceHeld s.at (length s.window)
   pub over : s.at.ended ≡ true → s.unread ≡ []
   pub ready : Ready s s.at.phase
 
 -- what is printed at every place is what is due there, if so many turns are enough
 abbrev pub Prints : (Talk → Text) → ℕ → Type 0
-Prints f m = (s : Talk) → Talking s → turns-due s.at (length s.unread) ≤ m → f s ≡ due s
+Prints f m = (s : Talk) → Talking s → turns_due s.at (length s.unread) ≤ m → f s ≡ due s

@@ -1,6 +1,6 @@
 // What is to be done next in the command lines: the next line is run, unless it has been answered, or more of it is read.
 ghost use Rattle.std.specs.Prelude.{◌≡◌, length};
-ghost use Rattle.agenda.specs.Agenda.{Place-held, lines_from, listed-from, taken, unended, line-next};
+ghost use Rattle.agenda.specs.Agenda.{PlaceHeld, lines_from, listed_from, taken, unended, line_next};
 
 use crate::input::next_line;
 use crate::{Call, Next, NextLine, Phase, Place};
@@ -20,7 +20,7 @@ pub fn lines_from(at: Place, from: usize) -> Place
 
 // The place at a line of the listing.
 pub fn listed_from(at: Place, n: usize) -> Place
-    ensures { result ≡ listed-from at n }
+    ensures { result ≡ listed_from at n }
 {
     Place {
         from: at.from,
@@ -48,7 +48,7 @@ fn taken(at: Place, end: usize, rest: Place) -> Next
 // What to do with a line whose end has not been read. One that fills the window is too long for any form, as its first bytes are: these
 // are run, and the others passed over.
 fn unended(window: &[u8], at: Place) -> Next
-    requires { Place-held at (length window.now) }
+    requires { PlaceHeld at (length window.now) }
     ensures { result ≡ unended (length window.now) at }
 {
     let to = at.to;
@@ -67,8 +67,8 @@ fn unended(window: &[u8], at: Place) -> Next
 
 // What to do in the command lines.
 pub fn line_next(window: &[u8], at: Place) -> Next
-    requires { Place-held at (length window.now) }
-    ensures { result ≡ line-next window.now at }
+    requires { PlaceHeld at (length window.now) }
+    ensures { result ≡ line_next window.now at }
 {
     let from = at.from;
     let to = at.to;

@@ -2,7 +2,7 @@
 ghost use Rattle.std.specs.Prelude.{◌≡◌, ◌+◌, ◌≤◌, length};
 ghost use Rattle.shell.specs.Replies.{told};
 ghost use Rattle.printing.specs.Printed.{Printed};
-ghost use Rattle.agenda.specs.Agenda.{refusal, list-report, report-text, goes_on, print-step};
+ghost use Rattle.agenda.specs.Agenda.{refusal, list_report, report_text, goes_on, print_step};
 
 use crate::{Call, Place, Step};
 use printing::{is_missing, write_listed, write_reply};
@@ -19,7 +19,7 @@ pub fn refuse(line: usize, answer: &[u8], out: &mut [u8]) -> usize
 // Writes a line of the listing, where there is one.
 fn report_listed(r: Answer, answer: &[u8], out: &mut [u8]) -> usize
     requires { length answer.now + 32 ≤ length out.old }
-    ensures { Printed (list-report (told r) answer.now) out.old out.new result }
+    ensures { Printed (list_report (told r) answer.now) out.old out.new result }
 {
     if is_missing(r) {
         return 0;
@@ -30,7 +30,7 @@ fn report_listed(r: Answer, answer: &[u8], out: &mut [u8]) -> usize
 // Writes what is printed for a call's answer in front of a buffer, and tells its length.
 pub fn report(call: Call, r: Answer, answer: &[u8], out: &mut [u8]) -> usize
     requires { length answer.now + 32 ≤ length out.old }
-    ensures { Printed (report-text call (told r) answer.now) out.old out.new result }
+    ensures { Printed (report_text call (told r) answer.now) out.old out.new result }
 {
     match call {
         Call::Run { from: _, end: _ } => write_reply(r, answer, out),
@@ -50,7 +50,7 @@ pub fn goes_on(call: Call, r: Answer) -> bool
 
 // What a turn that prints comes to, by whether its report was printed and whether there is more to do behind it.
 pub fn after_print(printed: bool, more: bool, then: Place) -> Step
-    ensures { result ≡ print-step printed more then }
+    ensures { result ≡ print_step printed more then }
 {
     if !printed {
         return Step::Failed;

@@ -1,6 +1,6 @@
 // What is to be done next, by the phase that the program is in.
 ghost use Rattle.std.specs.Prelude.{◌≡◌, ◌+◌, ◌-◌, ◌≤◌, length};
-ghost use Rattle.agenda.specs.Agenda.{Place-held, Read-fits, open-line, setup-next, list-next, next_of, setup-from, read-place, read_step};
+ghost use Rattle.agenda.specs.Agenda.{PlaceHeld, ReadFits, open_line, setup_next, list_next, next_of, setup_from, read_place, read_step};
 
 use crate::input::next_line;
 use crate::lines_ahead::{line_next, listed_from};
@@ -8,8 +8,8 @@ use crate::{Call, Next, NextLine, Phase, Place, Step};
 
 // What to do with a setup line whose end has not been read: no good line fills the window.
 fn open_line(window: &[u8], at: Place, lines: usize) -> Next
-    requires { Place-held at (length window.now) }
-    ensures { result ≡ open-line (length window.now) at lines }
+    requires { PlaceHeld at (length window.now) }
+    ensures { result ≡ open_line (length window.now) at lines }
 {
     if at.to - at.from < window.len() {
         return Next::Read;
@@ -19,8 +19,8 @@ fn open_line(window: &[u8], at: Place, lines: usize) -> Next
 
 // What to do in the setup.
 fn setup_next(window: &[u8], at: Place, kind: u8, lines: usize) -> Next
-    requires { Place-held at (length window.now) }
-    ensures { result ≡ setup-next window.now at kind lines }
+    requires { PlaceHeld at (length window.now) }
+    ensures { result ≡ setup_next window.now at kind lines }
 {
     let from = at.from;
     let to = at.to;
@@ -34,7 +34,7 @@ fn setup_next(window: &[u8], at: Place, kind: u8, lines: usize) -> Next
 
 // What to do at a line of the listing: each of at most 256 nodes has one, and one call more says that there is none.
 fn list_next(at: Place, n: usize) -> Next
-    ensures { result ≡ list-next at n }
+    ensures { result ≡ list_next at n }
 {
     if n < 257 {
         return Next::Call {
@@ -47,7 +47,7 @@ fn list_next(at: Place, n: usize) -> Next
 
 // What the program does next.
 pub fn next(window: &[u8], at: Place) -> Next
-    requires { Place-held at (length window.now) }
+    requires { PlaceHeld at (length window.now) }
     ensures { result ≡ next_of window.now at }
 {
     let phase = at.phase;
@@ -60,7 +60,7 @@ pub fn next(window: &[u8], at: Place) -> Next
 
 // The place behind a setup line of a kind, with how many lines there were.
 pub fn setup_from(at: Place, from: usize, kind: u8, lines: usize) -> Place
-    ensures { result ≡ setup-from at from kind lines }
+    ensures { result ≡ setup_from at from kind lines }
 {
     Place {
         from,
@@ -75,7 +75,7 @@ pub fn setup_from(at: Place, from: usize, kind: u8, lines: usize) -> Place
 fn after_read(at: Place, got: usize) -> Place
     requires from_le_to { at.from ≤ at.to }
     requires got_bound { (at.to - at.from) + got ≤ 65536 }
-    ensures { result ≡ read-place at got }
+    ensures { result ≡ read_place at got }
 {
     let phase = at.phase;
     Place {
@@ -90,7 +90,7 @@ fn after_read(at: Place, got: usize) -> Place
 // What the number that `read` answered comes to.
 pub fn read_step(at: Place, got: isize) -> Step
     requires from_le_to { at.from ≤ at.to }
-    requires read_fits { Read-fits at got }
+    requires read_fits { ReadFits at got }
     ensures { result ≡ read_step at got }
 {
     if got < 0 {

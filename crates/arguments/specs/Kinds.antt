@@ -8,25 +8,25 @@ use Rattle.std.proofs.Math.Option.{Option, none, some}
 use Rattle.buffers.specs.Text.{Text}
 use Rattle.accounts.specs.declared.Uid.{Uid}
 use Rattle.accounts.specs.declared.Gid.{Gid}
-use Rattle.accounts.specs.Dominance.{Bounded-role}
+use Rattle.accounts.specs.Dominance.{BoundedRole}
 use Rattle.syntax.specs.declared.Span.{Span}
 use Rattle.syntax.specs.Number.{mode, between}
 use Rattle.syntax.specs.Form.{◌>>=◌, ◌>>◌, check, is_some}
-use Rattle.syntax.specs.Path.{Entry-path, is_name, typed-path, entry-path}
-use Rattle.syntax.specs.Field.{uid, gid, bounded, role, plain-mode, password, is-content, content}
-use Rattle.syntax.specs.Parts.{Inside, span-text, text_in}
+use Rattle.syntax.specs.Path.{EntryPath, is_name, typed_path, entry_path}
+use Rattle.syntax.specs.Field.{uid, gid, bounded, role, plain_mode, password, is_content, content}
+use Rattle.syntax.specs.Parts.{Inside, span_text, text_in}
 use Rattle.arguments.specs.declared.ArgumentKind.{ArgumentKind}
 use Rattle.arguments.specs.declared.ArgumentKind.TheVariants as a
 
 -- what an argument of a kind is, where P is what a path is: as it is typed, or whole
 abbrev pub Value : Type 0 → ArgumentKind → Type 0
 Value P a.Path = P
-Value P a.Entry = Entry-path
+Value P a.Entry = EntryPath
 Value P a.Mode = ℕ
 Value P a.Plain = ℕ
 Value P a.Uid = Uid
 Value P a.Gid = Gid
-Value P a.Role = Bounded-role
+Value P a.Role = BoundedRole
 Value P a.Password = Text
 Value P a.Content = Text
 Value P a.Absent = Unit {0}
@@ -36,12 +36,12 @@ abbrev pub Makes : Type 0 → List ArgumentKind → Type 0 → Type 0
 Makes P [] X = X
 Makes P (k ∷ ks) X = Value P k → Makes P ks X
 
-module _ {P : Type 0} (read-path : Text → Option P) where
+module _ {P : Type 0} (read_path : Text → Option P) where
   unfoldable pub reader : (k : ArgumentKind) → Text → Option (Value P k)
-  reader a.Path t = read-path t
-  reader a.Entry t = entry-path t
+  reader a.Path t = read_path t
+  reader a.Entry t = entry_path t
   reader a.Mode t = mode t
-  reader a.Plain t = plain-mode t
+  reader a.Plain t = plain_mode t
   reader a.Uid t = uid t
   reader a.Gid t = gid t
   reader a.Role t = role t
@@ -50,35 +50,35 @@ module _ {P : Type 0} (read-path : Text → Option P) where
   reader a.Absent t = some tt
 
   -- exactly the arguments of these kinds, each read by its reader
-  unfoldable pub arguments-of : {X : Type 0} (ks : List ArgumentKind) → Makes P ks X → List Text → Option X
-  arguments-of [] x [] = some x
-  arguments-of [] x (s ∷ more) = none
-  arguments-of (k ∷ ks) x [] = none
-  arguments-of (k ∷ ks) x (s ∷ more) = do
+  unfoldable pub arguments_of : {X : Type 0} (ks : List ArgumentKind) → Makes P ks X → List Text → Option X
+  arguments_of [] x [] = some x
+  arguments_of [] x (s ∷ more) = none
+  arguments_of (k ∷ ks) x [] = none
+  arguments_of (k ∷ ks) x (s ∷ more) = do
     v ← reader k s
-    arguments-of ks (x v) more
+    arguments_of ks (x v) more
 
 -- the number that the code reads of an argument, 0 where its kind has none
-unfoldable pub zero-if : Bool → Option ℕ
-zero-if has-form = do
-  check has-form
+unfoldable pub zero_if : Bool → Option ℕ
+zero_if has_form = do
+  check has_form
   some 0
 
 unfoldable pub number_in : ArgumentKind → Text → Option ℕ
-number_in a.Path t = zero-if (is_some (typed-path t))
-number_in a.Entry t = zero-if (is_some (entry-path t))
+number_in a.Path t = zero_if (is_some (typed_path t))
+number_in a.Entry t = zero_if (is_some (entry_path t))
 number_in a.Mode t = mode t
-number_in a.Plain t = plain-mode t
+number_in a.Plain t = plain_mode t
 number_in a.Uid t = between 0 23 t
 number_in a.Gid t = between 0 24 t
 number_in a.Role t = between 0 7 t
-number_in a.Password t = zero-if (is_name t)
-number_in a.Content t = zero-if (is-content t)
+number_in a.Password t = zero_if (is_name t)
+number_in a.Content t = zero_if (is_content t)
 number_in a.Absent t = some 0
 
 -- what a reader makes of a part
-unfoldable pub read-in : {A : Type 0} → (Text → Option A) → Text → Span → Option A
-read-in read t s = text_in t s >>= read
+unfoldable pub read_in : {A : Type 0} → (Text → Option A) → Text → Span → Option A
+read_in read t s = text_in t s >>= read
 
 -- an argument that was read: its part of the line, and its number
 pub record Argument : Type 0 where
@@ -86,15 +86,15 @@ pub record Argument : Type 0 where
   pub number : ℕ
 
 -- it lies inside the line and has the form of its kind, with that number
-pub record Argument-read (k : ArgumentKind) (t : Text) (v : Argument) : Type 0 where
+pub record ArgumentRead (k : ArgumentKind) (t : Text) (v : Argument) : Type 0 where
   pub inside : Inside v.part t
-  pub number : some v.number ≡ number_in k (span-text t v.part)
+  pub number : some v.number ≡ number_in k (span_text t v.part)
 
-module _ {P : Type 0} (read-path : Text → Option P) where
+module _ {P : Type 0} (read_path : Text → Option P) where
   -- what it is
   unfoldable pub value : (k : ArgumentKind) → Text → Argument → Option (Value P k)
-  value a.Path t v = read-in read-path t v.part
-  value a.Entry t v = read-in entry-path t v.part
+  value a.Path t v = read_in read_path t v.part
+  value a.Entry t v = read_in entry_path t v.part
   value a.Mode t v = some v.number
   value a.Plain t v = some v.number
   value a.Uid t v = some (record { 0 = v.number % 256 })

@@ -1,11 +1,11 @@
 // One argument read by its kind.
 ghost use Rattle.std.specs.Prelude.{◌≡◌};
-ghost use Rattle.syntax.specs.Number.{mode as Mode-of};
-ghost use Rattle.syntax.specs.Path.{typed-path as typed-path-of, entry-path as entry-path-of};
+ghost use Rattle.syntax.specs.Number.{mode as mode_of};
+ghost use Rattle.syntax.specs.Path.{typed_path as typed_path_of, entry_path as entry_path_of};
 ghost use Rattle.syntax.specs.Form.{is_some};
-ghost use Rattle.syntax.specs.Field.{plain-mode, is-content};
-ghost use Rattle.syntax.specs.Parts.{Inside, span-text, number_of};
-ghost use Rattle.arguments.specs.Kinds.{zero-if, number_in};
+ghost use Rattle.syntax.specs.Field.{plain_mode, is_content};
+ghost use Rattle.syntax.specs.Parts.{Inside, span_text, number_of};
+ghost use Rattle.arguments.specs.Kinds.{zero_if, number_in};
 
 use crate::ArgumentKind;
 use syntax::{
@@ -15,7 +15,7 @@ use syntax::{
 // Whether a part of the line is a path as it is typed.
 fn path_at(line: &[u8], s: Span) -> bool
     requires { Inside s line.now }
-    ensures { result ≡ is_some (typed-path-of (span-text line.now s)) }
+    ensures { result ≡ is_some (typed_path_of (span_text line.now s)) }
 {
     let start = s.start;
     let end = s.end;
@@ -25,7 +25,7 @@ fn path_at(line: &[u8], s: Span) -> bool
 // Whether a part of the line is an entry path.
 fn entry_path_at(line: &[u8], s: Span) -> bool
     requires { Inside s line.now }
-    ensures { result ≡ is_some (entry-path-of (span-text line.now s)) }
+    ensures { result ≡ is_some (entry_path_of (span_text line.now s)) }
 {
     let start = s.start;
     let end = s.end;
@@ -35,7 +35,7 @@ fn entry_path_at(line: &[u8], s: Span) -> bool
 // The mode that a part of the line is.
 fn mode_at(line: &[u8], s: Span) -> Number
     requires { Inside s line.now }
-    ensures { number_of result ≡ Mode-of (span-text line.now s) }
+    ensures { number_of result ≡ mode_of (span_text line.now s) }
 {
     let start = s.start;
     let end = s.end;
@@ -45,7 +45,7 @@ fn mode_at(line: &[u8], s: Span) -> Number
 // The mode of a new file that a part of the line is: one without set-gid.
 fn file_mode_at(line: &[u8], s: Span) -> Number
     requires { Inside s line.now }
-    ensures { number_of result ≡ plain-mode (span-text line.now s) }
+    ensures { number_of result ≡ plain_mode (span_text line.now s) }
 {
     match mode_at(line, s) {
         Number::Value(m) => {
@@ -62,7 +62,7 @@ fn file_mode_at(line: &[u8], s: Span) -> Number
 // Whether a part of the line is a content.
 fn content_at(line: &[u8], s: Span) -> bool
     requires { Inside s line.now }
-    ensures { result ≡ is-content (span-text line.now s) }
+    ensures { result ≡ is_content (span_text line.now s) }
 {
     let start = s.start;
     let end = s.end;
@@ -71,7 +71,7 @@ fn content_at(line: &[u8], s: Span) -> bool
 
 // The number of an argument that has none, where it has its form.
 fn zero_if(formed: bool) -> Number
-    ensures { number_of result ≡ zero-if formed }
+    ensures { number_of result ≡ zero_if formed }
 {
     if formed {
         return Number::Value(0);
@@ -82,7 +82,7 @@ fn zero_if(formed: bool) -> Number
 // The number of an argument of a kind that a part of the line is, where it has that form.
 pub fn argument_at(line: &[u8], s: Span, kind: ArgumentKind) -> Number
     requires { Inside s line.now }
-    ensures { number_of result ≡ number_in kind (span-text line.now s) }
+    ensures { number_of result ≡ number_in kind (span_text line.now s) }
 {
     match kind {
         ArgumentKind::Path => zero_if(path_at(line, s)),

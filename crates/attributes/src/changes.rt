@@ -1,9 +1,9 @@
 // One attribute of a place changed, if the caller may: the checks over the tree, then a change that cannot fail.
 ghost use Rattle.std.specs.Prelude.{◌≤◌, length};
-ghost use Rattle.tree.specs.Layout.{content-width};
-ghost use Rattle.tree.specs.TreeBytes.{Whole, Path-text};
-ghost use Rattle.shell.specs.Steps.{run-write, run-chmod, run-chgrp, run-chown};
-ghost use Rattle.shell.specs.CommandBytes.{Follows-at};
+ghost use Rattle.tree.specs.Layout.{content_width};
+ghost use Rattle.tree.specs.TreeBytes.{Whole, PathText};
+ghost use Rattle.shell.specs.Steps.{run_write, run_chmod, run_chgrp, run_chown};
+ghost use Rattle.shell.specs.CommandBytes.{FollowsAt};
 
 use crate::Deed;
 use crate::checks::may_do;
@@ -15,9 +15,9 @@ use walks::Walked;
 // `write,path,content`.
 pub fn write(tree: &mut [u8], caller: Caller, path: &[u8], content: &[u8]) -> Answer
     requires whole { Whole tree.old }
-    requires path_text { Path-text path.now }
-    requires content_len_bound { length content.now ≤ content-width }
-    ensures { Follows-at (λ t p. run-write caller 0 t p content.now) tree.old path.now result tree.new }
+    requires path_text { PathText path.now }
+    requires content_len_bound { length content.now ≤ content_width }
+    ensures { FollowsAt (λ t p. run_write caller 0 t p content.now) tree.old path.now result tree.new }
 {
     match may_do(tree, caller.account, path, Deed::Write) {
         Walked::To { row, above: _ } => {
@@ -31,8 +31,8 @@ pub fn write(tree: &mut [u8], caller: Caller, path: &[u8], content: &[u8]) -> An
 // `chmod,path,mode`.
 pub fn chmod(tree: &mut [u8], caller: Caller, path: &[u8], mode: u16) -> Answer
     requires whole { Whole tree.old }
-    requires path_text { Path-text path.now }
-    ensures { Follows-at (λ t p. run-chmod caller 0 t p mode) tree.old path.now result tree.new }
+    requires path_text { PathText path.now }
+    ensures { FollowsAt (λ t p. run_chmod caller 0 t p mode) tree.old path.now result tree.new }
 {
     match may_do(tree, caller.account, path, Deed::Chmod(mode)) {
         Walked::To { row, above: _ } => {
@@ -46,8 +46,8 @@ pub fn chmod(tree: &mut [u8], caller: Caller, path: &[u8], mode: u16) -> Answer
 // `chgrp,path,gid`.
 pub fn chgrp(tree: &mut [u8], caller: Caller, path: &[u8], group: Gid) -> Answer
     requires whole { Whole tree.old }
-    requires path_text { Path-text path.now }
-    ensures { Follows-at (λ t p. run-chgrp caller 0 t p group) tree.old path.now result tree.new }
+    requires path_text { PathText path.now }
+    ensures { FollowsAt (λ t p. run_chgrp caller 0 t p group) tree.old path.now result tree.new }
 {
     match may_do(tree, caller.account, path, Deed::Chgrp(group)) {
         Walked::To { row, above: _ } => {
@@ -61,8 +61,8 @@ pub fn chgrp(tree: &mut [u8], caller: Caller, path: &[u8], group: Gid) -> Answer
 // `chown,path,uid`.
 pub fn chown(tree: &mut [u8], caller: Caller, path: &[u8], owner: Uid) -> Answer
     requires whole { Whole tree.old }
-    requires path_text { Path-text path.now }
-    ensures { Follows-at (λ t p. run-chown caller 0 t p owner) tree.old path.now result tree.new }
+    requires path_text { PathText path.now }
+    ensures { FollowsAt (λ t p. run_chown caller 0 t p owner) tree.old path.now result tree.new }
 {
     match may_do(tree, caller.account, path, Deed::Chown) {
         Walked::To { row, above: _ } => {

@@ -1,13 +1,13 @@
 // The checks of a command at one place: the walk there, then the tests of the deed, in document 01's order.
 ghost use Rattle.std.specs.Prelude.{◌≡◌, ◌||◌, not};
-ghost use Rattle.syntax.specs.Number.{set-gid};
+ghost use Rattle.syntax.specs.Number.{set_gid};
 ghost use Rattle.tree.specs.Result.{require};
-ghost use Rattle.tree.specs.Node.{is-directory};
+ghost use Rattle.tree.specs.Node.{is_directory};
 ghost use Rattle.tree.specs.RowAt.{row_at};
-ghost use Rattle.tree.specs.TreeBytes.{Has-row, Whole, Path-text, Whichever};
+ghost use Rattle.tree.specs.TreeBytes.{HasRow, Whole, PathText, Whichever};
 ghost use Rattle.walks.specs.RowWalk.{outcome};
 ghost use Rattle.attributes.specs.declared.Deed.TheVariants.{Write, Chmod, Enter};
-ghost use Rattle.attributes.specs.Checks.{two-tests, may-give, tests, passed, may-do-at};
+ghost use Rattle.attributes.specs.Checks.{two_tests, may_give, tests, passed, may_do_at};
 
 use crate::Deed;
 use accounts::{Account, Gid, Right};
@@ -34,7 +34,7 @@ fn judged_twice(
     row: usize,
     above: usize,
 ) -> Walked
-    ensures { outcome result ≡ passed (two-tests first cause second other) row above }
+    ensures { outcome result ≡ passed (two_tests first cause second other) row above }
 {
     if !first {
         return Walked::Refused(cause);
@@ -44,7 +44,7 @@ fn judged_twice(
 
 // Whether a kind allows a mode: set-gid on directories only.
 fn fits_mode(kind: Kind, mode: u16) -> bool
-    ensures { result ≡ (is-directory kind || not (set-gid mode)) }
+    ensures { result ≡ (is_directory kind || not (set_gid mode)) }
 {
     match kind {
         Kind::File => !has_set_gid(mode),
@@ -54,8 +54,8 @@ fn fits_mode(kind: Kind, mode: u16) -> bool
 
 // Whether the account may give the place a group: root any, the owner one of the own.
 fn may_give(tree: &[u8], row: usize, account: Account, group: Gid) -> bool
-    requires { Has-row tree.now row }
-    ensures { result ≡ may-give account group (row_at tree.now row).here }
+    requires { HasRow tree.now row }
+    ensures { result ≡ may_give account group (row_at tree.now row).here }
 {
     let uid = account.uid;
     let groups = account.groups;
@@ -70,7 +70,7 @@ fn may_give(tree: &[u8], row: usize, account: Account, group: Gid) -> bool
 
 // A file, with w.
 fn test_write(tree: &[u8], account: Account, row: usize, above: usize) -> Walked
-    requires { Has-row tree.now row }
+    requires { HasRow tree.now row }
     ensures { outcome result ≡ passed (tests account Write (row_at tree.now row).here) row above }
 {
     let file = !is_directory(kind_at(tree, row));
@@ -80,7 +80,7 @@ fn test_write(tree: &[u8], account: Account, row: usize, above: usize) -> Walked
 
 // A mode that the kind allows, by the owner or root.
 fn test_chmod(tree: &[u8], account: Account, row: usize, above: usize, mode: u16) -> Walked
-    requires { Has-row tree.now row }
+    requires { HasRow tree.now row }
     ensures { outcome result ≡ passed (tests account (Chmod mode) (row_at tree.now row).here) row above }
 {
     let fits = fits_mode(kind_at(tree, row), mode);
@@ -90,7 +90,7 @@ fn test_chmod(tree: &[u8], account: Account, row: usize, above: usize, mode: u16
 
 // A directory, with x.
 fn test_enter(tree: &[u8], account: Account, row: usize, above: usize) -> Walked
-    requires { Has-row tree.now row }
+    requires { HasRow tree.now row }
     ensures { outcome result ≡ passed (tests account Enter (row_at tree.now row).here) row above }
 {
     let directory = is_directory(kind_at(tree, row));
@@ -100,7 +100,7 @@ fn test_enter(tree: &[u8], account: Account, row: usize, above: usize) -> Walked
 
 // The tests of the deed.
 fn test(tree: &[u8], account: Account, row: usize, above: usize, deed: Deed) -> Walked
-    requires { Has-row tree.now row }
+    requires { HasRow tree.now row }
     ensures { outcome result ≡ passed (tests account deed (row_at tree.now row).here) row above }
 {
     match deed {
@@ -126,8 +126,8 @@ fn test(tree: &[u8], account: Account, row: usize, above: usize, deed: Deed) -> 
 // Where the account may do the deed, or why it may not.
 pub fn may_do(tree: &[u8], account: Account, path: &[u8], deed: Deed) -> Walked
     requires whole { Whole tree.now }
-    requires path_text { Path-text path.now }
-    ensures { Whichever tree.now path.now (λ t p. outcome result ≡ may-do-at account deed t p) }
+    requires path_text { PathText path.now }
+    ensures { Whichever tree.now path.now (λ t p. outcome result ≡ may_do_at account deed t p) }
 {
     match walk(tree, account, path) {
         Walked::To { row, above } => test(tree, account, row, above, deed),

@@ -24,14 +24,14 @@ neither false true e = contra refl (sym e)
 neither false false e = (refl, refl)
 
 -- numbers are equal either way round
-pub eqb-flip : (a b : ℕ) → eqb a b ≡ eqb b a
-eqb-flip a b = case (eqb b a)
+pub eqb_flip : (a b : ℕ) → eqb a b ≡ eqb b a
+eqb_flip a b = case (eqb b a)
     (λ t. eq-eqb a b (sym (eqb-true b a t)) ∙ sym t)
     (λ t. ne_eqb a b (λ e. eqb-false b a t (sym e)) ∙ sym t)
 
 -- what a call answered, from a test of its answer turned round
-pub answers-false : {r t : Bool} → r ≡ t → not r ≡ true → t ≡ false
-answers-false {r} e h = sym e ∙ not-true r h
+pub answers_false : {r t : Bool} → r ≡ t → not r ≡ true → t ≡ false
+answers_false {r} e h = sym e ∙ not-true r h
 
-pub answers-true : {r t : Bool} → r ≡ t → not r ≡ false → t ≡ true
-answers-true {r} e h = sym e ∙ not-false r h
+pub answers_true : {r t : Bool} → r ≡ t → not r ≡ false → t ≡ true
+answers_true {r} e h = sym e ∙ not-false r h

@@ -22,29 +22,29 @@ unfoldable pub text_at : ℕ → ℕ → List ℕ → Text
 text_at i width b = unpadded (take width (drop i b))
 
 -- whether bytes are all zero
-unfoldable pub all-zero : List ℕ → Bool
-all-zero l = every (λ b. eqb b 0) l
+unfoldable pub all_zero : List ℕ → Bool
+all_zero l = every (λ b. eqb b 0) l
 
 -- so many bytes from a place are zero
-unfoldable pub zeros-at : ℕ → ℕ → List ℕ → Bool
-zeros-at i n x = all-zero (take n (drop i x))
+unfoldable pub zeros_at : ℕ → ℕ → List ℕ → Bool
+zeros_at i n x = all_zero (take n (drop i x))
 
 -- a field's bytes behind its text are zero
-unfoldable pub is-filled : ℕ → ℕ → List ℕ → Bool
-is-filled i width x = let n = length (text_at i width x) in zeros-at (i + n) (width - n) x
+unfoldable pub is_filled : ℕ → ℕ → List ℕ → Bool
+is_filled i width x = let n = length (text_at i width x) in zeros_at (i + n) (width - n) x
 
 -- the bytes of some values one after another, and k values read back, each from so many bytes
-unfoldable pub all-bytes : {A : Type 0} → (A → List ℕ) → List A → List ℕ
-all-bytes f [] = []
-all-bytes f (a ∷ l) = f a ++ all-bytes f l
+unfoldable pub all_bytes : {A : Type 0} → (A → List ℕ) → List A → List ℕ
+all_bytes f [] = []
+all_bytes f (a ∷ l) = f a ++ all_bytes f l
 
 unfoldable pub all_from : {A : Type 0} → ℕ → (List ℕ → A) → ℕ → List ℕ → List A
 all_from width f zero b = []
 all_from width f (suc k) b = f (take width b) ∷ all_from width f k (drop width b)
 
 -- how many there are, the values, and zeros in place of those that are not there
-unfoldable pub table-bytes : {A : Type 0} → ℕ → ℕ → (A → List ℕ) → List A → List ℕ
-table-bytes width most f l = length l ∷ (all-bytes f l ++ replicate ((most - length l) * width) 0)
+unfoldable pub table_bytes : {A : Type 0} → ℕ → ℕ → (A → List ℕ) → List A → List ℕ
+table_bytes width most f l = length l ∷ (all_bytes f l ++ replicate ((most - length l) * width) 0)
 
-unfoldable pub table-from : {A : Type 0} → ℕ → (List ℕ → A) → List ℕ → List A
-table-from width f b = all_from width f (get_or b 0 0) (drop 1 b)
+unfoldable pub table_from : {A : Type 0} → ℕ → (List ℕ → A) → List ℕ → List A
+table_from width f b = all_from width f (get_or b 0 0) (drop 1 b)

@@ -12,18 +12,18 @@ use Rattle.std.proofs.lemmas.List.{length-replicate}
 use Rattle.std.proofs.Math.Seq.{take_at, drop_at, get_or-drop, drop-drop}
 use Rattle.buffers.specs.Cases.{and_both}
 use Rattle.buffers.specs.Text.{every}
-use Rattle.buffers.specs.Fields.{all-bytes, all_from, table-bytes, table-from}
+use Rattle.buffers.specs.Fields.{all_bytes, all_from, table_bytes, table_from}
 
 -- zeros and more zeros
-pub zeros-join : (m n : ℕ) → replicate {A = ℕ} (m + n) 0 ≡ replicate m 0 ++ replicate n 0
-zeros-join zero n = ap (λ (k : ℕ). replicate {A = ℕ} k 0) (zero-add n)
-zeros-join (suc m) n = ap (λ (k : ℕ). replicate {A = ℕ} k 0) (suc-add m n) ∙ ap (λ (l : List ℕ). 0 ∷ l) (zeros-join m n)
+pub zeros_join : (m n : ℕ) → replicate {A = ℕ} (m + n) 0 ≡ replicate m 0 ++ replicate n 0
+zeros_join zero n = ap (λ (k : ℕ). replicate {A = ℕ} k 0) (zero-add n)
+zeros_join (suc m) n = ap (λ (k : ℕ). replicate {A = ℕ} k 0) (suc-add m n) ∙ ap (λ (l : List ℕ). 0 ∷ l) (zeros_join m n)
 
 -- the bytes of values and more values
-pub all-bytes-append : {A : Type 0} (f : A → List ℕ) (k l : List A) → all-bytes f (k ++ l) ≡ all-bytes f k ++ all-bytes f l
-unfolding all-bytes
-all-bytes-append f [] l = refl
-all-bytes-append f (a ∷ k) l = ap (λ (r : List ℕ). f a ++ r) (all-bytes-append f k l) ∙ sym (append_assoc (f a) (all-bytes f k) (all-bytes f l))
+pub all_bytes_append : {A : Type 0} (f : A → List ℕ) (k l : List A) → all_bytes f (k ++ l) ≡ all_bytes f k ++ all_bytes f l
+unfolding all_bytes
+all_bytes_append f [] l = refl
+all_bytes_append f (a ∷ k) l = ap (λ (r : List ℕ). f a ++ r) (all_bytes_append f k l) ∙ sym (append_assoc (f a) (all_bytes f k) (all_bytes f l))
 
 -- so many widths and those left over are all of them
 widths : (n most width : ℕ) → n ≤ most → n * width + (most - n) * width ≡ most * width
@@ -31,96 +31,96 @@ widths n most width h = sym (add-mul n (most - n) width) ∙ rw (add-sub_of_le h
 
 module _ {A : Type 0} (width : ℕ) (from : List ℕ → A) where
   -- as many values are read as are asked for
-  pub length-all-from : (n : ℕ) (b : List ℕ) → length (all_from width from n b) ≡ n
+  pub length_all_from : (n : ℕ) (b : List ℕ) → length (all_from width from n b) ≡ n
   unfolding all_from
-  length-all-from zero b = refl
-  length-all-from (suc n) b = ap suc (length-all-from n (drop width b))
+  length_all_from zero b = refl
+  length_all_from (suc n) b = ap suc (length_all_from n (drop width b))
 
   -- each from the bytes at its index
-  pub all-from-at : (n i : ℕ) (b : List ℕ) (z : A) → i < n → get_or (all_from width from n b) i z ≡ from (take width (drop (width * i) b))
+  pub all_from_at : (n i : ℕ) (b : List ℕ) (z : A) → i < n → get_or (all_from width from n b) i z ≡ from (take width (drop (width * i) b))
   unfolding all_from
-  all-from-at zero i b z h = let x : ⊥ = omega arith in absurd x
-  all-from-at (suc n) zero b z h = rw (mul-zero width)
-  all-from-at (suc n) (suc i) b z h =
-      all-from-at n i (drop width b) z (omega arith)
+  all_from_at zero i b z h = let x : ⊥ = omega arith in absurd x
+  all_from_at (suc n) zero b z h = rw (mul-zero width)
+  all_from_at (suc n) (suc i) b z h =
+      all_from_at n i (drop width b) z (omega arith)
       ∙ ap (λ (l : List ℕ). from (take width l)) (drop-drop (width * i) width b ∙ rw (mul-suc width i, add_comm width (width * i)))
 
 module _ {A : Type 0} (width : ℕ) (test : A → Bool) (to : A → List ℕ) (long : (a : A) → test a ≡ true → length (to a) ≡ width) where
   -- values that pass take their widths
-  pub length-all-bytes : (l : List A) → every test l ≡ true → length (all-bytes to l) ≡ length l * width
-  unfolding all-bytes every
-  length-all-bytes [] h = sym (zero-mul width)
-  length-all-bytes (a ∷ l) h =
+  pub length_all_bytes : (l : List A) → every test l ≡ true → length (all_bytes to l) ≡ length l * width
+  unfolding all_bytes every
+  length_all_bytes [] h = sym (zero-mul width)
+  length_all_bytes (a ∷ l) h =
       let i = and_both (test a) (every test l) h in
       let x = long a i.0 in
-      let y = length-all-bytes l i.1 in
+      let y = length_all_bytes l i.1 in
       let z = suc-mul (length l) width in
-      length-append (to a) (all-bytes to l) ∙ omega arith
+      length-append (to a) (all_bytes to l) ∙ omega arith
 
   -- the bytes of each stand at its index
-  pub all-bytes-at : (l : List A) (i : ℕ) (Q : List ℕ) (z : A) → every test l ≡ true → i < length l → take width (drop (width * i) (all-bytes to l ++ Q)) ≡ to (get_or l i z)
-  unfolding all-bytes every
-  all-bytes-at [] i Q z h k = let x : ⊥ = omega arith in absurd x
-  all-bytes-at (a ∷ l) zero Q z h k =
+  pub all_bytes_at : (l : List A) (i : ℕ) (Q : List ℕ) (z : A) → every test l ≡ true → i < length l → take width (drop (width * i) (all_bytes to l ++ Q)) ≡ to (get_or l i z)
+  unfolding all_bytes every
+  all_bytes_at [] i Q z h k = let x : ⊥ = omega arith in absurd x
+  all_bytes_at (a ∷ l) zero Q z h k =
       let i = and_both (test a) (every test l) h in
-      rw (mul-zero width, append_assoc (to a) (all-bytes to l) Q) (take_at (to a) (all-bytes to l ++ Q) width (long a i.0))
-  all-bytes-at (a ∷ l) (suc j) Q z h k =
+      rw (mul-zero width, append_assoc (to a) (all_bytes to l) Q) (take_at (to a) (all_bytes to l ++ Q) width (long a i.0))
+  all_bytes_at (a ∷ l) (suc j) Q z h k =
       let i = and_both (test a) (every test l) h in
-      let B = all-bytes to l ++ Q in
+      let B = all_bytes to l ++ Q in
       let s : width * suc j ≡ width + width * j = mul-suc width j ∙ add_comm (width * j) width in
-      ap (λ (n : ℕ). take width (drop n ((to a ++ all-bytes to l) ++ Q))) s
-      ∙ ap (take width) (sym (drop-drop (width * j) width ((to a ++ all-bytes to l) ++ Q)))
-      ∙ rw (append_assoc (to a) (all-bytes to l) Q, drop_at (to a) B width (long a i.0)) (all-bytes-at l j Q z i.1 (omega arith))
+      ap (λ (n : ℕ). take width (drop n ((to a ++ all_bytes to l) ++ Q))) s
+      ∙ ap (take width) (sym (drop-drop (width * j) width ((to a ++ all_bytes to l) ++ Q)))
+      ∙ rw (append_assoc (to a) (all_bytes to l) Q, drop_at (to a) B width (long a i.0)) (all_bytes_at l j Q z i.1 (omega arith))
 
   -- with zeros in place of those that are not there, as many widths as there may be values
-  pub length-filled : (most : ℕ) (l : List A) → every test l ≡ true → length l ≤ most → length (all-bytes to l ++ replicate ((most - length l) * width) 0) ≡ most * width
-  length-filled most l h few =
+  pub length_filled : (most : ℕ) (l : List A) → every test l ≡ true → length l ≤ most → length (all_bytes to l ++ replicate ((most - length l) * width) 0) ≡ most * width
+  length_filled most l h few =
       let Z : List ℕ = replicate ((most - length l) * width) 0 in
-      let b = length-all-bytes l h in
+      let b = length_all_bytes l h in
       let c = length-replicate {A = ℕ} ((most - length l) * width) 0 in
       let d = widths (length l) most width few in
-      length-append (all-bytes to l) Z ∙ omega arith
+      length-append (all_bytes to l) Z ∙ omega arith
 
   -- and a table one byte more
-  pub length-table : (most : ℕ) (l : List A) → every test l ≡ true → length l ≤ most → length (table-bytes width most to l) ≡ suc (most * width)
-  unfolding table-bytes
-  length-table most l h few = ap suc (length-filled most l h few)
+  pub length_table : (most : ℕ) (l : List A) → every test l ≡ true → length l ≤ most → length (table_bytes width most to l) ≡ suc (most * width)
+  unfolding table_bytes
+  length_table most l h few = ap suc (length_filled most l h few)
 
   module _ (from : List ℕ → A) (back : (a : A) → test a ≡ true → from (to a) ≡ a) where
     -- values that pass are read back from their bytes
-    pub all-from-bytes : (l : List A) (Q : List ℕ) → every test l ≡ true → all_from width from (length l) (all-bytes to l ++ Q) ≡ l
-    unfolding all-bytes all_from every
-    all-from-bytes [] Q h = refl
-    all-from-bytes (a ∷ l) Q h =
+    pub all_from_bytes : (l : List A) (Q : List ℕ) → every test l ≡ true → all_from width from (length l) (all_bytes to l ++ Q) ≡ l
+    unfolding all_bytes all_from every
+    all_from_bytes [] Q h = refl
+    all_from_bytes (a ∷ l) Q h =
         let i = and_both (test a) (every test l) h in
         let x = long a i.0 in
-        let B = all-bytes to l ++ Q in
-        rw (append_assoc (to a) (all-bytes to l) Q, take_at (to a) B width x, drop_at (to a) B width x)
-        (ap₂ ◌∷◌ (back a i.0) (all-from-bytes l Q i.1))
+        let B = all_bytes to l ++ Q in
+        rw (append_assoc (to a) (all_bytes to l) Q, take_at (to a) B width x, drop_at (to a) B width x)
+        (ap₂ ◌∷◌ (back a i.0) (all_from_bytes l Q i.1))
 
     -- and from their table
-    pub table-from-bytes : (most : ℕ) (l : List A) (Q : List ℕ) → every test l ≡ true → table-from width from (table-bytes width most to l ++ Q) ≡ l
-    unfolding table-bytes table-from
-    table-from-bytes most l Q h =
-        rw (append_assoc (all-bytes to l) (replicate ((most - length l) * width) 0) Q) (all-from-bytes l _ h)
+    pub table_from_bytes : (most : ℕ) (l : List A) (Q : List ℕ) → every test l ≡ true → table_from width from (table_bytes width most to l ++ Q) ≡ l
+    unfolding table_bytes table_from
+    table_from_bytes most l Q h =
+        rw (append_assoc (all_bytes to l) (replicate ((most - length l) * width) 0) Q) (all_from_bytes l _ h)
 
 -- ---- a table that stands from o on
 
 module _ {A : Type 0} (width : ℕ) (from : List ℕ → A) (b : List ℕ) (o : ℕ) where
   abbrev table : List A
-  table = table-from width from (drop o b)
+  table = table_from width from (drop o b)
 
   -- its first byte says how many values it has
-  pub table-count : get_or b o 0 ≡ length table
-  unfolding table-from
-  table-count =
+  pub table_count : get_or b o 0 ≡ length table
+  unfolding table_from
+  table_count =
       let q : o + 0 ≡ o = omega arith in
-      sym (length-all-from width from (get_or (drop o b) 0 0) (drop 1 (drop o b)) ∙ get_or-drop o b 0 0 ∙ ap (λ (j : ℕ). get_or b j 0) q)
+      sym (length_all_from width from (get_or (drop o b) 0 0) (drop 1 (drop o b)) ∙ get_or-drop o b 0 0 ∙ ap (λ (j : ℕ). get_or b j 0) q)
 
   -- which stand behind it one after another
-  pub table-value : (i : ℕ) (d : A) → i < length table → get_or table i d ≡ from (take width (drop (o + 1 + width * i) b))
-  unfolding table-from
-  table-value i d h =
+  pub table_value : (i : ℕ) (d : A) → i < length table → get_or table i d ≡ from (take width (drop (o + 1 + width * i) b))
+  unfolding table_from
+  table_value i d h =
       let n = get_or (drop o b) 0 0 in
-      all-from-at width from n i (drop 1 (drop o b)) d (omega (arith, length-all-from width from n (drop 1 (drop o b))))
+      all_from_at width from n i (drop 1 (drop o b)) d (omega (arith, length_all_from width from n (drop 1 (drop o b))))
       ∙ ap (λ (l : List ℕ). from (take width l)) (ap (drop (width * i)) (drop-drop 1 o b) ∙ drop-drop (width * i) (o + 1) b)

@@ -1,6 +1,6 @@
 // Numbers, padded texts and zeros read.
 ghost use Rattle.std.specs.Prelude.{◌≡◌, ◌+◌, ◌-◌, ◌≤◌, ◌<◌, length};
-ghost use Rattle.buffers.specs.Fields.{number_at, text_at, zeros-at};
+ghost use Rattle.buffers.specs.Fields.{number_at, text_at, zeros_at};
 
 // A number of two bytes, the low one first.
 pub fn number(s: &[u8], at: usize) -> u16
@@ -41,7 +41,7 @@ pub fn text(s: &[u8], at: usize, width: usize) -> &[u8]
 pub fn is_zero(s: &[u8], from: usize, to: usize) -> bool
     requires from_le_to { from ≤ to }
     requires to_in_bounds { to ≤ length s.now }
-    ensures { result ≡ zeros-at from (to - from) s.now }
+    ensures { result ≡ zeros_at from (to - from) s.now }
 {
     let mut all: u8 = 0;
     let mut i = from;

@@ -4,61 +4,61 @@ use Rattle.std.proofs.Math.Option.{some}
 use Rattle.buffers.specs.Text.{Text}
 use Rattle.accounts.specs.declared.Account.{Account}
 use Rattle.accounts.specs.declared.Caller.{Caller}
-use Rattle.syntax.specs.Path.{Path, Entry-path, path, entry-location}
+use Rattle.syntax.specs.Path.{Path, EntryPath, path, entry_location}
 use Rattle.tree.specs.declared.Cause.TheVariants.{Access}
 use Rattle.tree.specs.Result.{Result, refused, done, ◌>>=◌, ◌>>◌, require, Outcome}
 use Rattle.tree.specs.Forest.{Place}
 use Rattle.tree.specs.Node.{Node}
-use Rattle.tree.specs.Walk.{by-modes, walk, room}
-use Rattle.tree.specs.TreeBytes.{Whichever-entry}
+use Rattle.tree.specs.Walk.{by_modes, walk, room}
+use Rattle.tree.specs.TreeBytes.{WhicheverEntry}
 use Rattle.walks.specs.RowWalk.{Spot}
 use Rattle.walks.specs.WalkBytes.{spot_of}
 use Rattle.copying.specs.declared.Copier.{Copier}
 use Rattle.copying.specs.Copying.{copy}
 use Rattle.copying.specs.CopyRows.{read_by}
 use Rattle.placing.specs.declared.Site.{Site}
-use Rattle.placing.specs.Placing.{place-copies, Checkout, steps-left}
+use Rattle.placing.specs.Placing.{place_copies, Checkout, steps_left}
 use Rattle.checkout.specs.declared.Sited.{Sited}
 use Rattle.checkout.specs.declared.Sited.TheVariants.{Found, Missed}
 
 -- ---- the steps
 
 -- the account's walk to an entry: not readable 5
-unfoldable pub readable-walk : Account → Place Node → Entry-path → Result (Place Node)
-readable-walk a t e = do
-  filed ← walk (by-modes a) t (entry-location e)
-  require ((by-modes a).readable filed.here) Access
+unfoldable pub readable_walk : Account → Place Node → EntryPath → Result (Place Node)
+readable_walk a t e = do
+  filed ← walk (by_modes a) t (entry_location e)
+  require ((by_modes a).readable filed.here) Access
   done filed
 
 -- as the rows where it leads
-unfoldable pub entry-spot : Account → Place Node → Entry-path → Result Spot
-entry-spot a t e = readable-walk a t e >>= λ filed. done (spot_of t (entry-location e))
+unfoldable pub entry_spot : Account → Place Node → EntryPath → Result Spot
+entry_spot a t e = readable_walk a t e >>= λ filed. done (spot_of t (entry_location e))
 
 -- one who checks out: the session's account reads, and the caller takes the copies
 abbrev pub copier : Account → Caller → Copier
 copier account caller = record { reader = account; caller = caller }
 
 -- the steps of `co` once the session's account is known, which reads
-unfoldable pub co-steps : Copier → Place Node → Entry-path → Path → Result (Outcome (Place Node))
-co-steps w t e d = do
-  directory ← room (by-modes w.caller.account) t d
-  filed ← readable-walk w.reader t e
-  place-copies w.caller t d (copy w.caller (read_by w) directory.here e filed)
+unfoldable pub co_steps : Copier → Place Node → EntryPath → Path → Result (Outcome (Place Node))
+co_steps w t e d = do
+  directory ← room (by_modes w.caller.account) t d
+  filed ← readable_walk w.reader t e
+  place_copies w.caller t d (copy w.caller (read_by w) directory.here e filed)
 
 -- ---- texts
 
 -- whatever tree the bytes are of, entry path the one text reads as, and path the other
-abbrev pub Whichever-copy : List ℕ → Text → Text → (Place Node → Entry-path → Path → Type 0) → Type 0
-Whichever-copy b entry to P = Whichever-entry b entry (λ t e. (d : Path) → path to ≡ some d → P t e d)
+abbrev pub WhicheverCopy : List ℕ → Text → Text → (Place Node → EntryPath → Path → Type 0) → Type 0
+WhicheverCopy b entry to P = WhicheverEntry b entry (λ t e. (d : Path) → path to ≡ some d → P t e d)
 
 -- ---- the site
 
 -- the site of a checkout behind which these are left of `co`
-pub record Site-for (w : Copier) (t : Place Node) (e : Entry-path) (d : Path) (b : List ℕ) (entry to : Text) (s : Site) : Type 0 where
+pub record SiteFor (w : Copier) (t : Place Node) (e : EntryPath) (d : Path) (b : List ℕ) (entry to : Text) (s : Site) : Type 0 where
   pub job : Checkout w b entry to s
-  pub left : co-steps w t e d ≡ steps-left job
+  pub left : co_steps w t e d ≡ steps_left job
 
 -- a site that is told is one, and a refusal is that of the steps
-unfoldable pub Site-told : Copier → Place Node → Entry-path → Path → List ℕ → Text → Text → Sited → Type 0
-Site-told w t e d b entry to (Found s) = Site-for w t e d b entry to s
-Site-told w t e d b entry to (Missed why) = co-steps w t e d ≡ refused why
+unfoldable pub SiteTold : Copier → Place Node → EntryPath → Path → List ℕ → Text → Text → Sited → Type 0
+SiteTold w t e d b entry to (Found s) = SiteFor w t e d b entry to s
+SiteTold w t e d b entry to (Missed why) = co_steps w t e d ≡ refused why

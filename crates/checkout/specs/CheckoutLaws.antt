@@ -8,159 +8,159 @@ use Rattle.std.proofs.Math.Path.{ap}
 use Rattle.std.proofs.Math.Option.{some}
 use Rattle.buffers.specs.Text.{Text}
 use Rattle.accounts.specs.declared.Account.{Account}
-use Rattle.syntax.specs.Path.{Path, Entry-path, path, entry-path, entry-location}
-use Rattle.syntax.specs.PathLaws.{entry-reads}
+use Rattle.syntax.specs.Path.{Path, EntryPath, path, entry_path, entry_location}
+use Rattle.syntax.specs.PathLaws.{entry_reads}
 use Rattle.tree.specs.declared.Cause.{Cause}
 use Rattle.tree.specs.declared.Cause.TheVariants.{Access}
 use Rattle.tree.specs.Result.{refused, done, ◌>>◌, require}
-use Rattle.tree.specs.ResultLaws.{bind_done, then-done, done-then, refused-then, done-bind, refused-bind, require-true, require-false}
+use Rattle.tree.specs.ResultLaws.{bind_done, then_done, done_then, refused_then, done_bind, refused_bind, require_true, require_false}
 use Rattle.tree.specs.Forest.{Place, place_at}
 use Rattle.tree.specs.Node.{Node}
-use Rattle.tree.specs.Walk.{by-modes, walk, room}
+use Rattle.tree.specs.Walk.{by_modes, walk, room}
 use Rattle.tree.specs.UpdateLaws.{walked_at}
-use Rattle.tree.specs.RowAt.{row_at, all-rows}
-use Rattle.tree.specs.TreeBytes.{Has-row, Encodes}
-use Rattle.tree.specs.TreeBytesLaws.{used-row, at-used, at_here}
+use Rattle.tree.specs.RowAt.{row_at, all_rows}
+use Rattle.tree.specs.TreeBytes.{HasRow, Encodes}
+use Rattle.tree.specs.TreeBytesLaws.{used_row, at_used, at_here}
 use Rattle.walks.specs.declared.Walked.{Walked}
 use Rattle.walks.specs.declared.Walked.TheVariants as Walks
-use Rattle.walks.specs.RowWalk.{walk-in, outcome}
-use Rattle.walks.specs.RowWalkLaws.{outcome-refused, outcome-at}
+use Rattle.walks.specs.RowWalk.{walk_in, outcome}
+use Rattle.walks.specs.RowWalkLaws.{outcome_refused, outcome_at}
 use Rattle.walks.specs.WalkBytes.{Came}
-use Rattle.walks.specs.WalkBytesLaws.{came-to, came-not, walk-to, walk-not, came-spot}
+use Rattle.walks.specs.WalkBytesLaws.{came_to, came_not, walk_to, walk_not, came_spot}
 use Rattle.gaps.specs.GapsLaws.{Standing}
 use Rattle.copying.specs.declared.Copier.{Copier}
 use Rattle.copying.specs.Copying.{copy}
 use Rattle.copying.specs.CopyRows.{read_by}
 use Rattle.shell.specs.declared.Answer.{Answer}
-use Rattle.shell.specs.CommandBytes.{Follows-silently}
+use Rattle.shell.specs.CommandBytes.{FollowsSilently}
 use Rattle.placing.specs.declared.Site.{Site}
-use Rattle.placing.specs.Placing.{place-copies, Checkout, checkout-copies, Checked-out}
+use Rattle.placing.specs.Placing.{place_copies, Checkout, checkout_copies, CheckedOut}
 use Rattle.checkout.specs.declared.Sited.{Sited}
 use Rattle.checkout.specs.declared.Sited.TheVariants.{Found, Missed}
-use Rattle.checkout.specs.Checkout.{readable-walk, entry-spot, co-steps, Site-for, Site-told}
+use Rattle.checkout.specs.Checkout.{readable_walk, entry_spot, co_steps, SiteFor, SiteTold}
 
 -- ---- one answer after the other
 
-module _ (a : Account) (t : Place Node) (e : Entry-path) where
+module _ (a : Account) (t : Place Node) (e : EntryPath) where
   -- the walk to an entry is refused
-  pub walk-refused-entry : {k : Cause} → walk (by-modes a) t (entry-location e) ≡ refused k → readable-walk a t e ≡ refused k
-  unfolding readable-walk
-  walk-refused-entry w = rw (w, refused-bind)
+  pub walk_refused_entry : {k : Cause} → walk (by_modes a) t (entry_location e) ≡ refused k → readable_walk a t e ≡ refused k
+  unfolding readable_walk
+  walk_refused_entry w = rw (w, refused_bind)
 
-  module _ {d : Place Node} (w : walk (by-modes a) t (entry-location e) ≡ done d) where
+  module _ {d : Place Node} (w : walk (by_modes a) t (entry_location e) ≡ done d) where
     -- the entry may not be read
-    pub entry-unreadable : (by-modes a).readable d.here ≡ false → readable-walk a t e ≡ refused Access
-    unfolding readable-walk
-    entry-unreadable h = rw (w, done-bind, h, require-false, refused-then)
+    pub entry_unreadable : (by_modes a).readable d.here ≡ false → readable_walk a t e ≡ refused Access
+    unfolding readable_walk
+    entry_unreadable h = rw (w, done_bind, h, require_false, refused_then)
 
     -- the entry may be read
-    pub entry-readable : (by-modes a).readable d.here ≡ true → readable-walk a t e ≡ done d
-    unfolding readable-walk
-    entry-readable h = rw (w, done-bind, h, require-true, done-then)
+    pub entry_readable : (by_modes a).readable d.here ≡ true → readable_walk a t e ≡ done d
+    unfolding readable_walk
+    entry_readable h = rw (w, done_bind, h, require_true, done_then)
 
   -- it leads to the entry
-  readable-leads : (d : Place Node) → readable-walk a t e ≡ done d → place_at t (entry-location e) ≡ some d
-  unfolding readable-walk
-  readable-leads d h =
-      let i = bind_done (walk (by-modes a) t (entry-location e)) (λ x. require ((by-modes a).readable x.here) Access >> done x) h in
-      let k = then-done (require ((by-modes a).readable i.0.here) Access) (done i.0) i.2 in
+  readable_leads : (d : Place Node) → readable_walk a t e ≡ done d → place_at t (entry_location e) ≡ some d
+  unfolding readable_walk
+  readable_leads d h =
+      let i = bind_done (walk (by_modes a) t (entry_location e)) (λ x. require ((by_modes a).readable x.here) Access >> done x) h in
+      let k = then_done (require ((by_modes a).readable i.0.here) Access) (done i.0) i.2 in
       let q : i.0 ≡ d = cc k.1 in
-      walked_at t (by-modes a) (entry-location e) d (i.1 ∙ ap done q)
+      walked_at t (by_modes a) (entry_location e) d (i.1 ∙ ap done q)
 
 -- what the code's walk along an entry's text tells
-module _ {b : List ℕ} {t : Place Node} (tree : Encodes b t) (a : Account) (s : Text) {e : Entry-path} (reads : entry-path s ≡ some e) {r : Walked}
-    (w : outcome r ≡ walk-in a (all-rows b) s) where
+module _ {b : List ℕ} {t : Place Node} (tree : Encodes b t) (a : Account) (s : Text) {e : EntryPath} (reads : entry_path s ≡ some e) {r : Walked}
+    (w : outcome r ≡ walk_in a (all_rows b) s) where
   -- that it is refused
-  pub entry-told-not : {k : Cause} → r ≡ Walks.Refused k → outcome (Walks.Refused k) ≡ entry-spot a t e
-  unfolding entry-spot
-  entry-told-not {k} h = rw (walk-refused-entry a t e (walk-not tree a s (entry-reads s e reads) w h), refused-bind) (outcome-refused k)
+  pub entry_told_not : {k : Cause} → r ≡ Walks.Refused k → outcome (Walks.Refused k) ≡ entry_spot a t e
+  unfolding entry_spot
+  entry_told_not {k} h = rw (walk_refused_entry a t e (walk_not tree a s (entry_reads s e reads) w h), refused_bind) (outcome_refused k)
 
   module _ {row above : ℕ} (h : r ≡ Walks.To row above) where
-    came : Came b t (entry-location e) (walk (by-modes a) t (entry-location e)) row above
-    came = walk-to tree a s (entry-reads s e reads) w h
+    came : Came b t (entry_location e) (walk (by_modes a) t (entry_location e)) row above
+    came = walk_to tree a s (entry_reads s e reads) w h
 
     -- a row of the tree
-    pub entry-told-row : Has-row b row
-    entry-told-row = used-row (at-used came.at)
+    pub entry_told_row : HasRow b row
+    entry_told_row = used_row (at_used came.at)
 
-    module _ {v : Bool} (read : v ≡ (by-modes a).readable (row_at b row).here) where
-      at_entry : (by-modes a).readable came.place.here ≡ v
-      at_entry = ap (λ (x : Node). (by-modes a).readable x) (sym (at_here came.at)) ∙ sym read
+    module _ {v : Bool} (read : v ≡ (by_modes a).readable (row_at b row).here) where
+      at_entry : (by_modes a).readable came.place.here ≡ v
+      at_entry = ap (λ (x : Node). (by_modes a).readable x) (sym (at_here came.at)) ∙ sym read
 
       -- of an entry that may not be read
-      pub entry-told-shut : v ≡ false → outcome (Walks.Refused Access) ≡ entry-spot a t e
-      unfolding entry-spot
-      entry-told-shut f = rw (entry-unreadable a t e came.walked (at_entry ∙ f), refused-bind) (outcome-refused Access)
+      pub entry_told_shut : v ≡ false → outcome (Walks.Refused Access) ≡ entry_spot a t e
+      unfolding entry_spot
+      entry_told_shut f = rw (entry_unreadable a t e came.walked (at_entry ∙ f), refused_bind) (outcome_refused Access)
 
       -- and of one that may
-      pub entry-told-open : v ≡ true → outcome (Walks.To row above) ≡ entry-spot a t e
-      unfolding entry-spot
-      entry-told-open f = rw (entry-readable a t e came.walked (at_entry ∙ f), done-bind, ← came-spot came) (outcome-at row above)
+      pub entry_told_open : v ≡ true → outcome (Walks.To row above) ≡ entry_spot a t e
+      unfolding entry_spot
+      entry_told_open f = rw (entry_readable a t e came.walked (at_entry ∙ f), done_bind, ← came_spot came) (outcome_at row above)
 
-module _ {b : List ℕ} {t : Place Node} (tree : Encodes b t) (a : Account) (e : Entry-path) {r : Walked} (same : outcome r ≡ entry-spot a t e) where
+module _ {b : List ℕ} {t : Place Node} (tree : Encodes b t) (a : Account) (e : EntryPath) {r : Walked} (same : outcome r ≡ entry_spot a t e) where
   -- an answer that tells a row came to the entry
-  pub entry-came : {row above : ℕ} → r ≡ Walks.To row above → Came b t (entry-location e) (readable-walk a t e) row above
-  unfolding entry-spot
-  entry-came = came-to tree (readable-walk a t e) (entry-location e) same (readable-leads a t e)
+  pub entry_came : {row above : ℕ} → r ≡ Walks.To row above → Came b t (entry_location e) (readable_walk a t e) row above
+  unfolding entry_spot
+  entry_came = came_to tree (readable_walk a t e) (entry_location e) same (readable_leads a t e)
 
   -- one that tells a refusal tells why it did not
-  pub entry-not : {k : Cause} → r ≡ Walks.Refused k → readable-walk a t e ≡ refused k
-  unfolding entry-spot
-  entry-not = came-not tree (readable-walk a t e) (entry-location e) same
+  pub entry_not : {k : Cause} → r ≡ Walks.Refused k → readable_walk a t e ≡ refused k
+  unfolding entry_spot
+  entry_not = came_not tree (readable_walk a t e) (entry_location e) same
 
-module _ (w : Copier) (t : Place Node) (e : Entry-path) (d : Path) where
+module _ (w : Copier) (t : Place Node) (e : EntryPath) (d : Path) where
   -- there is no room
-  pub co-no-room : {k : Cause} → room (by-modes w.caller.account) t d ≡ refused k → co-steps w t e d ≡ refused k
-  unfolding co-steps
-  co-no-room h = rw (h, refused-bind)
+  pub co_no_room : {k : Cause} → room (by_modes w.caller.account) t d ≡ refused k → co_steps w t e d ≡ refused k
+  unfolding co_steps
+  co_no_room h = rw (h, refused_bind)
 
-  module _ {f : Place Node} (h : room (by-modes w.caller.account) t d ≡ done f) where
+  module _ {f : Place Node} (h : room (by_modes w.caller.account) t d ≡ done f) where
     -- the account does not come to the entry
-    pub co-no-entry : {k : Cause} → readable-walk w.reader t e ≡ refused k → co-steps w t e d ≡ refused k
-    unfolding co-steps
-    co-no-entry g = rw (h, done-bind, g, refused-bind)
+    pub co_no_entry : {k : Cause} → readable_walk w.reader t e ≡ refused k → co_steps w t e d ≡ refused k
+    unfolding co_steps
+    co_no_entry g = rw (h, done_bind, g, refused_bind)
 
     -- it does
-    pub co-goes-on : {x : Place Node} → readable-walk w.reader t e ≡ done x
-        → co-steps w t e d ≡ place-copies w.caller t d (copy w.caller (read_by w) f.here e x)
-    unfolding co-steps
-    co-goes-on g = rw (h, done-bind, g, done-bind)
+    pub co_goes_on : {x : Place Node} → readable_walk w.reader t e ≡ done x
+        → co_steps w t e d ≡ place_copies w.caller t d (copy w.caller (read_by w) f.here e x)
+    unfolding co_steps
+    co_goes_on g = rw (h, done_bind, g, done_bind)
 
 -- ---- the site
 
 -- the first checks have passed
-module _ (w : Copier) (entry to : Text) {b : List ℕ} {t : Place Node} {e : Entry-path} {d : Path} (site : Site) {above : ℕ} (reads-entry : entry-path entry ≡ some e)
+module _ (w : Copier) (entry to : Text) {b : List ℕ} {t : Place Node} {e : EntryPath} {d : Path} (site : Site) {above : ℕ} (reads_entry : entry_path entry ≡ some e)
     (reads : path to ≡ some d) (stands : Standing b t d w.caller.account site.row site.at site.depth)
-    (came : Came b t (entry-location e) (readable-walk w.reader t e) site.filed above) where
-  abbrev checkout-of : Checkout w b entry to site
-  checkout-of = record { top = t; source = e; target = d; place = came.place; reads-entry = reads-entry; reads = reads; stands = stands; found = came.at }
+    (came : Came b t (entry_location e) (readable_walk w.reader t e) site.filed above) where
+  abbrev checkout_of : Checkout w b entry to site
+  checkout_of = record { top = t; source = e; target = d; place = came.place; reads_entry = reads_entry; reads = reads; stands = stands; found = came.at }
 
   -- and what follows them are the steps that are left
-  pub site-found : Site-for w t e d b entry to site
-  unfolding checkout-copies
-  site-found = record { job = checkout-of; left = co-goes-on w t e d stands.found came.walked }
+  pub site_found : SiteFor w t e d b entry to site
+  unfolding checkout_copies
+  site_found = record { job = checkout_of; left = co_goes_on w t e d stands.found came.walked }
 
-module _ (w : Copier) (t : Place Node) (e : Entry-path) (d : Path) (b : List ℕ) (entry to : Text) where
+module _ (w : Copier) (t : Place Node) (e : EntryPath) (d : Path) (b : List ℕ) (entry to : Text) where
   -- a site is told
-  pub site-told : {s : Site} → Site-for w t e d b entry to s → Site-told w t e d b entry to (Found s)
-  unfolding Site-told
-  site-told h = h
+  pub site_told : {s : Site} → SiteFor w t e d b entry to s → SiteTold w t e d b entry to (Found s)
+  unfolding SiteTold
+  site_told h = h
 
   -- or a refusal
-  pub site-not : {k : Cause} → co-steps w t e d ≡ refused k → Site-told w t e d b entry to (Missed k)
-  unfolding Site-told
-  site-not h = h
+  pub site_not : {k : Cause} → co_steps w t e d ≡ refused k → SiteTold w t e d b entry to (Missed k)
+  unfolding SiteTold
+  site_not h = h
 
-  module _ {r : Sited} (p : Site-told w t e d b entry to r) where
+  module _ {r : Sited} (p : SiteTold w t e d b entry to r) where
     -- what was told, then
-    pub site-of : {s : Site} → r ≡ Found s → Site-for w t e d b entry to s
-    unfolding Site-told
-    site-of q = rw q at p
+    pub site_of : {s : Site} → r ≡ Found s → SiteFor w t e d b entry to s
+    unfolding SiteTold
+    site_of q = rw q at p
 
-    pub missed-of : {k : Cause} → r ≡ Missed k → co-steps w t e d ≡ refused k
-    unfolding Site-told
-    missed-of q = rw q at p
+    pub missed_of : {k : Cause} → r ≡ Missed k → co_steps w t e d ≡ refused k
+    unfolding SiteTold
+    missed_of q = rw q at p
 
   -- what follows the steps that are left at a site follows those of `co`
-  pub site-follows : {s : Site} {r : Answer} {b' : List ℕ} → Site-for w t e d b entry to s → Checked-out w b entry to s r b' → Follows-silently (co-steps w t e d) b r b'
-  site-follows h f = rw h.left (f h.job)
+  pub site_follows : {s : Site} {r : Answer} {b' : List ℕ} → SiteFor w t e d b entry to s → CheckedOut w b entry to s r b' → FollowsSilently (co_steps w t e d) b r b'
+  site_follows h f = rw h.left (f h.job)

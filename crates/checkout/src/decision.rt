@@ -1,9 +1,9 @@
 // The first part of `co`, a decision: the room for the copies, by the person, and the entry, by the account. No copies are made yet:
 // how large an array they need is known by the entry's row.
 ghost use Rattle.std.specs.Prelude.{◌≡◌};
-ghost use Rattle.tree.specs.TreeBytes.{Whole, Path-text, Entry-path-text, Whichever-entry};
+ghost use Rattle.tree.specs.TreeBytes.{Whole, PathText, EntryPathText, WhicheverEntry};
 ghost use Rattle.walks.specs.RowWalk.{outcome};
-ghost use Rattle.checkout.specs.Checkout.{entry-spot, Whichever-copy, Site-told};
+ghost use Rattle.checkout.specs.Checkout.{entry_spot, WhicheverCopy, SiteTold};
 
 use crate::Sited;
 use accounts::Account;
@@ -16,8 +16,8 @@ use walks::{Walked, readable_at, walk};
 // The account's walk to an entry, which it must be able to read.
 fn readable_entry(tree: &[u8], account: Account, entry: &[u8]) -> Walked
     requires whole { Whole tree.now }
-    requires entry_path_text { Entry-path-text entry.now }
-    ensures { Whichever-entry tree.now entry.now (λ t e. outcome result ≡ entry-spot account t e) }
+    requires entry_path_text { EntryPathText entry.now }
+    ensures { WhicheverEntry tree.now entry.now (λ t e. outcome result ≡ entry_spot account t e) }
 {
     match walk(tree, account, entry) {
         Walked::To { row, above } => {
@@ -33,10 +33,10 @@ fn readable_entry(tree: &[u8], account: Account, entry: &[u8]) -> Walked
 // The person's part, then the account's.
 pub fn find_site(tree: &[u8], who: Copier, entry: &[u8], to: &[u8]) -> Sited
     requires whole { Whole tree.now }
-    requires entry_path_text { Entry-path-text entry.now }
-    requires path_text { Path-text to.now }
-    ensures { Whichever-copy tree.now entry.now to.now
-        (λ t e d. Site-told who t e d tree.now entry.now to.now result) }
+    requires entry_path_text { EntryPathText entry.now }
+    requires path_text { PathText to.now }
+    ensures { WhicheverCopy tree.now entry.now to.now
+        (λ t e d. SiteTold who t e d tree.now entry.now to.now result) }
 {
     let caller = who.caller;
     let person = caller.account;

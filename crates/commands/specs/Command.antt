@@ -4,111 +4,111 @@ use Rattle.std.proofs.Math.Option.{Option, none, some}
 use Rattle.buffers.specs.Text.{Text}
 use Rattle.accounts.specs.declared.Uid.{Uid}
 use Rattle.accounts.specs.declared.Gid.{Gid}
-use Rattle.accounts.specs.Dominance.{Bounded-role}
+use Rattle.accounts.specs.Dominance.{BoundedRole}
 use Rattle.syntax.specs.Pieces.{bytes, comma, pieces}
-use Rattle.syntax.specs.Number.{is-mode}
+use Rattle.syntax.specs.Number.{is_mode}
 use Rattle.syntax.specs.Form.{◌>>=◌, Form, by_form}
-use Rattle.syntax.specs.Path.{Path, Typed-path, Entry-path, is_name, is-path, is-typed-path, is-entry-path, typed-path}
-use Rattle.syntax.specs.Field.{uid, is-content}
+use Rattle.syntax.specs.Path.{Path, TypedPath, EntryPath, is_name, is_path, is_typed_path, is_entry_path, typed_path}
+use Rattle.syntax.specs.Field.{uid, is_content}
 use Rattle.arguments.specs.declared.ArgumentKind.{ArgumentKind}
-use Rattle.arguments.specs.Kinds.{Makes, arguments-of}
+use Rattle.arguments.specs.Kinds.{Makes, arguments_of}
 use Rattle.commands.specs.declared.Word.{Word}
 use Rattle.commands.specs.declared.Word.TheVariants.{Create, Mkdir, Read, Write, Rm, Rmdir, Mv, Chmod, Chgrp, Chown, Login, Logout, Cd, Add, Co, Commit, Up, Del}
 use Rattle.arguments.specs.declared.ArgumentKind.TheVariants as a
 
 -- a command of the shell, where P is what its paths are: as they are typed, or whole
-pub data Shell-form (P : Type 0) : Type 0 where
-  create mkdir : P → ℕ → Shell-form P
-  read : P → Shell-form P
-  write : P → Text → Shell-form P
-  rm rmdir : P → Shell-form P
-  mv : P → P → Shell-form P
-  chmod : P → ℕ → Shell-form P
-  chgrp : P → Gid → Shell-form P
-  chown : P → Uid → Shell-form P
+pub data ShellForm (P : Type 0) : Type 0 where
+  create mkdir : P → ℕ → ShellForm P
+  read : P → ShellForm P
+  write : P → Text → ShellForm P
+  rm rmdir : P → ShellForm P
+  mv : P → P → ShellForm P
+  chmod : P → ℕ → ShellForm P
+  chgrp : P → Gid → ShellForm P
+  chown : P → Uid → ShellForm P
 
 -- about the caller's session and working directory
-pub data Account-form (P : Type 0) : Type 0 where
-  login : Bounded-role → Text → Account-form P
-  logout : Account-form P
-  cd : P → Account-form P
+pub data AccountForm (P : Type 0) : Type 0 where
+  login : BoundedRole → Text → AccountForm P
+  logout : AccountForm P
+  cd : P → AccountForm P
 
 -- on entries, in the caller's session; entry paths are always whole
-pub data Entry-form (P : Type 0) : Type 0 where
-  add : P → Entry-path → Bounded-role → Entry-form P
-  co : Entry-path → P → Entry-form P
-  commit up : P → Entry-form P
-  del : Entry-path → Entry-form P
+pub data EntryForm (P : Type 0) : Type 0 where
+  add : P → EntryPath → BoundedRole → EntryForm P
+  co : EntryPath → P → EntryForm P
+  commit up : P → EntryForm P
+  del : EntryPath → EntryForm P
 
-pub data Command-form (P : Type 0) : Type 0 where
-  shell : Shell-form P → Command-form P
-  account : Account-form P → Command-form P
-  entry : Entry-form P → Command-form P
+pub data CommandForm (P : Type 0) : Type 0 where
+  shell : ShellForm P → CommandForm P
+  account : AccountForm P → CommandForm P
+  entry : EntryForm P → CommandForm P
 
 -- with whole paths: what is run
-abbrev pub Shell-command : Type 0
-Shell-command = Shell-form Path
+abbrev pub ShellAction : Type 0
+ShellAction = ShellForm Path
 
-abbrev pub Account-command : Type 0
-Account-command = Account-form Path
+abbrev pub AccountAction : Type 0
+AccountAction = AccountForm Path
 
-abbrev pub Entry-command : Type 0
-Entry-command = Entry-form Path
+abbrev pub EntryAction : Type 0
+EntryAction = EntryForm Path
 
 abbrev pub Command : Type 0
-Command = Command-form Path
+Command = CommandForm Path
 
 -- with paths as they are typed: what a line says
-abbrev pub Typed-command : Type 0
-Typed-command = Command-form Typed-path
+abbrev pub TypedCommand : Type 0
+TypedCommand = CommandForm TypedPath
 
 -- whether a path of the command passes a test
-unfoldable pub some-path : (Path → Bool) → Shell-command → Bool
-some-path test (create p m) = test p
-some-path test (mkdir p m) = test p
-some-path test (read p) = test p
-some-path test (write p c) = test p
-some-path test (rm p) = test p
-some-path test (rmdir p) = test p
-some-path test (mv a b) = test a || test b
-some-path test (chmod p m) = test p
-some-path test (chgrp p g) = test p
-some-path test (chown p u) = test p
+unfoldable pub some_path : (Path → Bool) → ShellAction → Bool
+some_path test (create p m) = test p
+some_path test (mkdir p m) = test p
+some_path test (read p) = test p
+some_path test (write p c) = test p
+some_path test (rm p) = test p
+some_path test (rmdir p) = test p
+some_path test (mv a b) = test a || test b
+some_path test (chmod p m) = test p
+some_path test (chgrp p g) = test p
+some_path test (chown p u) = test p
 
 -- whether one that is not an entry path does
-unfoldable pub some-working-path : (Path → Bool) → Entry-command → Bool
-some-working-path test (add w e r) = test w
-some-working-path test (co e d) = test d
-some-working-path test (commit w) = test w
-some-working-path test (up w) = test w
-some-working-path test (del e) = false
+unfoldable pub some_working_path : (Path → Bool) → EntryAction → Bool
+some_working_path test (add w e r) = test w
+some_working_path test (co e d) = test d
+some_working_path test (commit w) = test w
+some_working_path test (up w) = test w
+some_working_path test (del e) = false
 
 -- whether the path of `cd` does
-unfoldable pub some-account-path : (Path → Bool) → Account-command → Bool
-some-account-path test (login r w) = false
-some-account-path test logout = false
-some-account-path test (cd p) = test p
+unfoldable pub some_account_path : (Path → Bool) → AccountAction → Bool
+some_account_path test (login r w) = false
+some_account_path test logout = false
+some_account_path test (cd p) = test p
 
 -- whether one that the caller walks does
-unfoldable pub some-walked-path : (Path → Bool) → Command → Bool
-some-walked-path test (shell c) = some-path test c
-some-walked-path test (account c) = some-account-path test c
-some-walked-path test (entry c) = some-working-path test c
+unfoldable pub some_walked_path : (Path → Bool) → Command → Bool
+some_walked_path test (shell c) = some_path test c
+some_walked_path test (account c) = some_account_path test c
+some_walked_path test (entry c) = some_working_path test c
 
 pub record Line : Type 0 where
   pub caller : Uid
-  pub command : Typed-command
+  pub command : TypedCommand
 
 -- a word, the kinds of its arguments, and the command that they make, whatever paths are
-pub record Word-form : Type 1 where
+pub record WordForm : Type 1 where
   pub spelling : Text
   pub kinds : List ArgumentKind
-  pub makes : (P : Type 0) → Makes P kinds (Command-form P)
+  pub makes : (P : Type 0) → Makes P kinds (CommandForm P)
 
-unfoldable pub takes : Text → (ks : List ArgumentKind) → ((P : Type 0) → Makes P ks (Command-form P)) → Word-form
+unfoldable pub takes : Text → (ks : List ArgumentKind) → ((P : Type 0) → Makes P ks (CommandForm P)) → WordForm
 takes w ks x = record { spelling = w; kinds = ks; makes = x }
 
-unfoldable pub listed : Word → Word-form
+unfoldable pub listed : Word → WordForm
 unfolding takes
 listed Create = takes (bytes "create") (a.Path ∷ (a.Plain ∷ [])) (λ P p m. shell (create p m))
 listed Mkdir = takes (bytes "mkdir") (a.Path ∷ (a.Mode ∷ [])) (λ P p m. shell (mkdir p m))
@@ -130,21 +130,21 @@ listed Up = takes (bytes "up") (a.Path ∷ []) (λ P w. entry (up w))
 listed Del = takes (bytes "del") (a.Entry ∷ []) (λ P e. entry (del e))
 
 -- the words: the shell's, and the others
-unfoldable pub shell-words : List Word
-shell-words = Create ∷ Mkdir ∷ Read ∷ Write ∷ Rm ∷ Rmdir ∷ Mv ∷ Chmod ∷ Chgrp ∷ Chown ∷ []
+unfoldable pub shell_words : List Word
+shell_words = Create ∷ Mkdir ∷ Read ∷ Write ∷ Rm ∷ Rmdir ∷ Mv ∷ Chmod ∷ Chgrp ∷ Chown ∷ []
 
-unfoldable pub other-words : List Word
-other-words = Login ∷ Logout ∷ Cd ∷ Add ∷ Co ∷ Commit ∷ Up ∷ Del ∷ []
+unfoldable pub other_words : List Word
+other_words = Login ∷ Logout ∷ Cd ∷ Add ∷ Co ∷ Commit ∷ Up ∷ Del ∷ []
 
 unfoldable pub words : List Word
-unfolding shell-words other-words
-words = shell-words ++ other-words
+unfolding shell_words other_words
+words = shell_words ++ other_words
 
 -- the form of a command as it is typed
-unfoldable pub form : Word → Form Typed-command
-form w = record { word = (listed w).spelling; arguments = arguments-of typed-path (listed w).kinds ((listed w).makes Typed-path) }
+unfoldable pub form : Word → Form TypedCommand
+form w = record { word = (listed w).spelling; arguments = arguments_of typed_path (listed w).kinds ((listed w).makes TypedPath) }
 
-unfoldable pub forms : List (Form Typed-command)
+unfoldable pub forms : List (Form TypedCommand)
 forms = map form words
 
 -- the caller, the word and the arguments
@@ -161,56 +161,56 @@ line t = line_of (pieces comma t)
 
 -- every value of a command in range, by the test of its paths
 module _ {P : Type 0} (ok : P → Bool) where
-  unfoldable pub is-shell-form : Shell-form P → Bool
-  is-shell-form (create p m) = ok p && ltb m 512
-  is-shell-form (mkdir p m) = ok p && is-mode m
-  is-shell-form (read p) = ok p
-  is-shell-form (write p c) = ok p && is-content c
-  is-shell-form (rm p) = ok p
-  is-shell-form (rmdir p) = ok p
-  is-shell-form (mv a b) = ok a && ok b
-  is-shell-form (chmod p m) = ok p && is-mode m
-  is-shell-form (chgrp p g) = ok p && ltb g.0 25
-  is-shell-form (chown p u) = ok p && ltb u.0 24
+  unfoldable pub is_shell_form : ShellForm P → Bool
+  is_shell_form (create p m) = ok p && ltb m 512
+  is_shell_form (mkdir p m) = ok p && is_mode m
+  is_shell_form (read p) = ok p
+  is_shell_form (write p c) = ok p && is_content c
+  is_shell_form (rm p) = ok p
+  is_shell_form (rmdir p) = ok p
+  is_shell_form (mv a b) = ok a && ok b
+  is_shell_form (chmod p m) = ok p && is_mode m
+  is_shell_form (chgrp p g) = ok p && ltb g.0 25
+  is_shell_form (chown p u) = ok p && ltb u.0 24
 
-  unfoldable pub is-account-form : Account-form P → Bool
-  is-account-form (login r w) = is_name w
-  is-account-form logout = true
-  is-account-form (cd p) = ok p
+  unfoldable pub is_account_form : AccountForm P → Bool
+  is_account_form (login r w) = is_name w
+  is_account_form logout = true
+  is_account_form (cd p) = ok p
 
-  unfoldable pub is-entry-form : Entry-form P → Bool
-  is-entry-form (add w e r) = ok w && is-entry-path e
-  is-entry-form (co e d) = is-entry-path e && ok d
-  is-entry-form (commit w) = ok w
-  is-entry-form (up w) = ok w
-  is-entry-form (del e) = is-entry-path e
+  unfoldable pub is_entry_form : EntryForm P → Bool
+  is_entry_form (add w e r) = ok w && is_entry_path e
+  is_entry_form (co e d) = is_entry_path e && ok d
+  is_entry_form (commit w) = ok w
+  is_entry_form (up w) = ok w
+  is_entry_form (del e) = is_entry_path e
 
-  unfoldable pub is-command-form : Command-form P → Bool
-  is-command-form (shell c) = is-shell-form c
-  is-command-form (account c) = is-account-form c
-  is-command-form (entry c) = is-entry-form c
+  unfoldable pub is_command_form : CommandForm P → Bool
+  is_command_form (shell c) = is_shell_form c
+  is_command_form (account c) = is_account_form c
+  is_command_form (entry c) = is_entry_form c
 
 -- of a command that is run
-unfoldable pub is-shell-command : Shell-command → Bool
-unfolding is-shell-form
-is-shell-command c = is-shell-form is-path c
+unfoldable pub is_shell_command : ShellAction → Bool
+unfolding is_shell_form
+is_shell_command c = is_shell_form is_path c
 
-unfoldable pub is-account-command : Account-command → Bool
-unfolding is-account-form
-is-account-command c = is-account-form is-path c
+unfoldable pub is_account_command : AccountAction → Bool
+unfolding is_account_form
+is_account_command c = is_account_form is_path c
 
-unfoldable pub is-entry-command : Entry-command → Bool
-unfolding is-entry-form
-is-entry-command c = is-entry-form is-path c
+unfoldable pub is_entry_command : EntryAction → Bool
+unfolding is_entry_form
+is_entry_command c = is_entry_form is_path c
 
-unfoldable pub is-command : Command → Bool
-unfolding is-command-form
-is-command c = is-command-form is-path c
+unfoldable pub is_command : Command → Bool
+unfolding is_command_form
+is_command c = is_command_form is_path c
 
 -- of one that is typed, and of a line of a listed form
-unfoldable pub is-typed-command : Typed-command → Bool
-unfolding is-command-form
-is-typed-command c = is-command-form is-typed-path c
+unfoldable pub is_typed_command : TypedCommand → Bool
+unfolding is_command_form
+is_typed_command c = is_command_form is_typed_path c
 
-unfoldable pub is-line : Line → Bool
-is-line l = ltb l.caller.0 24 && is-typed-command l.command
+unfoldable pub is_line : Line → Bool
+is_line l = ltb l.caller.0 24 && is_typed_command l.command

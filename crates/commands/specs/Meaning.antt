@@ -2,82 +2,82 @@
 use Rattle.std.specs.Prelude.{◌≡◌, true}
 use Rattle.std.proofs.Math.Option.{Option, some}
 use Rattle.buffers.specs.Text.{Text}
-use Rattle.accounts.specs.Dominance.{Bounded-role}
+use Rattle.accounts.specs.Dominance.{BoundedRole}
 use Rattle.syntax.specs.declared.Span.{Span}
-use Rattle.syntax.specs.Parts.{Inside, span-text}
-use Rattle.syntax.specs.Path.{Path, Entry-path, path, entry-path}
+use Rattle.syntax.specs.Parts.{Inside, span_text}
+use Rattle.syntax.specs.Path.{Path, EntryPath, path, entry_path}
 use Rattle.commands.specs.declared.Command.{Command as Parts}
 use Rattle.commands.specs.declared.Command.TheVariants.{Shell, Account, Entry}
-use Rattle.commands.specs.declared.ShellCommand.{ShellCommand as Shell-parts}
+use Rattle.commands.specs.declared.ShellCommand.{ShellCommand as ShellParts}
 use Rattle.commands.specs.declared.ShellCommand.TheVariants.{Create, Mkdir, Read, Write, Rm, Rmdir, Mv, Chmod, Chgrp, Chown}
-use Rattle.commands.specs.declared.AccountCommand.{AccountCommand as Account-parts}
+use Rattle.commands.specs.declared.AccountCommand.{AccountCommand as AccountParts}
 use Rattle.commands.specs.declared.AccountCommand.TheVariants.{Login, Logout, Cd}
-use Rattle.commands.specs.declared.EntryCommand.{EntryCommand as Entry-parts}
+use Rattle.commands.specs.declared.EntryCommand.{EntryCommand as EntryParts}
 use Rattle.commands.specs.declared.EntryCommand.TheVariants.{Add, Co, Commit, Up, Del}
 use Rattle.commands.specs.declared.Typed.{Typed}
-use Rattle.commands.specs.Command.{Shell-command, create, mkdir, read, write, rm, rmdir, mv, chmod, chgrp, chown, Account-command, login, logout, cd}
-use Rattle.commands.specs.Command.{Entry-command, add, co, commit, up, del, Command, Typed-command, shell, account, entry, is-shell-command, is-command, is-typed-command}
-use Rattle.commands.specs.Parsed.{typed-meaning}
+use Rattle.commands.specs.Command.{ShellAction, create, mkdir, read, write, rm, rmdir, mv, chmod, chgrp, chown, AccountAction, login, logout, cd}
+use Rattle.commands.specs.Command.{EntryAction, add, co, commit, up, del, Command, TypedCommand, shell, account, entry, is_shell_command, is_command, is_typed_command}
+use Rattle.commands.specs.Parsed.{typed_meaning}
 
 -- the typed command k is what a line's arguments make, and it is in range
-pub record Typed-meant (t : Text) (c : Typed) (k : Typed-command) : Type 0 where
-  pub means : typed-meaning t c ≡ some k
-  pub in-range : is-typed-command k ≡ true
+pub record TypedMeant (t : Text) (c : Typed) (k : TypedCommand) : Type 0 where
+  pub means : typed_meaning t c ≡ some k
+  pub in_range : is_typed_command k ≡ true
 
 -- a part of a line lies inside it and reads as something
-pub record Part-reads {A : Type 0} (read : Text → Option A) (t : Text) (s : Span) (x : A) : Type 0 where
+pub record PartReads {A : Type 0} (read : Text → Option A) (t : Text) (s : Span) (x : A) : Type 0 where
   pub inside : Inside s t
-  pub reads : read (span-text t s) ≡ some x
+  pub reads : read (span_text t s) ≡ some x
 
 -- the command k is that of the parts: what each part reads as, and what they make
-unfoldable pub Shell-means : Text → Shell-parts → Shell-command → Type 0
-Shell-means t (Create p m) k = (q : Path) × Part-reads path t p q × (k ≡ create q m)
-Shell-means t (Mkdir p m) k = (q : Path) × Part-reads path t p q × (k ≡ mkdir q m)
-Shell-means t (Read p) k = (q : Path) × Part-reads path t p q × (k ≡ read q)
-Shell-means t (Write p c) k = (q : Path) × Part-reads path t p q × Inside c t × (k ≡ write q (span-text t c))
-Shell-means t (Rm p) k = (q : Path) × Part-reads path t p q × (k ≡ rm q)
-Shell-means t (Rmdir p) k = (q : Path) × Part-reads path t p q × (k ≡ rmdir q)
-Shell-means t (Mv a b) k = (p : Path) × (q : Path) × Part-reads path t a p × Part-reads path t b q × (k ≡ mv p q)
-Shell-means t (Chmod p m) k = (q : Path) × Part-reads path t p q × (k ≡ chmod q m)
-Shell-means t (Chgrp p g) k = (q : Path) × Part-reads path t p q × (k ≡ chgrp q g)
-Shell-means t (Chown p u) k = (q : Path) × Part-reads path t p q × (k ≡ chown q u)
+unfoldable pub ShellMeans : Text → ShellParts → ShellAction → Type 0
+ShellMeans t (Create p m) k = (q : Path) × PartReads path t p q × (k ≡ create q m)
+ShellMeans t (Mkdir p m) k = (q : Path) × PartReads path t p q × (k ≡ mkdir q m)
+ShellMeans t (Read p) k = (q : Path) × PartReads path t p q × (k ≡ read q)
+ShellMeans t (Write p c) k = (q : Path) × PartReads path t p q × Inside c t × (k ≡ write q (span_text t c))
+ShellMeans t (Rm p) k = (q : Path) × PartReads path t p q × (k ≡ rm q)
+ShellMeans t (Rmdir p) k = (q : Path) × PartReads path t p q × (k ≡ rmdir q)
+ShellMeans t (Mv a b) k = (p : Path) × (q : Path) × PartReads path t a p × PartReads path t b q × (k ≡ mv p q)
+ShellMeans t (Chmod p m) k = (q : Path) × PartReads path t p q × (k ≡ chmod q m)
+ShellMeans t (Chgrp p g) k = (q : Path) × PartReads path t p q × (k ≡ chgrp q g)
+ShellMeans t (Chown p u) k = (q : Path) × PartReads path t p q × (k ≡ chown q u)
 
-unfoldable pub Account-means : Text → Account-parts → Account-command → Type 0
-Account-means t (Login r w) k = (z : Bounded-role) × (z.role ≡ r) × Inside w t × (k ≡ login z (span-text t w))
-Account-means t Logout k = k ≡ logout
-Account-means t (Cd p) k = (q : Path) × Part-reads path t p q × (k ≡ cd q)
+unfoldable pub AccountMeans : Text → AccountParts → AccountAction → Type 0
+AccountMeans t (Login r w) k = (z : BoundedRole) × (z.role ≡ r) × Inside w t × (k ≡ login z (span_text t w))
+AccountMeans t Logout k = k ≡ logout
+AccountMeans t (Cd p) k = (q : Path) × PartReads path t p q × (k ≡ cd q)
 
-unfoldable pub Entry-means : Text → Entry-parts → Entry-command → Type 0
-Entry-means t (Add w e r) k = (p : Path) × (q : Entry-path) × (z : Bounded-role) × Part-reads path t w p × Part-reads entry-path t e q × (z.role ≡ r) × (k ≡ add p q z)
-Entry-means t (Co e d) k = (q : Entry-path) × (p : Path) × Part-reads entry-path t e q × Part-reads path t d p × (k ≡ co q p)
-Entry-means t (Commit w) k = (q : Path) × Part-reads path t w q × (k ≡ commit q)
-Entry-means t (Up w) k = (q : Path) × Part-reads path t w q × (k ≡ up q)
-Entry-means t (Del e) k = (q : Entry-path) × Part-reads entry-path t e q × (k ≡ del q)
+unfoldable pub EntryMeans : Text → EntryParts → EntryAction → Type 0
+EntryMeans t (Add w e r) k = (p : Path) × (q : EntryPath) × (z : BoundedRole) × PartReads path t w p × PartReads entry_path t e q × (z.role ≡ r) × (k ≡ add p q z)
+EntryMeans t (Co e d) k = (q : EntryPath) × (p : Path) × PartReads entry_path t e q × PartReads path t d p × (k ≡ co q p)
+EntryMeans t (Commit w) k = (q : Path) × PartReads path t w q × (k ≡ commit q)
+EntryMeans t (Up w) k = (q : Path) × PartReads path t w q × (k ≡ up q)
+EntryMeans t (Del e) k = (q : EntryPath) × PartReads entry_path t e q × (k ≡ del q)
 
 -- and it is of their kind
 unfoldable pub Means : Text → Parts → Command → Type 0
-Means t (Shell c) k = (e : Shell-command) × Shell-means t c e × (k ≡ shell e)
-Means t (Account c) k = (e : Account-command) × Account-means t c e × (k ≡ account e)
-Means t (Entry c) k = (e : Entry-command) × Entry-means t c e × (k ≡ entry e)
+Means t (Shell c) k = (e : ShellAction) × ShellMeans t c e × (k ≡ shell e)
+Means t (Account c) k = (e : AccountAction) × AccountMeans t c e × (k ≡ account e)
+Means t (Entry c) k = (e : EntryAction) × EntryMeans t c e × (k ≡ entry e)
 
 -- and it is in range
-pub record Shell-meant (t : Text) (c : Shell-parts) (k : Shell-command) : Type 0 where
-  pub means : Shell-means t c k
-  pub in-range : is-shell-command k ≡ true
+pub record ShellMeant (t : Text) (c : ShellParts) (k : ShellAction) : Type 0 where
+  pub means : ShellMeans t c k
+  pub in_range : is_shell_command k ≡ true
 
 pub record Meant (t : Text) (c : Parts) (k : Command) : Type 0 where
   pub means : Means t c k
-  pub in-range : is-command k ≡ true
+  pub in_range : is_command k ≡ true
 
 -- the parts are those of some command
-abbrev pub Some-shell-command : Text → Shell-parts → Type 0
-Some-shell-command t c = (k : Shell-command) × Shell-meant t c k
+abbrev pub SomeShellCommand : Text → ShellParts → Type 0
+SomeShellCommand t c = (k : ShellAction) × ShellMeant t c k
 
-abbrev pub Some-account-command : Text → Account-parts → Type 0
-Some-account-command t c = (k : Account-command) × Account-means t c k
+abbrev pub SomeAccountCommand : Text → AccountParts → Type 0
+SomeAccountCommand t c = (k : AccountAction) × AccountMeans t c k
 
-abbrev pub Some-entry-command : Text → Entry-parts → Type 0
-Some-entry-command t c = (k : Entry-command) × Entry-means t c k
+abbrev pub SomeEntryCommand : Text → EntryParts → Type 0
+SomeEntryCommand t c = (k : EntryAction) × EntryMeans t c k
 
-abbrev pub Some-command : Text → Parts → Type 0
-Some-command t c = (k : Command) × Meant t c k
+abbrev pub SomeCommand : Text → Parts → Type 0
+SomeCommand t c = (k : Command) × Meant t c k

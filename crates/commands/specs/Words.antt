@@ -14,14 +14,14 @@ abbrev pub shape_of : List ArgumentKind → Shape
 shape_of ks = record { count = length ks; first = get_or ks 0 a.Absent; second = get_or ks 1 a.Absent; third = get_or ks 2 a.Absent }
 
 -- what was found before, or this word where it is spelled so
-unfoldable pub or-listed : Form → Bool → Word → Shape → Form
-or-listed (Listed w s) spelled word shape = Listed w s
-or-listed Unlisted true word shape = Listed word shape
-or-listed Unlisted false word shape = Unlisted
+unfoldable pub or_listed : Form → Bool → Word → Shape → Form
+or_listed (Listed w s) spelled word shape = Listed w s
+or_listed Unlisted true word shape = Listed word shape
+or_listed Unlisted false word shape = Unlisted
 
-unfoldable pub form-among : List Word → Form → Text → Form
-form-among [] before t = before
-form-among (w ∷ ws) before t = form-among ws (or-listed before (same_text t (listed w).spelling) w (shape_of (listed w).kinds)) t
+unfoldable pub form_among : List Word → Form → Text → Form
+form_among [] before t = before
+form_among (w ∷ ws) before t = form_among ws (or_listed before (same_text t (listed w).spelling) w (shape_of (listed w).kinds)) t
 
 unfoldable pub form_of : Text → Form
-form_of t = form-among words Unlisted t
+form_of t = form_among words Unlisted t

@@ -1,12 +1,12 @@
 // The command that a typed one is, once its paths are whole.
-ghost use Rattle.commands.specs.Parsed.{Makes-of};
+ghost use Rattle.commands.specs.Parsed.{MakesOf};
 
 use crate::{AccountCommand, Command, EntryCommand, ShellCommand, Typed, Word};
 use accounts::{Gid, Role, Uid};
 
 // The command of a word, made of its arguments and their numbers: over every text it means what whole paths there make.
 pub fn command_of(typed: Typed) -> Command
-    ensures { Makes-of typed result }
+    ensures { MakesOf typed result }
 {
     let word = typed.word;
     let f = typed.fields;

@@ -2,10 +2,10 @@
 ghost use Rattle.std.specs.Prelude.{◌≡◌, ◌≤◌, length, drop};
 ghost use Rattle.std.proofs.Math.Option.{some, map};
 ghost use Rattle.syntax.specs.Pieces.{comma, pieces};
-ghost use Rattle.line_fields.specs.FieldsRead.{Fields-inside, given};
-ghost use Rattle.commands.specs.Command.{listed, line as line-of-text};
+ghost use Rattle.line_fields.specs.FieldsRead.{FieldsInside, given};
+ghost use Rattle.commands.specs.Command.{listed, line as line_of_text};
 ghost use Rattle.commands.specs.Words.{shape_of};
-ghost use Rattle.commands.specs.Parsed.{line-with, parsed, Read_in, command-of, command-from};
+ghost use Rattle.commands.specs.Parsed.{line_with, parsed, Read_in, command_of, command_from};
 
 use crate::shapes::numbers_at;
 use crate::words::form_at;
@@ -16,10 +16,10 @@ use syntax::{Number, number_at};
 
 // The line of a caller and a word with the arguments of its shape, which are not too many.
 fn with_arguments(line: &[u8], caller: Uid, f: Fields, word: Word, shape: Shape) -> Parsed
-    requires fields_inside { Fields-inside f line.now }
+    requires fields_inside { FieldsInside f line.now }
     requires count_bound { f.count ≤ 3 }
     requires shape_value { shape ≡ shape_of (listed word).kinds }
-    ensures result_value { parsed line.now result ≡ map some (line-with caller (command-from word (given line.now f))) }
+    ensures result_value { parsed line.now result ≡ map some (line_with caller (command_from word (given line.now f))) }
     ensures read_in { Read_in line.now result }
 {
     match numbers_at(line, f, shape) {
@@ -41,7 +41,7 @@ fn with_arguments(line: &[u8], caller: Uid, f: Fields, word: Word, shape: Shape)
 // The line of a caller and the command whose word starts at a place.
 fn command_at(line: &[u8], caller: Uid, at: usize) -> Parsed
     requires { at ≤ length line.now }
-    ensures result_value { parsed line.now result ≡ map some (line-with caller (command-of (pieces comma (drop at line.now)))) }
+    ensures result_value { parsed line.now result ≡ map some (line_with caller (command_of (pieces comma (drop at line.now)))) }
     ensures read_in { Read_in line.now result }
 {
     let f = fields_at(line, at);
@@ -56,7 +56,7 @@ fn command_at(line: &[u8], caller: Uid, at: usize) -> Parsed
 
 // A command line of any bytes.
 pub fn parse(line: &[u8]) -> Parsed
-    ensures result_value { parsed line.now result ≡ map some (line-of-text line.now) }
+    ensures result_value { parsed line.now result ≡ map some (line_of_text line.now) }
     ensures read_in { Read_in line.now result }
 {
     let u = first_field(line);

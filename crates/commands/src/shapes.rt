@@ -1,7 +1,7 @@
 // The arguments of a command, read by the kinds of its shape.
 ghost use Rattle.std.specs.Prelude.{◌≡◌};
-ghost use Rattle.line_fields.specs.FieldsRead.{Fields-inside};
-ghost use Rattle.commands.specs.Parsed.{numbers-in};
+ghost use Rattle.line_fields.specs.FieldsRead.{FieldsInside};
+ghost use Rattle.commands.specs.Parsed.{numbers_in};
 
 use crate::{Numbers, Shape};
 use arguments::argument_at;
@@ -10,8 +10,8 @@ use syntax::Number;
 
 // The numbers of a command's arguments, where these are as many as its shape says and each has its form.
 pub fn numbers_at(line: &[u8], f: Fields, shape: Shape) -> Numbers
-    requires { Fields-inside f line.now }
-    ensures { result ≡ numbers-in line.now f shape }
+    requires { FieldsInside f line.now }
+    ensures { result ≡ numbers_in line.now f shape }
 {
     if f.count != shape.count {
         return Numbers::Wrong;

@@ -2,10 +2,10 @@
 // of `listed` in `Command.antt`, and arguments are read by their kind. docs/ADDING.md says what a new one touches.
 ghost use Rattle.std.specs.Prelude.{◌≡◌, [], ◌∷◌};
 ghost use Rattle.buffers.specs.Text.{same_text};
-ghost use Rattle.syntax.specs.Parts.{Inside, span-text};
+ghost use Rattle.syntax.specs.Parts.{Inside, span_text};
 ghost use Rattle.commands.specs.declared.Form.TheVariants.{Unlisted};
-ghost use Rattle.commands.specs.Command.{shell-words};
-ghost use Rattle.commands.specs.Words.{shape_of, or-listed, form-among, form_of};
+ghost use Rattle.commands.specs.Command.{shell_words};
+ghost use Rattle.commands.specs.Words.{shape_of, or_listed, form_among, form_of};
 
 use crate::{Form, Shape, Word};
 use arguments::ArgumentKind;
@@ -15,7 +15,7 @@ use syntax::Span;
 impl Form {
     // What was found before, or this word with its shape where the text is so spelled.
     fn or(self, t: &[u8], spelling: &[u8], word: Word, shape: Shape) -> Self
-        ensures { result ≡ or-listed self (same_text t.now spelling.now) word shape }
+        ensures { result ≡ or_listed self (same_text t.now spelling.now) word shape }
     {
         let Form::Unlisted = self else {
             return self;
@@ -28,7 +28,7 @@ impl Form {
 
     // This word with no arguments.
     fn no(self, t: &[u8], spelling: &[u8], word: Word) -> Self
-        ensures { result ≡ or-listed self (same_text t.now spelling.now) word (shape_of []) }
+        ensures { result ≡ or_listed self (same_text t.now spelling.now) word (shape_of []) }
     {
         self.or(
             t,
@@ -45,7 +45,7 @@ impl Form {
 
     // This word with one argument.
     fn one(self, t: &[u8], spelling: &[u8], word: Word, a: ArgumentKind) -> Self
-        ensures { result ≡ or-listed self (same_text t.now spelling.now) word (shape_of (a ∷ [])) }
+        ensures { result ≡ or_listed self (same_text t.now spelling.now) word (shape_of (a ∷ [])) }
     {
         self.or(
             t,
@@ -62,7 +62,7 @@ impl Form {
 
     // This word with two arguments.
     fn two(self, t: &[u8], spelling: &[u8], word: Word, a: ArgumentKind, b: ArgumentKind) -> Self
-        ensures { result ≡ or-listed self (same_text t.now spelling.now) word (shape_of (a ∷ (b ∷ []))) }
+        ensures { result ≡ or_listed self (same_text t.now spelling.now) word (shape_of (a ∷ (b ∷ []))) }
     {
         self.or(
             t,
@@ -87,7 +87,7 @@ impl Form {
         b: ArgumentKind,
         c: ArgumentKind,
     ) -> Self
-        ensures { result ≡ or-listed self (same_text t.now spelling.now) word (shape_of (a ∷ (b ∷ (c ∷ [])))) }
+        ensures { result ≡ or_listed self (same_text t.now spelling.now) word (shape_of (a ∷ (b ∷ (c ∷ [])))) }
     {
         self.or(
             t,
@@ -105,7 +105,7 @@ impl Form {
 
 // The form of the word that a text is, if it is one of the shell's.
 fn shell_form(t: &[u8]) -> Form
-    ensures { result ≡ form-among shell-words Unlisted t.now }
+    ensures { result ≡ form_among shell_words Unlisted t.now }
 {
     let mut f = Form::Unlisted;
     f = f.two(
@@ -187,7 +187,7 @@ fn form_of(t: &[u8]) -> Form
 // The form of the word that a part of the line is.
 pub fn form_at(line: &[u8], s: Span) -> Form
     requires { Inside s line.now }
-    ensures { result ≡ form_of (span-text line.now s) }
+    ensures { result ≡ form_of (span_text line.now s) }
 {
     let start = s.start;
     let end = s.end;

@@ -1,6 +1,6 @@
 -- For computed examples only: whoever unfolds `compute` unfolds every definition of this crate that a run goes through.
-use Rattle.copying.specs.Copying.{copy-mode, copy-node, copied, copy-children, copy}
+use Rattle.copying.specs.Copying.{copy_mode, copy_node, copied, copy_children, copy}
 
 unfoldable pub compute : Unit {0}
-unfolding copy-mode copy-node copied copy-children copy
+unfolding copy_mode copy_node copied copy_children copy
 compute = tt

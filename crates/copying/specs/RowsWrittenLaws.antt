@@ -5,84 +5,84 @@ use Rattle.std.proofs.Math.Seq.{paste, paste-zero}
 use Rattle.std.proofs.lemmas.List.Edits.{length-paste}
 use Rattle.buffers.specs.Text.{every}
 use Rattle.buffers.specs.TextLaws.{every_append}
-use Rattle.buffers.specs.Fields.{all-bytes}
-use Rattle.buffers.specs.TableLaws.{all-bytes-append, length-all-bytes}
-use Rattle.buffers.specs.PasteLaws.{paste-join}
-use Rattle.tree.specs.Layout.{row-width, row-start}
+use Rattle.buffers.specs.Fields.{all_bytes}
+use Rattle.buffers.specs.TableLaws.{all_bytes_append, length_all_bytes}
+use Rattle.buffers.specs.PasteLaws.{paste_join}
+use Rattle.tree.specs.Layout.{row_width, row_start}
 use Rattle.tree.specs.Node.{Node}
 use Rattle.tree.specs.Rows.{Row}
-use Rattle.tree.specs.Encoding.{row-bytes}
-use Rattle.tree.specs.RowAt.{row_at, tag-text-at}
+use Rattle.tree.specs.Encoding.{row_bytes}
+use Rattle.tree.specs.RowAt.{row_at, tag_text_at}
 use Rattle.copying.specs.CopyRows.{row_put, is_wide, Written}
-use Rattle.copying.specs.CopyBytesLaws.{tag-beside, depth-beside}
+use Rattle.copying.specs.CopyBytesLaws.{tag_beside, depth_beside}
 
 -- the same rows under another name
 pub written_as : {o z : List ℕ} {to r : ℕ} {xs ys : List (Row Node)} → xs ≡ ys → Written o to xs r z → Written o to ys r z
 written_as q v = rw q at v
 
 -- a row that is as wide as rows are
-pub row-is-wide : (r : Row Node) → is_wide r ≡ true → length (row-bytes r) ≡ row-width
+pub row_is_wide : (r : Row Node) → is_wide r ≡ true → length (row_bytes r) ≡ row_width
 unfolding is_wide
-row-is-wide r h = eqb-true (length (row-bytes r)) row-width h
+row_is_wide r h = eqb-true (length (row_bytes r)) row_width h
 
 -- rows written take their widths
-pub written-width : {o z : List ℕ} {to r : ℕ} {rs : List (Row Node)} → Written o to rs r z → length (all-bytes row-bytes rs) ≡ row-width * length rs
-written-width {rs = rs} v = length-all-bytes row-width is_wide row-bytes row-is-wide rs v.wide ∙ omega arith
+pub written_width : {o z : List ℕ} {to r : ℕ} {rs : List (Row Node)} → Written o to rs r z → length (all_bytes row_bytes rs) ≡ row_width * length rs
+written_width {rs = rs} v = length_all_bytes row_width is_wide row_bytes row_is_wide rs v.wide ∙ omega arith
 
 -- no rows
-pub written-nothing : (o : List ℕ) (to : ℕ) → Written o to [] to o
-unfolding all-bytes every
-written-nothing o to = record { next = omega arith; bytes = paste-zero o (row-start to) []; wide = refl }
+pub written_nothing : (o : List ℕ) (to : ℕ) → Written o to [] to o
+unfolding all_bytes every
+written_nothing o to = record { next = omega arith; bytes = paste-zero o (row_start to) []; wide = refl }
 
 -- one row
-pub written_one : (o z : List ℕ) (to : ℕ) (r : Row Node) → length (row-bytes r) ≡ row-width → z ≡ row_put o to r → Written o to (r ∷ []) (to + 1) z
-unfolding all-bytes every is_wide
+pub written_one : (o z : List ℕ) (to : ℕ) (r : Row Node) → length (row_bytes r) ≡ row_width → z ≡ row_put o to r → Written o to (r ∷ []) (to + 1) z
+unfolding all_bytes every is_wide
 written_one o z to r l e =
-    let q = append-nil (row-bytes r) in
-    record { next = omega arith; bytes = e ∙ ap (λ (s : List ℕ). paste o (row-start to) s row-width) (sym q); wide = rw (eq-eqb (length (row-bytes r)) row-width l) }
+    let q = append-nil (row_bytes r) in
+    record { next = omega arith; bytes = e ∙ ap (λ (s : List ℕ). paste o (row_start to) s row_width) (sym q); wide = rw (eq-eqb (length (row_bytes r)) row_width l) }
 
 module _ {o z : List ℕ} {to r : ℕ} {xs : List (Row Node)} (v : Written o to xs r z) where
   -- and others behind them
-  pub written-join : {y : List ℕ} {q : ℕ} {ys : List (Row Node)} → Written z r ys q y → row-start (to + length xs + length ys) ≤ length o → Written o to (xs ++ ys) q y
-  written-join {y} {q} {ys} w fits =
-      let X = all-bytes row-bytes xs in
-      let Y = all-bytes row-bytes ys in
+  pub written_join : {y : List ℕ} {q : ℕ} {ys : List (Row Node)} → Written z r ys q y → row_start (to + length xs + length ys) ≤ length o → Written o to (xs ++ ys) q y
+  written_join {y} {q} {ys} w fits =
+      let X = all_bytes row_bytes xs in
+      let Y = all_bytes row_bytes ys in
       let l = length-append xs ys in
-      let a = all-bytes-append row-bytes xs ys in
-      let i : row-start r ≡ row-start to + row-width * length xs = omega (arith, v.next) in
-      let s : row-width * length xs + row-width * length ys ≡ row-width * length (xs ++ ys) = omega arith in
+      let a = all_bytes_append row_bytes xs ys in
+      let i : row_start r ≡ row_start to + row_width * length xs = omega (arith, v.next) in
+      let s : row_width * length xs + row_width * length ys ≡ row_width * length (xs ++ ys) = omega arith in
       record {
         next = omega (arith, v.next, w.next);
         bytes =
             w.bytes
-            ∙ ap (λ (b : List ℕ). paste b (row-start r) Y (row-width * length ys)) v.bytes
-            ∙ ap (λ (j : ℕ). paste (paste o (row-start to) X (row-width * length xs)) j Y (row-width * length ys)) i
-            ∙ paste-join o X Y (row-start to) (row-width * length xs) (row-width * length ys) (written-width v) (written-width w) (omega arith)
-            ∙ ap (paste o (row-start to) (X ++ Y)) s
-            ∙ ap (λ (b : List ℕ). paste o (row-start to) b (row-width * length (xs ++ ys))) (sym a);
+            ∙ ap (λ (b : List ℕ). paste b (row_start r) Y (row_width * length ys)) v.bytes
+            ∙ ap (λ (j : ℕ). paste (paste o (row_start to) X (row_width * length xs)) j Y (row_width * length ys)) i
+            ∙ paste_join o X Y (row_start to) (row_width * length xs) (row_width * length ys) (written_width v) (written_width w) (omega arith)
+            ∙ ap (paste o (row_start to) (X ++ Y)) s
+            ∙ ap (λ (b : List ℕ). paste o (row_start to) b (row_width * length (xs ++ ys))) (sym a);
         wide = every_append is_wide xs ys ∙ rw (v.wide, w.wide);
       }
 
   -- they stand between the bytes before and behind
-  pub written-pieces : z ≡ take (row-start to) o ++ (all-bytes row-bytes xs ++ drop (row-start to + row-width * length xs) o)
-  written-pieces =
-      let X = all-bytes row-bytes xs in
-      let D = drop (row-start to + row-width * length xs) o in
+  pub written_pieces : z ≡ take (row_start to) o ++ (all_bytes row_bytes xs ++ drop (row_start to + row_width * length xs) o)
+  written_pieces =
+      let X = all_bytes row_bytes xs in
+      let D = drop (row_start to + row_width * length xs) o in
       v.bytes
-      ∙ ap (λ (x : List ℕ). take (row-start to) o ++ x ++ D) (take_all (row-width * length xs) X (omega (arith, written-width v)))
-      ∙ append_assoc (take (row-start to) o) X D
+      ∙ ap (λ (x : List ℕ). take (row_start to) o ++ x ++ D) (take_all (row_width * length xs) X (omega (arith, written_width v)))
+      ∙ append_assoc (take (row_start to) o) X D
 
   -- as many bytes are left
-  pub written-length : row-start (to + length xs) ≤ length o → length z ≡ length o
-  written-length fits =
-      let X = all-bytes row-bytes xs in
-      ap length v.bytes ∙ length-paste o (row-start to) X (row-width * length xs) (omega arith) (omega (arith, written-width v))
+  pub written_length : row_start (to + length xs) ≤ length o → length z ≡ length o
+  written_length fits =
+      let X = all_bytes row_bytes xs in
+      ap length v.bytes ∙ length-paste o (row_start to) X (row_width * length xs) (omega arith) (omega (arith, written_width v))
 
-  module _ (i : ℕ) (h : i < to) (fits : row-start to ≤ length o) where
+  module _ (i : ℕ) (h : i < to) (fits : row_start to ≤ length o) where
     -- the tags of the rows before them stay
-    pub tag-kept : tag-text-at z i ≡ tag-text-at o i
-    tag-kept = ap (λ (s : List ℕ). tag-text-at s i) v.bytes ∙ tag-beside o (all-bytes row-bytes xs) (row-width * length xs) i to h fits
+    pub tag_kept : tag_text_at z i ≡ tag_text_at o i
+    tag_kept = ap (λ (s : List ℕ). tag_text_at s i) v.bytes ∙ tag_beside o (all_bytes row_bytes xs) (row_width * length xs) i to h fits
 
     -- and so do their depths
-    pub depth-kept : (row_at z i).depth ≡ (row_at o i).depth
-    depth-kept = ap (λ (s : List ℕ). (row_at s i).depth) v.bytes ∙ depth-beside o (all-bytes row-bytes xs) (row-width * length xs) i to h fits
+    pub depth_kept : (row_at z i).depth ≡ (row_at o i).depth
+    depth_kept = ap (λ (s : List ℕ). (row_at s i).depth) v.bytes ∙ depth_beside o (all_bytes row_bytes xs) (row_width * length xs) i to h fits

@@ -2,11 +2,11 @@
 // original's row with head and tag written over, for the first the name too: one move of 227 bytes, instead of a row filled
 // up and then written again. So a row that is copied is one of a well-formed tree, whose bytes are those of its node.
 ghost use Rattle.std.specs.Prelude.{◌≡◌, suc, ◌+◌, ◌≤◌, ◌<◌, length};
-ghost use Rattle.tree.specs.Layout.{row-start, name-width};
+ghost use Rattle.tree.specs.Layout.{row_start, name_width};
 ghost use Rattle.tree.specs.RowAt.{row_at};
-ghost use Rattle.tree.specs.TreeBytes.{Has-row};
-ghost use Rattle.copying.specs.Copying.{copy-mode};
-ghost use Rattle.copying.specs.CopyRows.{deepest, most-levels, Holds-row, row_put, handed-row, Spelled, child-row, children, alone, Job, Job-written, Written, Entry-job, subtree-rows, first-row, entry-rows};
+ghost use Rattle.tree.specs.TreeBytes.{HasRow};
+ghost use Rattle.copying.specs.Copying.{copy_mode};
+ghost use Rattle.copying.specs.CopyRows.{deepest, most_levels, HoldsRow, row_put, handed_row, Spelled, child_row, children, alone, Job, JobWritten, Written, EntryJob, subtree_rows, first_row, entry_rows};
 
 use crate::Copier;
 use accounts::{Gid, Uid};
@@ -21,7 +21,7 @@ use walks::readable_at;
 
 // The copy of a file is 0600, of a directory 0700.
 fn copy_mode(kind: Kind) -> u16
-    ensures { result ≡ copy-mode kind }
+    ensures { result ≡ copy_mode kind }
 {
     match kind {
         Kind::File => 0o600,
@@ -31,8 +31,8 @@ fn copy_mode(kind: Kind) -> u16
 
 // Copies the bytes of the row at `at` to row `to`.
 fn copy_bytes(tree: &[u8], at: usize, out: &mut [u8], to: usize)
-    requires holds_row { Holds-row tree.now at }
-    requires has_row { Has-row out.old to }
+    requires holds_row { HoldsRow tree.now at }
+    requires has_row { HasRow out.old to }
     ensures { out.new ≡ row_put out.old to (row_at tree.now at) }
 {
     write_many(out, FIRST + ROW * to, &tree[FIRST + ROW * at..], ROW);
@@ -40,9 +40,9 @@ fn copy_bytes(tree: &[u8], at: usize, out: &mut [u8], to: usize)
 
 // Writes the row at `at` as row `to`, at another depth and with its node handed over. The tag is still the original's: each copy gets one of its own.
 fn hand_over(tree: &[u8], at: usize, owner: Uid, group: Gid, out: &mut [u8], to: usize, depth: u8)
-    requires holds_row { Holds-row tree.now at }
-    requires has_row { Has-row out.old to }
-    ensures { out.new ≡ row_put out.old to (handed-row depth owner group (row_at tree.now at)) }
+    requires holds_row { HoldsRow tree.now at }
+    requires has_row { HasRow out.old to }
+    ensures { out.new ≡ row_put out.old to (handed_row depth owner group (row_at tree.now at)) }
 {
     copy_bytes(tree, at, out, to);
     let kind = kind_at(tree, at);
@@ -59,12 +59,12 @@ fn hand_over(tree: &[u8], at: usize, owner: Uid, group: Gid, out: &mut [u8], to:
 
 // Writes the copy of the node at row `at` as row `to`, a child of the copy at row `above`.
 fn copy_row(tree: &[u8], at: usize, who: Copier, out: &mut [u8], above: usize, to: usize)
-    requires holds_row { Holds-row tree.now at }
-    requires has_row { Has-row out.old to }
+    requires holds_row { HoldsRow tree.now at }
+    requires has_row { HasRow out.old to }
     requires above_lt_to { above < to }
     requires above_bound { (row_at out.old above).depth < deepest }
     requires spelled { Spelled tree.now at out.old above }
-    ensures { (g : Spelled tree.now at out.old above) → out.new ≡ row_put out.old to (child-row who g) }
+    ensures { (g : Spelled tree.now at out.old above) → out.new ≡ row_put out.old to (child_row who g) }
 {
     let depth = depth_at(out, above) + 1;
     let caller = who.caller;
@@ -88,7 +88,7 @@ fn copy_node(
     to: usize,
 ) -> usize
     requires { Job alone tree.now out.old at above to (suc left) }
-    ensures { Job-written alone who tree.now out.old at above to (suc left) result out.new }
+    ensures { JobWritten alone who tree.now out.old at above to (suc left) result out.new }
 {
     let reader = who.reader;
     if !readable_at(tree, at, reader) {
@@ -110,7 +110,7 @@ fn copy_children(
     to: usize,
 ) -> usize
     requires { Job children tree.now out.old at above to left }
-    ensures { Job-written children who tree.now out.old at above to left result out.new }
+    ensures { JobWritten children who tree.now out.old at above to left result out.new }
 {
     if left == 0 {
         return to;
@@ -136,11 +136,11 @@ fn copy_first(
     path: &[u8],
     out: &mut [u8],
 )
-    requires entry_job { Entry-job who tree.now at group path.now }
-    requires has_row { Has-row out.old 0 }
-    requires name_len_bound { length name.now ≤ name-width }
-    ensures { (j : Entry-job who tree.now at group path.now)
-        → out.new ≡ row_put out.old 0 (first-row j depth name.now) }
+    requires entry_job { EntryJob who tree.now at group path.now }
+    requires has_row { HasRow out.old 0 }
+    requires name_len_bound { length name.now ≤ name_width }
+    ensures { (j : EntryJob who tree.now at group path.now)
+        → out.new ≡ row_put out.old 0 (first_row j depth name.now) }
 {
     let caller = who.caller;
     let account = caller.account;
@@ -161,12 +161,12 @@ pub fn copy_entry(
     path: &[u8],
     out: &mut [u8],
 ) -> usize
-    requires entry_job { Entry-job who tree.now at group path.now }
-    requires at_in_bounds { row-start (subtree-rows tree.now at) ≤ length out.old }
-    requires most_levels_bound { depth + most-levels ≤ deepest }
-    requires name_len_bound { length name.now ≤ name-width }
-    ensures { (j : Entry-job who tree.now at group path.now)
-        → Written out.old 0 (entry-rows j depth name.now) result out.new }
+    requires entry_job { EntryJob who tree.now at group path.now }
+    requires at_in_bounds { row_start (subtree_rows tree.now at) ≤ length out.old }
+    requires most_levels_bound { depth + most_levels ≤ deepest }
+    requires name_len_bound { length name.now ≤ name_width }
+    ensures { (j : EntryJob who tree.now at group path.now)
+        → Written out.old 0 (entry_rows j depth name.now) result out.new }
 {
     copy_first(tree, at, who, group, depth, name, path, out);
     // a path has no more names, so there are no more levels below an entry

@@ -1,15 +1,15 @@
 // How deep copies come to stand.
 ghost use Rattle.std.specs.Prelude.{◌≡◌, ◌≤◌, length};
-ghost use Rattle.tree.specs.Layout.{row-start};
-ghost use Rattle.copying.specs.CopyRows.{deepest-from};
+ghost use Rattle.tree.specs.Layout.{row_start};
+ghost use Rattle.copying.specs.CopyRows.{deepest_from};
 
 use tree::depth_at;
 use walks::larger_of;
 
 // The greatest depth among the first n rows.
 pub fn deepest_copy(out: &[u8], n: usize) -> u8
-    requires { row-start n ≤ length out.now }
-    ensures { result ≡ deepest-from out.now 0 0 n }
+    requires { row_start n ≤ length out.now }
+    ensures { result ≡ deepest_from out.now 0 0 n }
 {
     let mut most: u8 = 0;
     let mut i: usize = 0;

@@ -1,7 +1,7 @@
 // The rows below a directory, one after another, in a store's bytes.
 ghost use Rattle.std.specs.Prelude.{◌≡◌, ◌≤◌};
-ghost use Rattle.directory_commits.specs.Steps.{Place-in, Ends-in, Stepped-in, count_of};
-ghost use Rattle.directory_commits.specs.Commits.{Directory-row, Below-done};
+ghost use Rattle.directory_commits.specs.Steps.{PlaceIn, EndsIn, SteppedIn, count_of};
+ghost use Rattle.directory_commits.specs.Commits.{DirectoryRow, BelowDone};
 
 use crate::Step;
 use crate::row::commit_step;
@@ -12,16 +12,16 @@ use tree::subtree_end;
 
 // Where the rows below a row end.
 fn end_in(store: &[u8], row: usize) -> usize
-    requires { Place-in store.now row }
-    ensures { Ends-in store.now row result }
+    requires { PlaceIn store.now row }
+    ensures { EndsIn store.now row result }
 {
     subtree_end(&store[HEADER..], row)
 }
 
 // One row, in a store: the tree is lent.
 pub fn step_in(store: &mut [u8], person: Account, account: Account, row: usize) -> Step
-    requires { Place-in store.old row }
-    ensures { Stepped-in person account store.old row result store.new }
+    requires { PlaceIn store.old row }
+    ensures { SteppedIn person account store.old row result store.new }
 {
     commit_step(&mut store[HEADER..], person, account, row)
 }
@@ -42,8 +42,8 @@ fn committed(filed: Links) -> usize
 
 // Commits the files below the directory at a row, and tells how many.
 pub fn commit_below(store: &mut [u8], caller: Caller, account: Account, row: usize) -> usize
-    requires { Directory-row store.old caller account row }
-    ensures { Below-done caller account store.old row result store.new }
+    requires { DirectoryRow store.old caller account row }
+    ensures { BelowDone caller account store.old row result store.new }
 {
     let person = caller.account;
     let end = end_in(store, row);

@@ -1,8 +1,8 @@
 // `commit,w` on a store's bytes.
 ghost use Rattle.std.specs.Prelude.{◌≤◌, length};
-ghost use Rattle.tree.specs.TreeBytes.{Path-text};
-ghost use Rattle.stored_header.specs.Stored.{Acts-in};
-ghost use Rattle.directory_commits.specs.Commits.{Place-row, Directory-row, Directory-done, File-done, Commit-done};
+ghost use Rattle.tree.specs.TreeBytes.{PathText};
+ghost use Rattle.stored_header.specs.Stored.{ActsIn};
+ghost use Rattle.directory_commits.specs.Commits.{PlaceRow, DirectoryRow, DirectoryDone, FileDone, CommitDone};
 
 use crate::Found;
 use crate::below::{commit_below, step_in};
@@ -20,9 +20,9 @@ fn commit_directory(
     row: usize,
     answer: &mut [u8],
 ) -> Answer
-    requires directory_row { Directory-row store.old caller account row }
+    requires directory_row { DirectoryRow store.old caller account row }
     requires in_bounds { 4096 ≤ length answer.old }
-    ensures { Directory-done caller account store.old row answer.old result store.new answer.new }
+    ensures { DirectoryDone caller account store.old row answer.old result store.new answer.new }
 {
     let n = commit_below(store, caller, account, row);
     Answer::Text(write_decimal(answer, 0, n))
@@ -30,8 +30,8 @@ fn commit_directory(
 
 // The file at a row.
 fn commit_file(store: &mut [u8], caller: Caller, account: Account, row: usize) -> Answer
-    requires { Place-row store.old caller account row }
-    ensures { File-done caller account store.old row result store.new }
+    requires { PlaceRow store.old caller account row }
+    ensures { FileDone caller account store.old row result store.new }
 {
     let step = step_in(store, caller.account, account, row);
     let filed = step.filed;
@@ -53,10 +53,10 @@ pub fn commit(
     working: &[u8],
     answer: &mut [u8],
 ) -> Answer
-    requires acts_in { Acts-in store.old caller account }
-    requires path_text { Path-text working.now }
+    requires acts_in { ActsIn store.old caller account }
+    requires path_text { PathText working.now }
     requires in_bounds { 4096 ≤ length answer.old }
-    ensures { Commit-done caller account working.now store.old answer.old result store.new answer.new }
+    ensures { CommitDone caller account working.now store.old answer.old result store.new answer.new }
 {
     match found_in(store, caller.account, working) {
         Found::File(row) => commit_file(store, caller, account, row),

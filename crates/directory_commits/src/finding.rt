@@ -1,8 +1,8 @@
 // What `commit` is asked for at a path: the row of a file, or that of a directory that the person may read.
 ghost use Rattle.std.specs.Prelude.{◌≡◌};
-ghost use Rattle.tree.specs.TreeBytes.{Whole, Path-text, Whichever};
-ghost use Rattle.stored_header.specs.Stored.{Some-store};
-ghost use Rattle.directory_commits.specs.Steps.{found-told, found-steps, Finds};
+ghost use Rattle.tree.specs.TreeBytes.{Whole, PathText, Whichever};
+ghost use Rattle.stored_header.specs.Stored.{SomeStore};
+ghost use Rattle.directory_commits.specs.Steps.{found_told, found_steps, Finds};
 
 use crate::Found;
 use accounts::Account;
@@ -13,8 +13,8 @@ use walks::{Walked, readable_at, walk};
 // The person's walk, and whether a directory may be read.
 fn found_at(tree: &[u8], person: Account, path: &[u8]) -> Found
     requires whole { Whole tree.now }
-    requires path_text { Path-text path.now }
-    ensures { Whichever tree.now path.now (λ t w. found-told result ≡ found-steps person t w) }
+    requires path_text { PathText path.now }
+    ensures { Whichever tree.now path.now (λ t w. found_told result ≡ found_steps person t w) }
 {
     match walk(tree, person, path) {
         Walked::To { row, above: _ } => match kind_at(tree, row) {
@@ -32,8 +32,8 @@ fn found_at(tree: &[u8], person: Account, path: &[u8]) -> Found
 
 // The same in a store.
 pub fn found_in(store: &[u8], person: Account, path: &[u8]) -> Found
-    requires some_store { Some-store store.now }
-    requires path_text { Path-text path.now }
+    requires some_store { SomeStore store.now }
+    requires path_text { PathText path.now }
     ensures { Finds store.now person path.now result }
 {
     found_at(&store[HEADER..], person, path)

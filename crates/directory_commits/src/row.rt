@@ -1,7 +1,7 @@
 // One row of a directory's commit: the file there is committed, and the next row is told.
 ghost use Rattle.std.specs.Prelude.{◌≡◌};
-ghost use Rattle.tree.specs.TreeBytes.{Some-place, Whichever-place};
-ghost use Rattle.directory_commits.specs.Steps.{row-after, Stepped};
+ghost use Rattle.tree.specs.TreeBytes.{SomePlace, WhicheverPlace};
+ghost use Rattle.directory_commits.specs.Steps.{row_after, Stepped};
 
 use crate::Step;
 use accounts::Account;
@@ -12,8 +12,8 @@ use walks::readable_at;
 // The next row, past all that lies below a directory that the person may not read. A file is told by its kind, which is less than
 // the access test.
 fn row_after(tree: &[u8], person: Account, row: usize) -> usize
-    requires { Some-place tree.now row }
-    ensures { Whichever-place tree.now row (λ t p d. result ≡ row-after person row d) }
+    requires { SomePlace tree.now row }
+    ensures { WhicheverPlace tree.now row (λ t p d. result ≡ row_after person row d) }
 {
     match kind_at(tree, row) {
         Kind::File => row + 1,
@@ -28,8 +28,8 @@ fn row_after(tree: &[u8], person: Account, row: usize) -> usize
 
 // Commits the file at a row, if there is one that a single commit accepts.
 pub fn commit_step(tree: &mut [u8], person: Account, account: Account, row: usize) -> Step
-    requires { Some-place tree.old row }
-    ensures { Whichever-place tree.old row (λ t p d. Stepped person account tree.old t p row d result tree.new) }
+    requires { SomePlace tree.old row }
+    ensures { WhicheverPlace tree.old row (λ t p d. Stepped person account tree.old t p row d result tree.new) }
 {
     let next = row_after(tree, person, row);
     let filed = commit_at(tree, person, account, row);

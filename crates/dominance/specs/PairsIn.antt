@@ -5,5 +5,5 @@ use Rattle.accounts.specs.declared.Pair.{Pair}
 use Rattle.accounts.specs.PairBytes.{pair_of}
 
 -- the first n pairs, two bytes each
-abbrev pub pairs-in : ℕ → List ℕ → List Pair
-pairs-in n b = all_from 2 pair_of n b
+abbrev pub pairs_in : ℕ → List ℕ → List Pair
+pairs_in n b = all_from 2 pair_of n b

@@ -1,16 +1,16 @@
 // Dominance closed from role pairs: from a slice of them, and from the bytes that say them. Each pair in turn grows the
-// rows (`Dominance::with`), and `grown-rows-are` of `accounts` says that this is dominance by one pair more.
+// rows (`Dominance::with`), and `grown_rows_are` of `accounts` says that this is dominance by one pair more.
 ghost use Rattle.std.specs.Prelude.{◌≡◌, true, ◌++◌, ◌≤◌, ◌*◌, ◌-◌, length, replicate};
-ghost use Rattle.accounts.specs.Dominance.{all-fall};
+ghost use Rattle.accounts.specs.Dominance.{all_fall};
 ghost use Rattle.accounts.specs.Closure.{rows_of};
-ghost use Rattle.accounts.specs.PairBytes.{no-pair};
-ghost use Rattle.dominance.specs.PairsIn.{pairs-in};
+ghost use Rattle.accounts.specs.PairBytes.{no_pair};
+ghost use Rattle.dominance.specs.PairsIn.{pairs_in};
 
 use accounts::{Dominance, Pair, Role};
 
 // Dominance closed pair by pair, where every senior is less than its junior.
 pub fn closed(pairs: &[Pair]) -> Dominance
-    requires { all-fall pairs.now ≡ true }
+    requires { all_fall pairs.now ≡ true }
     ensures { result.rows ≡ rows_of pairs.now }
 {
     let mut dominance = Dominance::own();
@@ -26,7 +26,7 @@ pub fn closed(pairs: &[Pair]) -> Dominance
 fn pairs_in(bytes: &[u8], n: usize) -> [Pair; 28]
     requires n_bound { n ≤ 28 }
     requires n_in_bounds { 2 * n ≤ length bytes.now }
-    ensures { result ≡ pairs-in n bytes.now ++ replicate (28 - n) no-pair }
+    ensures { result ≡ pairs_in n bytes.now ++ replicate (28 - n) no_pair }
 {
     let mut all = [Pair {
         senior: Role(0),
@@ -47,8 +47,8 @@ fn pairs_in(bytes: &[u8], n: usize) -> [Pair; 28]
 pub fn closed_bytes(bytes: &[u8], n: usize) -> Dominance
     requires n_bound { n ≤ 28 }
     requires n_in_bounds { 2 * n ≤ length bytes.now }
-    requires bytes_value { all-fall (pairs-in n bytes.now) ≡ true }
-    ensures { result.rows ≡ rows_of (pairs-in n bytes.now) }
+    requires bytes_value { all_fall (pairs_in n bytes.now) ≡ true }
+    ensures { result.rows ≡ rows_of (pairs_in n bytes.now) }
 {
     let all = pairs_in(bytes, n);
     closed(&all[..n])

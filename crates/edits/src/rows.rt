@@ -1,11 +1,11 @@
 // Rows put in and taken out.
 ghost use Rattle.std.specs.Prelude.{◌≡◌, ◌+◌, ◌*◌, ◌≤◌, length};
 ghost use Rattle.std.proofs.Math.Seq.{paste};
-ghost use Rattle.tree.specs.Layout.{row-width, name-width};
+ghost use Rattle.tree.specs.Layout.{row_width, name_width};
 ghost use Rattle.tree.specs.Forest.{leaf};
-ghost use Rattle.tree.specs.Encoding.{kind-byte, row-bytes, encode-tree};
+ghost use Rattle.tree.specs.Encoding.{kind_byte, row_bytes, encode_tree};
 ghost use Rattle.tree.specs.TreeBytes.{Wide, Insertable, Stretch};
-ghost use Rattle.edits.specs.Changes.{rows-put, rows_taken, fresh-node, fresh-row, head_bytes};
+ghost use Rattle.edits.specs.Changes.{rows_put, rows_taken, fresh_node, fresh_row, head_bytes};
 
 use crate::Fresh;
 use buffers::{clear, move_bytes, write_four, write_many, write_number, write_padded};
@@ -17,8 +17,8 @@ use tree::{
 // Puts n rows in before the one at an index; those from there on move up.
 pub fn put_rows(tree: &mut [u8], at: usize, n: usize, rows: &[u8])
     requires insertable { Insertable tree.old at n }
-    requires n_in_bounds { row-width * n ≤ length rows.now }
-    ensures { tree.new ≡ rows-put tree.old at n rows.now }
+    requires n_in_bounds { row_width * n ≤ length rows.now }
+    ensures { tree.new ≡ rows_put tree.old at n rows.now }
 {
     let c = count(tree);
     let start = FIRST + ROW * at;
@@ -41,7 +41,7 @@ pub fn take_rows(tree: &mut [u8], at: usize, n: usize)
 
 // The letter of a kind.
 fn kind_byte(kind: Kind) -> u8
-    ensures { result ≡ kind-byte kind }
+    ensures { result ≡ kind_byte kind }
 {
     match kind {
         Kind::File => FILE,
@@ -65,9 +65,9 @@ pub fn write_head(tree: &mut [u8], at: usize, depth: u8, node: Fresh)
 
 // Writes the row of a new node.
 fn write_row(tree: &mut [u8], at: usize, depth: u8, name: &[u8], node: Fresh)
-    requires row_width_in_bounds { at + row-width ≤ length tree.old }
-    requires name_len_bound { length name.now ≤ name-width }
-    ensures { tree.new ≡ paste tree.old at (row-bytes (fresh-row depth name.now node)) row-width }
+    requires row_width_in_bounds { at + row_width ≤ length tree.old }
+    requires name_len_bound { length name.now ≤ name_width }
+    ensures { tree.new ≡ paste tree.old at (row_bytes (fresh_row depth name.now node)) row_width }
 {
     write_head(tree, at, depth, node);
     write_padded(tree, at + NAME, NAME_WIDTH, name);
@@ -77,8 +77,8 @@ fn write_row(tree: &mut [u8], at: usize, depth: u8, name: &[u8], node: Fresh)
 // Puts the row of a new node in before the one at an index.
 pub fn put_child(tree: &mut [u8], at: usize, depth: u8, name: &[u8], node: Fresh)
     requires insertable { Insertable tree.old at 1 }
-    requires name_len_bound { length name.now ≤ name-width }
-    ensures { tree.new ≡ rows-put tree.old at 1 (row-bytes (fresh-row depth name.now node)) }
+    requires name_len_bound { length name.now ≤ name_width }
+    ensures { tree.new ≡ rows_put tree.old at 1 (row_bytes (fresh_row depth name.now node)) }
 {
     let c = count(tree);
     let start = FIRST + ROW * at;
@@ -90,7 +90,7 @@ pub fn put_child(tree: &mut [u8], at: usize, depth: u8, name: &[u8], node: Fresh
 // Makes a tree of `/` alone, whatever stood there.
 pub fn plant(tree: &mut [u8], top: Fresh)
     requires { Wide tree.old }
-    ensures { tree.new ≡ encode-tree (leaf (fresh-node top)) }
+    ensures { tree.new ≡ encode_tree (leaf (fresh_node top)) }
 {
     clear(tree, 0, TREE);
     write_number(tree, 0, 1);

@@ -9,34 +9,34 @@ use Rattle.tree.specs.declared.Cause.{Cause}
 use Rattle.tree.specs.Result.{Result, refused, done}
 use Rattle.tree.specs.Forest.{Place}
 use Rattle.tree.specs.Node.{Node}
-use Rattle.tree.specs.WellFormed.{last-revision}
-use Rattle.tree.specs.Encoding.{encode-tree}
+use Rattle.tree.specs.WellFormed.{last_revision}
+use Rattle.tree.specs.Encoding.{encode_tree}
 use Rattle.tree.specs.RowPlaces.{index_of}
 use Rattle.tree.specs.RowAt.{row_at}
 use Rattle.tree.specs.TreeBytes.{At}
 use Rattle.shell.specs.CommandBytes.{bytes_after}
 use Rattle.entries.specs.declared.Links.{Links}
 use Rattle.entries.specs.declared.Links.TheVariants.{To}
-use Rattle.entries.specs.EntrySteps.{Link, commit-at, after-commit, link-rows-from, links-told, Filed-at, Linked}
-use Rattle.entries.specs.LinkLaws.{links-to, link-facts, linked, commit-parts, revision-below}
-use Rattle.entries.specs.EntryStepsLaws.{comes-to, comes-not}
+use Rattle.entries.specs.EntrySteps.{Link, commit_at, after_commit, link_rows_from, links_told, FiledAt, Linked}
+use Rattle.entries.specs.LinkLaws.{links_to, link_facts, linked, commit_parts, revision_below}
+use Rattle.entries.specs.EntryStepsLaws.{comes_to, comes_not}
 
 -- the steps of a commit are done for the file d found at p, which has the row: their link, its rows, and a revision of the entry that can be raised
 pub record Fileable (person account : Account) (b : List ℕ) (t : Place Node) (p : Path) (row : ℕ) (d : Place Node) (working entry : ℕ) : Type 0 where
   pub link : Link
-  pub comes : commit-at person account t p d ≡ done link
+  pub comes : commit_at person account t p d ≡ done link
   pub path : link.path ≡ p
   pub found : link.found ≡ d
   pub rows : Linked b t link working entry
   pub own : working ≡ row
-  pub below : (row_at b entry).here.revision < last-revision
+  pub below : (row_at b entry).here.revision < last_revision
 
 pub fileable : (person account : Account) {b : List ℕ} {t : Place Node} {p : Path} {row : ℕ} {d : Place Node} {r : Links} {i k a : ℕ} → At b t p row d
-    → links-told r ≡ link-rows-from t (commit-at person account t p d) → r ≡ To i k a → Fileable person account b t p row d i k
+    → links_told r ≡ link_rows_from t (commit_at person account t p d) → r ≡ To i k a → Fileable person account b t p row d i k
 fileable person account {t = t} {p = p} {d = d} at o e =
-    let x = links-to t (commit-at person account t p d) o e in
-    let y = commit-parts person account t p d x.1 in
-    let f = link-facts person account R t p d y.0 in
+    let x = links_to t (commit_at person account t p d) o e in
+    let y = commit_parts person account t p d x.1 in
+    let f = link_facts person account R t p d y.0 in
     let l = linked person account R at y.0 x.2 in
     record {
       link = x.0;
@@ -45,16 +45,16 @@ fileable person account {t = t} {p = p} {d = d} at o e =
       found = f.found;
       rows = l;
       own = l.file.row ∙ ap (index_of t) f.path ∙ sym at.row;
-      below = revision-below l.original y.1;
+      below = revision_below l.original y.1;
     }
 
 -- ---- by the code
 
-module _ {b : List ℕ} {t : Place Node} {steps : Result Link} {q r : Links} (o : links-told q ≡ link-rows-from t steps) (e : q ≡ r) where
-  pub is-filed : {b' : List ℕ} {l : Link} → steps ≡ done l → b' ≡ encode-tree (after-commit t l) → Filed-at b t steps r b'
+module _ {b : List ℕ} {t : Place Node} {steps : Result Link} {q r : Links} (o : links_told q ≡ link_rows_from t steps) (e : q ≡ r) where
+  pub is_filed : {b' : List ℕ} {l : Link} → steps ≡ done l → b' ≡ encode_tree (after_commit t l) → FiledAt b t steps r b'
   unfolding bytes_after
-  is-filed c h = record { links = ap links-told (sym e) ∙ o; bytes = rw (comes-to steps (after-commit t) c) h }
+  is_filed c h = record { links = ap links_told (sym e) ∙ o; bytes = rw (comes_to steps (after_commit t) c) h }
 
-  pub is-kept : {k : Cause} → steps ≡ refused k → Filed-at b t steps r b
+  pub is_kept : {k : Cause} → steps ≡ refused k → FiledAt b t steps r b
   unfolding bytes_after
-  is-kept c = record { links = ap links-told (sym e) ∙ o; bytes = rw (comes-not steps (after-commit t) c) }
+  is_kept c = record { links = ap links_told (sym e) ∙ o; bytes = rw (comes_not steps (after_commit t) c) }

@@ -20,362 +20,362 @@ use Rattle.buffers.specs.Fields.{two_bytes}
 use Rattle.accounts.specs.declared.Account.{Account}
 use Rattle.accounts.specs.declared.Right.{Right}
 use Rattle.accounts.specs.declared.Right.TheVariants.{R, W}
-use Rattle.syntax.specs.Path.{Path, parent, in-rep, entry-location, path}
-use Rattle.syntax.specs.PathLaws.{entry-reads}
+use Rattle.syntax.specs.Path.{Path, parent, in_rep, entry_location, path}
+use Rattle.syntax.specs.PathLaws.{entry_reads}
 use Rattle.tree.specs.declared.Cause.{Cause}
 use Rattle.tree.specs.declared.Cause.TheVariants.{Access, WrongKind, Stale, Untagged, RevisionsSpent}
-use Rattle.tree.specs.Layout.{revision-offset, tag-revision-offset, content-offset}
+use Rattle.tree.specs.Layout.{revision_offset, tag_revision_offset, content_offset}
 use Rattle.tree.specs.Result.{Result, refused, done, ◌>>=◌, ◌>>◌, require, present}
-use Rattle.tree.specs.ResultLaws.{not_done, by_result, present-some, present-of, present-none, required, bind_done, then-done, refused-before, done-then, refused-then, done-bind, refused-bind, then-bind}
+use Rattle.tree.specs.ResultLaws.{not_done, by_result, present_some, present_of, present_none, required, bind_done, then_done, refused_before, done_then, refused_then, done_bind, refused_bind, then_bind}
 use Rattle.tree.specs.Forest.{Place, update, alter}
-use Rattle.tree.specs.Node.{is-directory, Tag, Node, allows, set-revision, set-tag, set-content}
-use Rattle.tree.specs.NodeLaws.{node-ranges, node-of-revision, node-of-tag, node-of-content, kind-of-set-revision, kind-of-set-tag, kind-of-set-content}
-use Rattle.tree.specs.JudgeLaws.{set-revision-is, set-tag-is, set-content-is}
-use Rattle.tree.specs.Walk.{by-modes, walk}
+use Rattle.tree.specs.Node.{is_directory, Tag, Node, allows, set_revision, set_tag, set_content}
+use Rattle.tree.specs.NodeLaws.{node_ranges, node_of_revision, node_of_tag, node_of_content, kind_of_set_revision, kind_of_set_tag, kind_of_set_content}
+use Rattle.tree.specs.JudgeLaws.{set_revision_is, set_tag_is, set_content_is}
+use Rattle.tree.specs.Walk.{by_modes, walk}
 use Rattle.tree.specs.StepLaws.{walked}
-use Rattle.tree.specs.WellFormed.{last-revision, is-node}
-use Rattle.tree.specs.WellFormedLaws.{place-node, place-below, tree-parts}
-use Rattle.tree.specs.UpdateLaws.{by-option, walked_at}
-use Rattle.tree.specs.AlterLaws.{alter-twice, alter-alike, altered-at, kept-part}
-use Rattle.tree.specs.Encoding.{encode-tree}
-use Rattle.tree.specs.RowAt.{row_at, tag-text-at, tag-number-at}
-use Rattle.tree.specs.TreeBytes.{Has-row, Encodes, At, Path-text}
-use Rattle.tree.specs.TreeBytesLaws.{used-row, at-used, at_here}
-use Rattle.tree.specs.TagBytesLaws.{tag-reads, tag-written, tag-blank}
-use Rattle.edits.specs.Changes.{field_put, content-field}
-use Rattle.node_fields.specs.FieldEditLaws.{revision-law, tag-revision-law, copy-content-law}
-use Rattle.copying.specs.CopyRowLaws.{row-held}
+use Rattle.tree.specs.WellFormed.{last_revision, is_node}
+use Rattle.tree.specs.WellFormedLaws.{place_node, place_below, tree_parts}
+use Rattle.tree.specs.UpdateLaws.{by_option, walked_at}
+use Rattle.tree.specs.AlterLaws.{alter_twice, alter_alike, altered_at, kept_part}
+use Rattle.tree.specs.Encoding.{encode_tree}
+use Rattle.tree.specs.RowAt.{row_at, tag_text_at, tag_number_at}
+use Rattle.tree.specs.TreeBytes.{HasRow, Encodes, At, PathText}
+use Rattle.tree.specs.TreeBytesLaws.{used_row, at_used, at_here}
+use Rattle.tree.specs.TagBytesLaws.{tag_reads, tag_written, tag_blank}
+use Rattle.edits.specs.Changes.{field_put, content_field}
+use Rattle.node_fields.specs.FieldEditLaws.{revision_law, tag_revision_law, copy_content_law}
+use Rattle.copying.specs.CopyRowLaws.{row_held}
 use Rattle.walks.specs.declared.Walked.{Walked}
 use Rattle.walks.specs.declared.Walked.TheVariants
 use Rattle.walks.specs.RowWalk.{Spot, spot, outcome}
-use Rattle.walks.specs.RowWalkLaws.{outcome-at, outcome-refused}
-use Rattle.walks.specs.WalkBytes.{spot_of, Came, spot-from}
-use Rattle.walks.specs.WalkBytesLaws.{came-to, came-not, came-spot}
+use Rattle.walks.specs.RowWalkLaws.{outcome_at, outcome_refused}
+use Rattle.walks.specs.WalkBytes.{spot_of, Came, spot_from}
+use Rattle.walks.specs.WalkBytesLaws.{came_to, came_not, came_spot}
 use Rattle.machine.specs.Working.{tagged}
-use Rattle.machine.specs.StoreMachine.{next-node}
+use Rattle.machine.specs.StoreMachine.{next_node}
 use Rattle.entries.specs.declared.Links.{Links}
 use Rattle.entries.specs.declared.Links.TheVariants.{To, Refused}
-use Rattle.entries.specs.EntrySteps.{file-tests, judged-walk, file-walk, Link, link_on, link_at, link, commit-tests, commit-at, after-commit, after-up, Link-rows, link-rows, three-rows, link-rows-from, passing, links-told, Linked}
+use Rattle.entries.specs.EntrySteps.{file_tests, judged_walk, file_walk, Link, link_on, link_at, link, commit_tests, commit_at, after_commit, after_up, LinkRows, link_rows, three_rows, link_rows_from, passing, links_told, Linked}
 
 -- ---- steps and tests
 
 -- tests before an answer, and before the step to it
 pub tests_then : {A B : Type 0} (r : Result (Unit {0})) (d : A) (f : A → B) → (r >> done (f d)) ≡ ((r >> done d) >>= λ y. done (f y))
-tests_then {B = B} r d f = sym (then-bind r (done d) (λ y. done (f y)) ∙ ap (λ (k : Result B). r >> k) (done-bind d (λ y. done (f y))))
+tests_then {B = B} r d f = sym (then_bind r (done d) (λ y. done (f y)) ∙ ap (λ (k : Result B). r >> k) (done_bind d (λ y. done (f y))))
 
 -- a place has a row, and its node is in range
 module _ {b : List ℕ} {t : Place Node} {p : Path} {i : ℕ} {d : Place Node} (a : At b t p i d) where
-  pub at-has-row : Has-row b i
-  at-has-row = used-row (at-used a)
+  pub at_has_row : HasRow b i
+  at_has_row = used_row (at_used a)
 
-  pub at-node : is-node d.here ≡ true
-  at-node = place-node d (place-below t p d (tree-parts t a.tree.whole).whole a.there)
+  pub at_node : is_node d.here ≡ true
+  at_node = place_node d (place_below t p d (tree_parts t a.tree.whole).whole a.there)
 
 -- a row has room where the length stays
-pub has-still : {b b' : List ℕ} {i : ℕ} → Has-row b i → length b' ≡ length b → Has-row b' i
-has-still h e = record { room = omega (arith, h.room) }
+pub has_still : {b b' : List ℕ} {i : ℕ} → HasRow b i → length b' ≡ length b → HasRow b' i
+has_still h e = record { room = omega (arith, h.room) }
 
 -- ---- the walk to a node that passes tests
 
 module _ (a : Account) (tests : Node → Result (Unit {0})) (t : Place Node) (p : Path) where
   -- the tests at the row that a walk came to are those of the judged walk
-  pub judged-came : {b : List ℕ} {row above : ℕ} {x : Result Spot} → Came b t p (walk (by-modes a) t p) row above
-      → x ≡ passing (tests (row_at b row).here) (spot row above) → x ≡ spot-from t p (judged-walk a tests t p)
-  unfolding judged-walk
-  judged-came c o =
-      o ∙ rw (at_here c.at, came-spot c, c.walked, done-bind c.place (λ (d : Place Node). tests d.here >> done d))
+  pub judged_came : {b : List ℕ} {row above : ℕ} {x : Result Spot} → Came b t p (walk (by_modes a) t p) row above
+      → x ≡ passing (tests (row_at b row).here) (spot row above) → x ≡ spot_from t p (judged_walk a tests t p)
+  unfolding judged_walk
+  judged_came c o =
+      o ∙ rw (at_here c.at, came_spot c, c.walked, done_bind c.place (λ (d : Place Node). tests d.here >> done d))
       (tests_then (tests c.place.here) c.place (λ d. spot_of t p))
 
-  pub judged-refused : {k : Cause} → walk (by-modes a) t p ≡ refused k → refused k ≡ spot-from t p (judged-walk a tests t p)
-  unfolding judged-walk
-  judged-refused {k} e = rw (e, refused-bind k (λ (d : Place Node). tests d.here >> done d), refused-bind k (λ (d : Place Node). done (spot_of t p)))
+  pub judged_refused : {k : Cause} → walk (by_modes a) t p ≡ refused k → refused k ≡ spot_from t p (judged_walk a tests t p)
+  unfolding judged_walk
+  judged_refused {k} e = rw (e, refused_bind k (λ (d : Place Node). tests d.here >> done d), refused_bind k (λ (d : Place Node). done (spot_of t p)))
 
   -- it leads where the walk leads, and the tests pass there
-  judged-walked : {d : Place Node} → judged-walk a tests t p ≡ done d → (walk (by-modes a) t p ≡ done d) × (tests d.here ≡ done tt)
-  unfolding judged-walk
-  judged-walked {d} e =
-      let w = bind_done (walk (by-modes a) t p) (λ x. tests x.here >> done x) e in
-      let v = then-done (tests w.0.here) (done w.0) w.2 in
+  judged_walked : {d : Place Node} → judged_walk a tests t p ≡ done d → (walk (by_modes a) t p ≡ done d) × (tests d.here ≡ done tt)
+  unfolding judged_walk
+  judged_walked {d} e =
+      let w = bind_done (walk (by_modes a) t p) (λ x. tests x.here >> done x) e in
+      let v = then_done (tests w.0.here) (done w.0) w.2 in
       let q : d ≡ w.0 = cc v.1 in
       rw q (w.1, v.0)
 
-  module _ {b : List ℕ} (tree : Encodes b t) {r : Walked} (o : outcome r ≡ spot-from t p (judged-walk a tests t p)) where
-    pub judged-to : {row above : ℕ} → r ≡ TheVariants.To row above → Came b t p (judged-walk a tests t p) row above
-    judged-to e = came-to tree (judged-walk a tests t p) p o (λ d w. walked_at t (by-modes a) p d (judged-walked w).0) e
+  module _ {b : List ℕ} (tree : Encodes b t) {r : Walked} (o : outcome r ≡ spot_from t p (judged_walk a tests t p)) where
+    pub judged_to : {row above : ℕ} → r ≡ TheVariants.To row above → Came b t p (judged_walk a tests t p) row above
+    judged_to e = came_to tree (judged_walk a tests t p) p o (λ d w. walked_at t (by_modes a) p d (judged_walked w).0) e
 
-    pub judged-not : {k : Cause} → r ≡ TheVariants.Refused k → judged-walk a tests t p ≡ refused k
-    judged-not e = came-not tree (judged-walk a tests t p) p o e
+    pub judged_not : {k : Cause} → r ≡ TheVariants.Refused k → judged_walk a tests t p ≡ refused k
+    judged_not e = came_not tree (judged_walk a tests t p) p o e
 
 -- tests that are refused before an answer
-tests-refused : {A : Type 0} (r : Result (Unit {0})) (x : A) {k : Cause} → passing r x ≡ refused k → r ≡ refused k
-tests-refused r x {k} e =
+tests_refused : {A : Type 0} (r : Result (Unit {0})) (x : A) {k : Cause} → passing r x ≡ refused k → r ≡ refused k
+tests_refused r x {k} e =
     by_result r
-    (λ c q. let s : refused c ≡ refused k = rw (q, refused-then) at e in let z : c ≡ k = cc in q ∙ ap refused z)
-    (λ u q. not_done (sym (rw (q, done-then) at e)))
+    (λ c q. let s : refused c ≡ refused k = rw (q, refused_then) at e in let z : c ≡ k = cc in q ∙ ap refused z)
+    (λ u q. not_done (sym (rw (q, done_then) at e)))
 
 -- the tests of a file pass at a file
-file-plain : (a : Account) (right : Right) (n : Node) → file-tests a right n ≡ done tt → is-directory n.kind ≡ false
-unfolding file-tests
-file-plain a right n e =
-    let i = then-done (require (not (is-directory n.kind)) WrongKind) (require (allows a right n) Access) e in
-    not-true (is-directory n.kind) (required (not (is-directory n.kind)) WrongKind i.0)
+file_plain : (a : Account) (right : Right) (n : Node) → file_tests a right n ≡ done tt → is_directory n.kind ≡ false
+unfolding file_tests
+file_plain a right n e =
+    let i = then_done (require (not (is_directory n.kind)) WrongKind) (require (allows a right n) Access) e in
+    not-true (is_directory n.kind) (required (not (is_directory n.kind)) WrongKind i.0)
 
 -- ---- from a working file to its entry
 
 -- no tag
-link-on-missing : (account : Account) (t : Place Node) (p : Path) (d : Place Node) → d.here.tag ≡ none → link_on account t p d ≡ refused Untagged
+link_on_missing : (account : Account) (t : Place Node) (p : Path) (d : Place Node) → d.here.tag ≡ none → link_on account t p d ≡ refused Untagged
 unfolding link_on
-link-on-missing account t p d e = simp (e, present-none, refused-bind)
+link_on_missing account t p d e = simp (e, present_none, refused_bind)
 
 module _ (account : Account) (t : Place Node) (p : Path) (d : Place Node) {g : Tag} (e : d.here.tag ≡ some g) where
-  link-on-goes : link_on account t p d ≡ (file-walk account R t (entry-location g.path) >>= λ x. done (record { path = p; found = d; tag = g; filed = x }))
+  link_on_goes : link_on account t p d ≡ (file_walk account R t (entry_location g.path) >>= λ x. done (record { path = p; found = d; tag = g; filed = x }))
   unfolding link_on
-  link-on-goes = simp (e, present-of, done-bind)
+  link_on_goes = simp (e, present_of, done_bind)
 
-  link-on-done : {x : Place Node} → file-walk account R t (entry-location g.path) ≡ done x
+  link_on_done : {x : Place Node} → file_walk account R t (entry_location g.path) ≡ done x
       → link_on account t p d ≡ done (record { path = p; found = d; tag = g; filed = x })
-  link-on-done w = link-on-goes ∙ rw (w, done-bind)
+  link_on_done w = link_on_goes ∙ rw (w, done_bind)
 
-  link-on-refused : {k : Cause} → file-walk account R t (entry-location g.path) ≡ refused k → link_on account t p d ≡ refused k
-  link-on-refused w = link-on-goes ∙ rw (w, refused-bind)
+  link_on_refused : {k : Cause} → file_walk account R t (entry_location g.path) ≡ refused k → link_on account t p d ≡ refused k
+  link_on_refused w = link_on_goes ∙ rw (w, refused_bind)
 
 module _ {b : List ℕ} {t : Place Node} {p : Path} {i : ℕ} {d : Place Node} (a : At b t p i d) where
   -- a text at the row is a tag's
-  has-tag : (length (tag-text-at b i) ≡ 0 → ⊥) → (g : Tag) × (d.here.tag ≡ some g)
-  has-tag n = by-option d.here.tag
-      (λ z. absurd (n (ap length (tag-blank a (row-held b t i a.tree (at-used a).used).bytes z))))
+  has_tag : (length (tag_text_at b i) ≡ 0 → ⊥) → (g : Tag) × (d.here.tag ≡ some g)
+  has_tag n = by_option d.here.tag
+      (λ z. absurd (n (ap length (tag_blank a (row_held b t i a.tree (at_used a).used).bytes z))))
       (λ g e. (g, e))
 
   -- which reads as the entry's location
-  tag-located : (g : Tag) → d.here.tag ≡ some g → path (tag-text-at b i) ≡ some (entry-location g.path)
-  tag-located g e = entry-reads (tag-text-at b i) g.path (tag-reads a g e).0
+  tag_located : (g : Tag) → d.here.tag ≡ some g → path (tag_text_at b i) ≡ some (entry_location g.path)
+  tag_located g e = entry_reads (tag_text_at b i) g.path (tag_reads a g e).0
 
-  pub tag-path : (length (tag-text-at b i) ≡ 0 → ⊥) → Path-text (tag-text-at b i)
-  tag-path n = let g = has-tag n in (entry-location g.0.path, tag-located g.0 g.1)
+  pub tag_path : (length (tag_text_at b i) ≡ 0 → ⊥) → PathText (tag_text_at b i)
+  tag_path n = let g = has_tag n in (entry_location g.0.path, tag_located g.0 g.1)
 
   module _ (account : Account) where
     -- nothing at the row is no tag
-    pub entry-untagged : length (tag-text-at b i) ≡ 0 → refused Untagged ≡ link-rows-from t (link_on account t p d)
-    entry-untagged z =
-        let none-there : d.here.tag ≡ none = by-option d.here.tag (λ e. e) (λ g e. absurd (tag-written a g e (no_bytes (tag-text-at b i) z))) in
-        sym (ap (link-rows-from t) (link-on-missing account t p d none-there) ∙ refused-bind Untagged (λ (l : Link). done (link-rows t l)))
+    pub entry_untagged : length (tag_text_at b i) ≡ 0 → refused Untagged ≡ link_rows_from t (link_on account t p d)
+    entry_untagged z =
+        let none_there : d.here.tag ≡ none = by_option d.here.tag (λ e. e) (λ g e. absurd (tag_written a g e (no_bytes (tag_text_at b i) z))) in
+        sym (ap (link_rows_from t) (link_on_missing account t p d none_there) ∙ refused_bind Untagged (λ (l : Link). done (link_rows t l)))
 
-    module _ (n : length (tag-text-at b i) ≡ 0 → ⊥) {r : Walked}
-        (o : (q : Path) → path (tag-text-at b i) ≡ some q → outcome r ≡ spot-from t q (file-walk account R t q)) where
+    module _ (n : length (tag_text_at b i) ≡ 0 → ⊥) {r : Walked}
+        (o : (q : Path) → path (tag_text_at b i) ≡ some q → outcome r ≡ spot_from t q (file_walk account R t q)) where
       -- the entry's row
-      pub entry-came : {row above : ℕ} → r ≡ TheVariants.To row above → links-told (To i row above) ≡ link-rows-from t (link_on account t p d)
-      unfolding links-told link-rows
-      entry-came {row} {above} e =
-          let g = has-tag n in
-          let c = judged-to account (file-tests account R) t (entry-location g.0.path) a.tree (o (entry-location g.0.path) (tag-located g.0 g.1)) e in
+      pub entry_came : {row above : ℕ} → r ≡ TheVariants.To row above → links_told (To i row above) ≡ link_rows_from t (link_on account t p d)
+      unfolding links_told link_rows
+      entry_came {row} {above} e =
+          let g = has_tag n in
+          let c = judged_to account (file_tests account R) t (entry_location g.0.path) a.tree (o (entry_location g.0.path) (tag_located g.0 g.1)) e in
           let l : Link = record { path = p; found = d; tag = g.0; filed = c.place } in
-          let on = link-on-done account t p d g.1 c.walked in
-          let rows : links-told (To i row above) ≡ done (link-rows t l) = λ j. done (record { working = a.row j; entry = c.at.row j; above = c.over-at.row j }) in
-          rows ∙ sym (ap (λ (x : Result Link). x >>= λ y. done (link-rows t y)) on ∙ done-bind l (λ y. done (link-rows t y)))
+          let on = link_on_done account t p d g.1 c.walked in
+          let rows : links_told (To i row above) ≡ done (link_rows t l) = λ j. done (record { working = a.row j; entry = c.at.row j; above = c.over_at.row j }) in
+          rows ∙ sym (ap (λ (x : Result Link). x >>= λ y. done (link_rows t y)) on ∙ done_bind l (λ y. done (link_rows t y)))
 
-      pub entry-refused : {k : Cause} → r ≡ TheVariants.Refused k → refused k ≡ link-rows-from t (link_on account t p d)
-      entry-refused {k} e =
-          let g = has-tag n in
-          let q = entry-location g.0.path in
-          let on = link-on-refused account t p d g.1 (judged-not account (file-tests account R) t q a.tree (o q (tag-located g.0 g.1)) e) in
-          sym (ap (λ (x : Result Link). x >>= λ y. done (link-rows t y)) on ∙ refused-bind k (λ y. done (link-rows t y)))
+      pub entry_refused : {k : Cause} → r ≡ TheVariants.Refused k → refused k ≡ link_rows_from t (link_on account t p d)
+      entry_refused {k} e =
+          let g = has_tag n in
+          let q = entry_location g.0.path in
+          let on = link_on_refused account t p d g.1 (judged_not account (file_tests account R) t q a.tree (o q (tag_located g.0 g.1)) e) in
+          sym (ap (λ (x : Result Link). x >>= λ y. done (link_rows t y)) on ∙ refused_bind k (λ y. done (link_rows t y)))
 
 -- ---- the person's part before
 
 module _ (person account : Account) (right : Right) {b : List ℕ} {t : Place Node} {w : Path} {row : ℕ} {d : Place Node} (at : At b t w row d) {r : Walked}
-    (o : outcome r ≡ passing (file-tests person right (row_at b row).here) (spot row row)) where
+    (o : outcome r ≡ passing (file_tests person right (row_at b row).here) (spot row row)) where
   -- the tests at the row are those at its place, and after them comes the account's part
-  pub link-at-came : {i k : ℕ} {x : Result Link-rows} → r ≡ TheVariants.To i k → x ≡ link-rows-from t (link_on account t w d)
-      → x ≡ link-rows-from t (link_at person right account t w d)
+  pub link_at_came : {i k : ℕ} {x : Result LinkRows} → r ≡ TheVariants.To i k → x ≡ link_rows_from t (link_on account t w d)
+      → x ≡ link_rows_from t (link_at person right account t w d)
   unfolding link_at
-  link-at-came {i} {k} e f =
-      let passed = (then-done (file-tests person right (row_at b row).here) (done (spot row row)) (sym o ∙ ap outcome e ∙ outcome-at i k)).0 in
-      f ∙ rw (ap (file-tests person right) (sym (at_here at)) ∙ passed, done-then)
+  link_at_came {i} {k} e f =
+      let passed = (then_done (file_tests person right (row_at b row).here) (done (spot row row)) (sym o ∙ ap outcome e ∙ outcome_at i k)).0 in
+      f ∙ rw (ap (file_tests person right) (sym (at_here at)) ∙ passed, done_then)
 
-  pub link-at-refused : {k : Cause} → r ≡ TheVariants.Refused k → refused k ≡ link-rows-from t (link_at person right account t w d)
+  pub link_at_refused : {k : Cause} → r ≡ TheVariants.Refused k → refused k ≡ link_rows_from t (link_at person right account t w d)
   unfolding link_at
-  link-at-refused {k} e =
-      let barred = tests-refused (file-tests person right (row_at b row).here) (spot row row) (sym o ∙ ap outcome e ∙ outcome-refused k) in
-      rw (ap (file-tests person right) (sym (at_here at)) ∙ barred, refused-then) (sym (refused-bind k (λ (l : Link). done (link-rows t l))))
+  link_at_refused {k} e =
+      let barred = tests_refused (file_tests person right (row_at b row).here) (spot row row) (sym o ∙ ap outcome e ∙ outcome_refused k) in
+      rw (ap (file_tests person right) (sym (at_here at)) ∙ barred, refused_then) (sym (refused_bind k (λ (l : Link). done (link_rows t l))))
 
 module _ (person account : Account) (right : Right) (t : Place Node) (w : Path) where
   -- from the row on to which the walk led
-  pub link-came : {d : Place Node} {x : Result Link-rows} → walk (by-modes person) t w ≡ done d → x ≡ link-rows-from t (link_at person right account t w d)
-      → x ≡ link-rows-from t (link person right account t w)
+  pub link_came : {d : Place Node} {x : Result LinkRows} → walk (by_modes person) t w ≡ done d → x ≡ link_rows_from t (link_at person right account t w d)
+      → x ≡ link_rows_from t (link person right account t w)
   unfolding link
-  link-came e o = o ∙ rw (e, done-bind)
+  link_came e o = o ∙ rw (e, done_bind)
 
-  pub link-refused : {k : Cause} → walk (by-modes person) t w ≡ refused k → refused k ≡ link-rows-from t (link person right account t w)
+  pub link_refused : {k : Cause} → walk (by_modes person) t w ≡ refused k → refused k ≡ link_rows_from t (link person right account t w)
   unfolding link
-  link-refused {k} e = rw (e, refused-bind) (sym (refused-bind k (λ (l : Link). done (link-rows t l))))
+  link_refused {k} e = rw (e, refused_bind) (sym (refused_bind k (λ (l : Link). done (link_rows t l))))
 
 -- what an answer says of the steps to a link
-module _ (t : Place Node) (steps : Result Link) {r : Links} (o : links-told r ≡ link-rows-from t steps) where
-  pub links-not : {k : Cause} → r ≡ Refused k → steps ≡ refused k
-  unfolding links-told
-  links-not e = refused-before steps (link-rows t) (sym o ∙ ap links-told e)
+module _ (t : Place Node) (steps : Result Link) {r : Links} (o : links_told r ≡ link_rows_from t steps) where
+  pub links_not : {k : Cause} → r ≡ Refused k → steps ≡ refused k
+  unfolding links_told
+  links_not e = refused_before steps (link_rows t) (sym o ∙ ap links_told e)
 
-  pub links-to : {i k a : ℕ} → r ≡ To i k a → (l : Link) × (steps ≡ done l) × (link-rows t l ≡ three-rows i k a)
-  unfolding links-told
-  links-to {i} {k} {a} e =
-      let v = bind_done steps (λ l. done (link-rows t l)) (sym o ∙ ap links-told e) in
-      let q : link-rows t v.0 ≡ three-rows i k a = cc v.2 in
+  pub links_to : {i k a : ℕ} → r ≡ To i k a → (l : Link) × (steps ≡ done l) × (link_rows t l ≡ three_rows i k a)
+  unfolding links_told
+  links_to {i} {k} {a} e =
+      let v = bind_done steps (λ l. done (link_rows t l)) (sym o ∙ ap links_told e) in
+      let q : link_rows t v.0 ≡ three_rows i k a = cc v.2 in
       (v.0, v.1, q)
 
 -- what a link is: the working file found, and where the account's walk leads
-pub record Link-facts (account : Account) (t : Place Node) (w : Path) (d : Place Node) (l : Link) : Type 0 where
+pub record LinkFacts (account : Account) (t : Place Node) (w : Path) (d : Place Node) (l : Link) : Type 0 where
   pub path : l.path ≡ w
   pub found : l.found ≡ d
-  pub plain : is-directory d.here.kind ≡ false
+  pub plain : is_directory d.here.kind ≡ false
   pub tagged : d.here.tag ≡ some l.tag
-  pub filed : walk (by-modes account) t (entry-location l.tag.path) ≡ done l.filed
-  pub original-plain : is-directory l.filed.here.kind ≡ false
+  pub filed : walk (by_modes account) t (entry_location l.tag.path) ≡ done l.filed
+  pub original_plain : is_directory l.filed.here.kind ≡ false
 
-pub link-facts : (person account : Account) (right : Right) (t : Place Node) (w : Path) (d : Place Node) {l : Link}
-    → link_at person right account t w d ≡ done l → Link-facts account t w d l
+pub link_facts : (person account : Account) (right : Right) (t : Place Node) (w : Path) (d : Place Node) {l : Link}
+    → link_at person right account t w d ≡ done l → LinkFacts account t w d l
 unfolding link_at link_on
-link-facts person account right t w d {l} e =
+link_facts person account right t w d {l} e =
     let made : Tag → Place Node → Link = λ g y. record { path = w; found = d; tag = g; filed = y } in
-    let x = then-done (file-tests person right d.here) (link_on account t w d) e in
-    let y = bind_done (present d.here.tag Untagged) (λ g. file-walk account R t (entry-location g.path) >>= λ v. done (made g v)) x.1 in
-    let q = entry-location y.0.path in
-    let z = bind_done (file-walk account R t q) (λ v. done (made y.0 v)) y.2 in
-    let g = judged-walked account (file-tests account R) t q z.1 in
+    let x = then_done (file_tests person right d.here) (link_on account t w d) e in
+    let y = bind_done (present d.here.tag Untagged) (λ g. file_walk account R t (entry_location g.path) >>= λ v. done (made g v)) x.1 in
+    let q = entry_location y.0.path in
+    let z = bind_done (file_walk account R t q) (λ v. done (made y.0 v)) y.2 in
+    let g = judged_walked account (file_tests account R) t q z.1 in
     let is : l ≡ made y.0 z.0 = cc z.2 in
     rw is (record {
       path = refl;
       found = refl;
-      plain = file-plain person right d.here x.0;
-      tagged = present-some d.here.tag Untagged y.1;
+      plain = file_plain person right d.here x.0;
+      tagged = present_some d.here.tag Untagged y.1;
       filed = g.0;
-      original-plain = file-plain account R z.0.here g.1;
+      original_plain = file_plain account R z.0.here g.1;
     })
 
 module _ (person account : Account) (right : Right) {b : List ℕ} {t : Place Node} {w : Path} {j : ℕ} {d : Place Node} (at : At b t w j d) {l : Link} {i k a : ℕ}
-    (e : link_at person right account t w d ≡ done l) (rows : link-rows t l ≡ three-rows i k a) where
+    (e : link_at person right account t w d ≡ done l) (rows : link_rows t l ≡ three_rows i k a) where
   -- its rows are linked
   pub linked : Linked b t l i k
-  unfolding link-rows
+  unfolding link_rows
   linked =
-      let f = link-facts person account right t w d e in
+      let f = link_facts person account right t w d e in
       record {
-        file = record { tree = at.tree; there = rw (f.path, f.found) at.there; row = sym (ap (λ (x : Link-rows). x.working) rows) };
+        file = record { tree = at.tree; there = rw (f.path, f.found) at.there; row = sym (ap (λ (x : LinkRows). x.working) rows) };
         tagged = rw f.found f.tagged;
         original = record {
           tree = at.tree;
-          there = walked_at t (by-modes account) (entry-location l.tag.path) l.filed f.filed;
-          row = sym (ap (λ (x : Link-rows). x.entry) rows);
+          there = walked_at t (by_modes account) (entry_location l.tag.path) l.filed f.filed;
+          row = sym (ap (λ (x : LinkRows). x.entry) rows);
         };
         plain = rw f.found f.plain;
-        original-plain = f.original-plain;
+        original_plain = f.original_plain;
       }
 
   -- and the third is that of the directory above the entry
-  pub linked-above : (o : Place Node) × (walk (by-modes account) t (in-rep l.tag.path.folder) ≡ done o) × At b t (in-rep l.tag.path.folder) a o
-  unfolding link-rows entry-location parent
-  linked-above =
-      let p = in-rep l.tag.path.folder in
-      let v = walked (by-modes account) t p l.tag.path.name (link-facts person account right t w d e).filed in
-      (v.0, v.1, record { tree = at.tree; there = walked_at t (by-modes account) p v.0 v.1; row = sym (ap (λ (x : Link-rows). x.above) rows) })
+  pub linked_above : (o : Place Node) × (walk (by_modes account) t (in_rep l.tag.path.folder) ≡ done o) × At b t (in_rep l.tag.path.folder) a o
+  unfolding link_rows entry_location parent
+  linked_above =
+      let p = in_rep l.tag.path.folder in
+      let v = walked (by_modes account) t p l.tag.path.name (link_facts person account right t w d e).filed in
+      (v.0, v.1, record { tree = at.tree; there = walked_at t (by_modes account) p v.0 v.1; row = sym (ap (λ (x : LinkRows). x.above) rows) })
 
 -- the rows of a link that a walk led to
-pub link-linked : (person account : Account) (right : Right) {b : List ℕ} {t : Place Node} (w : Path) {l : Link} {i k a : ℕ} → Encodes b t
-    → link person right account t w ≡ done l → link-rows t l ≡ three-rows i k a → Linked b t l i k
+pub link_linked : (person account : Account) (right : Right) {b : List ℕ} {t : Place Node} (w : Path) {l : Link} {i k a : ℕ} → Encodes b t
+    → link person right account t w ≡ done l → link_rows t l ≡ three_rows i k a → Linked b t l i k
 unfolding link
-link-linked person account right {t = t} w tree e rows =
-    let x = bind_done (walk (by-modes person) t w) (λ d. link_at person right account t w d) e in
-    linked person account right (record { tree = tree; there = walked_at t (by-modes person) w x.0 x.1; row = refl }) x.2 rows
+link_linked person account right {t = t} w tree e rows =
+    let x = bind_done (walk (by_modes person) t w) (λ d. link_at person right account t w d) e in
+    linked person account right (record { tree = tree; there = walked_at t (by_modes person) w x.0 x.1; row = refl }) x.2 rows
 
 -- ---- `commit`
 
 module _ (person account : Account) {b : List ℕ} {t : Place Node} {w : Path} {j : ℕ} {d : Place Node} (at : At b t w j d) where
   -- the tests at the rows are those at the nodes
-  pub commit-came : {l : Link} {i k a : ℕ} {x : Result Link-rows} → link_at person R account t w d ≡ done l → link-rows t l ≡ three-rows i k a
-      → x ≡ passing (commit-tests account (row_at b a).here (tag-number-at b i) (row_at b k).here.revision) (three-rows i k a)
-      → x ≡ link-rows-from t (commit-at person account t w d)
-  unfolding commit-at
-  commit-came {l} {i} {k} {a} e rows o =
+  pub commit_came : {l : Link} {i k a : ℕ} {x : Result LinkRows} → link_at person R account t w d ≡ done l → link_rows t l ≡ three_rows i k a
+      → x ≡ passing (commit_tests account (row_at b a).here (tag_number_at b i) (row_at b k).here.revision) (three_rows i k a)
+      → x ≡ link_rows_from t (commit_at person account t w d)
+  unfolding commit_at
+  commit_came {l} {i} {k} {a} e rows o =
       let x = linked person account R at e rows in
-      let above = linked-above person account R at e rows in
+      let above = linked_above person account R at e rows in
       let v = above.0 in
-      let tests = commit-tests account v.here l.tag.revision l.filed.here.revision in
-      let goes : commit-at person account t w d ≡ (tests >> done l) = rw (e, done-bind, above.1, done-bind) in
-      o ∙ rw (at_here above.2, at_here x.original, (tag-reads x.file l.tag x.tagged).1)
-      (ap (λ (y : Link-rows). tests >> done y) (sym rows) ∙ tests_then tests l (link-rows t) ∙ ap (λ (y : Result Link). y >>= λ z. done (link-rows t z)) (sym goes))
+      let tests = commit_tests account v.here l.tag.revision l.filed.here.revision in
+      let goes : commit_at person account t w d ≡ (tests >> done l) = rw (e, done_bind, above.1, done_bind) in
+      o ∙ rw (at_here above.2, at_here x.original, (tag_reads x.file l.tag x.tagged).1)
+      (ap (λ (y : LinkRows). tests >> done y) (sym rows) ∙ tests_then tests l (link_rows t) ∙ ap (λ (y : Result Link). y >>= λ z. done (link_rows t z)) (sym goes))
 
-  pub commit-refused : {k : Cause} → link_at person R account t w d ≡ refused k → refused k ≡ link-rows-from t (commit-at person account t w d)
-  unfolding commit-at
-  commit-refused {k} e = rw (e, refused-bind) (sym (refused-bind k (λ (x : Link). done (link-rows t x))))
+  pub commit_refused : {k : Cause} → link_at person R account t w d ≡ refused k → refused k ≡ link_rows_from t (commit_at person account t w d)
+  unfolding commit_at
+  commit_refused {k} e = rw (e, refused_bind) (sym (refused_bind k (λ (x : Link). done (link_rows t x))))
 
 -- where they pass, the nodes are linked and the entry's revision is not the last
-pub commit-parts : (person account : Account) (t : Place Node) (w : Path) (d : Place Node) {l : Link} → commit-at person account t w d ≡ done l
-    → (link_at person R account t w d ≡ done l) × (eqb l.filed.here.revision last-revision ≡ false)
-unfolding commit-at commit-tests
-commit-parts person account t w d {l} e =
-    let tests : Link → Place Node → Result (Unit {0}) = λ y v. commit-tests account v.here y.tag.revision y.filed.here.revision in
-    let x = bind_done (link_at person R account t w d) (λ y. walk (by-modes account) t (in-rep y.tag.path.folder) >>= λ v. tests y v >> done y) e in
+pub commit_parts : (person account : Account) (t : Place Node) (w : Path) (d : Place Node) {l : Link} → commit_at person account t w d ≡ done l
+    → (link_at person R account t w d ≡ done l) × (eqb l.filed.here.revision last_revision ≡ false)
+unfolding commit_at commit_tests
+commit_parts person account t w d {l} e =
+    let tests : Link → Place Node → Result (Unit {0}) = λ y v. commit_tests account v.here y.tag.revision y.filed.here.revision in
+    let x = bind_done (link_at person R account t w d) (λ y. walk (by_modes account) t (in_rep y.tag.path.folder) >>= λ v. tests y v >> done y) e in
     let m = x.0 in
-    let y = bind_done (walk (by-modes account) t (in-rep m.tag.path.folder)) (λ v. tests m v >> done m) x.2 in
-    let z = then-done (tests m y.0) (done m) y.2 in
+    let y = bind_done (walk (by_modes account) t (in_rep m.tag.path.folder)) (λ v. tests m v >> done m) x.2 in
+    let z = then_done (tests m y.0) (done m) y.2 in
     let u = m.filed.here.revision in
-    let spent = require (not (eqb u last-revision)) RevisionsSpent in
-    let first = then-done (require (allows account W y.0.here) Access) (require (eqb m.tag.revision u) Stale >> spent) z.0 in
-    let second = then-done (require (eqb m.tag.revision u) Stale) spent first.1 in
+    let spent = require (not (eqb u last_revision)) RevisionsSpent in
+    let first = then_done (require (allows account W y.0.here) Access) (require (eqb m.tag.revision u) Stale >> spent) z.0 in
+    let second = then_done (require (eqb m.tag.revision u) Stale) spent first.1 in
     let q : l ≡ m = cc z.1 in
-    rw q (x.1, not-true (eqb u last-revision) (required (not (eqb u last-revision)) RevisionsSpent second.1))
+    rw q (x.1, not-true (eqb u last_revision) (required (not (eqb u last_revision)) RevisionsSpent second.1))
 
 -- so the next is in range
-pub revision-below : {b : List ℕ} {t : Place Node} {q : Path} {k : ℕ} {d : Place Node} (a : At b t q k d) → eqb d.here.revision last-revision ≡ false
-    → (row_at b k).here.revision < last-revision
-revision-below {d = d} a e =
+pub revision_below : {b : List ℕ} {t : Place Node} {q : Path} {k : ℕ} {d : Place Node} (a : At b t q k d) → eqb d.here.revision last_revision ≡ false
+    → (row_at b k).here.revision < last_revision
+revision_below {d = d} a e =
     let v = d.here.revision in
-    let low = leb-true v last-revision (node-ranges d.here (at-node a)).revision in
-    rw (at_here a) (omega (arith, low, eqb-false v last-revision e))
+    let low = leb-true v last_revision (node_ranges d.here (at_node a)).revision in
+    rw (at_here a) (omega (arith, low, eqb-false v last_revision e))
 
 -- ---- the changes of `commit` and `up`
 
 module _ {b : List ℕ} {t : Place Node} {l : Link} {i k : ℕ} (x : Linked b t l i k) where
   -- content and revision of the entry, then the tag of the working file, which may be the same node
-  pub commit-law : (next : ℕ) → next ≡ suc l.filed.here.revision → l.filed.here.revision < last-revision
-      → {b₁ b₂ b₃ : List ℕ} → b₁ ≡ field_put b k content-offset (content-field b i) → b₂ ≡ field_put b₁ k revision-offset (two_bytes next)
-      → b₃ ≡ field_put b₂ i tag-revision-offset (two_bytes next) → b₃ ≡ encode-tree (after-commit t l)
-  unfolding after-commit next-node
-  commit-law next n low {b₁} {b₂} {b₃} h₁ h₂ h₃ =
-      let q = entry-location l.tag.path in
+  pub commit_law : (next : ℕ) → next ≡ suc l.filed.here.revision → l.filed.here.revision < last_revision
+      → {b₁ b₂ b₃ : List ℕ} → b₁ ≡ field_put b k content_offset (content_field b i) → b₂ ≡ field_put b₁ k revision_offset (two_bytes next)
+      → b₃ ≡ field_put b₂ i tag_revision_offset (two_bytes next) → b₃ ≡ encode_tree (after_commit t l)
+  unfolding after_commit next_node
+  commit_law next n low {b₁} {b₂} {b₃} h₁ h₂ h₃ =
+      let q = entry_location l.tag.path in
       let c = l.found.here.content in
       let y = l.filed.here in
-      let own = at-node x.original in
-      let filled = node-of-content c y own x.original-plain (node-ranges l.found.here (at-node x.file)).content in
-      let e₁ = h₁ ∙ copy-content-law x.original x.file in
-      let k₁ = altered-at x.original (set-content c) x.original.there filled (kind-of-set-content c y) e₁ in
-      let one : update q (alter (set-revision next)) (update q (alter (set-content c)) t) ≡ update q (alter (next-node c)) t =
-      alter-twice q (set-revision next) (set-content c) t
-      ∙ alter-alike t q l.filed (λ z. set-revision next (set-content c z)) (next-node c) x.original.there (ap (λ (v : ℕ). set-revision v (set-content c y)) n) in
-      let e₂ = h₂ ∙ revision-law k₁.at next ∙ ap encode-tree one in
-      let raised = node-of-revision (suc y.revision) (set-content c y) filled (le-leb (suc y.revision) last-revision (omega (arith, low))) in
-      let kind = kind-of-set-revision (suc y.revision) (set-content c y) ∙ kind-of-set-content c y in
-      let k₂ = altered-at x.file (next-node c) x.original.there raised kind e₂ in
+      let own = at_node x.original in
+      let filled = node_of_content c y own x.original_plain (node_ranges l.found.here (at_node x.file)).content in
+      let e₁ = h₁ ∙ copy_content_law x.original x.file in
+      let k₁ = altered_at x.original (set_content c) x.original.there filled (kind_of_set_content c y) e₁ in
+      let one : update q (alter (set_revision next)) (update q (alter (set_content c)) t) ≡ update q (alter (next_node c)) t =
+      alter_twice q (set_revision next) (set_content c) t
+      ∙ alter_alike t q l.filed (λ z. set_revision next (set_content c z)) (next_node c) x.original.there (ap (λ (v : ℕ). set_revision v (set_content c y)) n) in
+      let e₂ = h₂ ∙ revision_law k₁.at next ∙ ap encode_tree one in
+      let raised = node_of_revision (suc y.revision) (set_content c y) filled (le-leb (suc y.revision) last_revision (omega (arith, low))) in
+      let kind = kind_of_set_revision (suc y.revision) (set_content c y) ∙ kind_of_set_content c y in
+      let k₂ = altered_at x.file (next_node c) x.original.there raised kind e₂ in
       let f = l.found.here in
-      let kept = kept-part k₂ (λ z. z.tag)
-      (ap (λ (z : Node). z.tag) (set-revision-is (set-content c f) (suc f.revision)) ∙ ap (λ (z : Node). z.tag) (set-content-is f c)) in
-      h₃ ∙ tag-revision-law k₂.at l.tag next (kept ∙ x.tagged)
-      ∙ ap (λ (v : ℕ). encode-tree (tagged l.path l.tag.path v (update q (alter (next-node c)) t))) n
+      let kept = kept_part k₂ (λ z. z.tag)
+      (ap (λ (z : Node). z.tag) (set_revision_is (set_content c f) (suc f.revision)) ∙ ap (λ (z : Node). z.tag) (set_content_is f c)) in
+      h₃ ∙ tag_revision_law k₂.at l.tag next (kept ∙ x.tagged)
+      ∙ ap (λ (v : ℕ). encode_tree (tagged l.path l.tag.path v (update q (alter (next_node c)) t))) n
 
   -- the tag of the working file, then its content
-  pub up-law : (v : ℕ) → v ≡ l.filed.here.revision → {b₁ b₂ : List ℕ} → b₁ ≡ field_put b i tag-revision-offset (two_bytes v)
-      → b₂ ≡ field_put b₁ i content-offset (content-field b₁ k) → b₂ ≡ encode-tree (after-up t l)
-  unfolding after-up
-  up-law v n {b₁} {b₂} h₁ h₂ =
+  pub up_law : (v : ℕ) → v ≡ l.filed.here.revision → {b₁ b₂ : List ℕ} → b₁ ≡ field_put b i tag_revision_offset (two_bytes v)
+      → b₂ ≡ field_put b₁ i content_offset (content_field b₁ k) → b₂ ≡ encode_tree (after_up t l)
+  unfolding after_up
+  up_law v n {b₁} {b₂} h₁ h₂ =
       let p = l.path in
       let f = l.found.here in
       let y = l.filed.here in
       let g : Tag = record { path = l.tag.path; revision = y.revision } in
-      let own = at-node x.file in
-      let marked = node-of-tag g f own ((node-ranges f own).tag l.tag x.tagged).0 (node-ranges y (at-node x.original)).revision in
-      let e₁ = h₁ ∙ ap (λ (u : ℕ). field_put b i tag-revision-offset (two_bytes u)) n ∙ tag-revision-law x.file l.tag y.revision x.tagged in
-      let there = altered-at x.file (set-tag g) x.file.there marked (kind-of-set-tag g f) e₁ in
-      let from = altered-at x.original (set-tag g) x.file.there marked (kind-of-set-tag g f) e₁ in
-      let same = kept-part from (λ z. z.content) (ap (λ (z : Node). z.content) (set-tag-is y g)) in
-      h₂ ∙ copy-content-law there.at from.at
-      ∙ ap (λ (c : List ℕ). encode-tree (update p (alter (set-content c)) (update p (alter (set-tag g)) t))) same
-      ∙ ap encode-tree (alter-twice p (set-content y.content) (set-tag g) t)
+      let own = at_node x.file in
+      let marked = node_of_tag g f own ((node_ranges f own).tag l.tag x.tagged).0 (node_ranges y (at_node x.original)).revision in
+      let e₁ = h₁ ∙ ap (λ (u : ℕ). field_put b i tag_revision_offset (two_bytes u)) n ∙ tag_revision_law x.file l.tag y.revision x.tagged in
+      let there = altered_at x.file (set_tag g) x.file.there marked (kind_of_set_tag g f) e₁ in
+      let from = altered_at x.original (set_tag g) x.file.there marked (kind_of_set_tag g f) e₁ in
+      let same = kept_part from (λ z. z.content) (ap (λ (z : Node). z.content) (set_tag_is y g)) in
+      h₂ ∙ copy_content_law there.at from.at
+      ∙ ap (λ (c : List ℕ). encode_tree (update p (alter (set_content c)) (update p (alter (set_tag g)) t))) same
+      ∙ ap encode_tree (alter_twice p (set_content y.content) (set_tag g) t)

@@ -2,12 +2,12 @@
 ghost use Rattle.std.specs.Prelude.{◌≡◌, ◌<◌};
 ghost use Rattle.tree.specs.Forest.{Place};
 ghost use Rattle.tree.specs.Node.{Node};
-ghost use Rattle.tree.specs.Encoding.{encode-tree};
-ghost use Rattle.tree.specs.RowAt.{row_at, tag-number-at};
-ghost use Rattle.tree.specs.WellFormed.{last-revision};
-ghost use Rattle.tree.specs.TreeBytes.{Has-row, Whole, Path-text, Some-place, Whichever-place};
-ghost use Rattle.shell.specs.CommandBytes.{Follows-at};
-ghost use Rattle.entries.specs.EntrySteps.{commit-tests, commit-at, after-commit, after-up, up-steps, three-rows, link-rows-from, passing, links-told, Link, Linked, Some-link, Filed-at};
+ghost use Rattle.tree.specs.Encoding.{encode_tree};
+ghost use Rattle.tree.specs.RowAt.{row_at, tag_number_at};
+ghost use Rattle.tree.specs.WellFormed.{last_revision};
+ghost use Rattle.tree.specs.TreeBytes.{HasRow, Whole, PathText, SomePlace, WhicheverPlace};
+ghost use Rattle.shell.specs.CommandBytes.{FollowsAt};
+ghost use Rattle.entries.specs.EntrySteps.{commit_tests, commit_at, after_commit, after_up, up_steps, three_rows, link_rows_from, passing, links_told, Link, Linked, SomeLink, FiledAt};
 
 use crate::Links;
 use crate::tagged::{linked_at, linked_rows};
@@ -19,11 +19,11 @@ use walks::may_at;
 
 // Whether the working file may be filed: w above the entry, the entry's revision the tag's, and not the last.
 fn judge_commit(tree: &[u8], account: Account, working: usize, entry: usize, above: usize) -> Links
-    requires has_row { Has-row tree.now working }
-    requires has_row_2 { Has-row tree.now entry }
-    requires has_row_3 { Has-row tree.now above }
-    ensures { links-told result ≡ passing (commit-tests account (row_at tree.now above).here (tag-number-at tree.now working)
-        (row_at tree.now entry).here.revision) (three-rows working entry above) }
+    requires has_row { HasRow tree.now working }
+    requires has_row_2 { HasRow tree.now entry }
+    requires has_row_3 { HasRow tree.now above }
+    ensures { links_told result ≡ passing (commit_tests account (row_at tree.now above).here (tag_number_at tree.now working)
+        (row_at tree.now entry).here.revision) (three_rows working entry above) }
 {
     if !may_at(tree, above, account, Right::W) {
         return Links::Refused(Cause::Access);
@@ -44,8 +44,8 @@ fn judge_commit(tree: &[u8], account: Account, working: usize, entry: usize, abo
 
 // What `commit` of the file at a row is about, or why it is refused.
 fn commit_rows(tree: &[u8], person: Account, account: Account, row: usize) -> Links
-    requires { Some-place tree.now row }
-    ensures { Whichever-place tree.now row (λ t p d. links-told result ≡ link-rows-from t (commit-at person account t p d)) }
+    requires { SomePlace tree.now row }
+    ensures { WhicheverPlace tree.now row (λ t p d. links_told result ≡ link_rows_from t (commit_at person account t p d)) }
 {
     match linked_at(tree, person, Right::R, account, row) {
         Links::To {
@@ -59,9 +59,9 @@ fn commit_rows(tree: &[u8], person: Account, account: Account, row: usize) -> Li
 
 // The entry takes the working file's content and the next revision, and so does the tag.
 fn file_content(tree: &mut [u8], working: usize, entry: usize)
-    requires some_link { Some-link tree.old working entry }
-    requires bound { (row_at tree.old entry).here.revision < last-revision }
-    ensures { (t : Place Node) (l : Link) → Linked tree.old t l working entry → tree.new ≡ encode-tree (after-commit t l) }
+    requires some_link { SomeLink tree.old working entry }
+    requires bound { (row_at tree.old entry).here.revision < last_revision }
+    ensures { (t : Place Node) (l : Link) → Linked tree.old t l working entry → tree.new ≡ encode_tree (after_commit t l) }
 {
     let next = revision_at(tree, entry) + 1;
     copy_content(tree, working, entry);
@@ -71,8 +71,8 @@ fn file_content(tree: &mut [u8], working: usize, entry: usize)
 
 // The working file takes the entry's content, and the tag its revision.
 fn bring_up(tree: &mut [u8], working: usize, entry: usize)
-    requires { Some-link tree.old working entry }
-    ensures { (t : Place Node) (l : Link) → Linked tree.old t l working entry → tree.new ≡ encode-tree (after-up t l) }
+    requires { SomeLink tree.old working entry }
+    ensures { (t : Place Node) (l : Link) → Linked tree.old t l working entry → tree.new ≡ encode_tree (after_up t l) }
 {
     let current = revision_at(tree, entry);
     set_tag_revision(tree, working, current);
@@ -81,9 +81,9 @@ fn bring_up(tree: &mut [u8], working: usize, entry: usize)
 
 // `commit` of the file at a row: its entry takes its content. Answers the rows that it linked, or why not: a directory is of the wrong kind.
 pub fn commit_at(tree: &mut [u8], person: Account, account: Account, row: usize) -> Links
-    requires { Some-place tree.old row }
-    ensures { Whichever-place tree.old row (λ t p d.
-        Filed-at tree.old t (commit-at person account t p d) result tree.new) }
+    requires { SomePlace tree.old row }
+    ensures { WhicheverPlace tree.old row (λ t p d.
+        FiledAt tree.old t (commit_at person account t p d) result tree.new) }
 {
     match commit_rows(tree, person, account, row) {
         Links::To {
@@ -105,8 +105,8 @@ pub fn commit_at(tree: &mut [u8], person: Account, account: Account, row: usize)
 // `up,w`: a working file takes the content of its entry.
 pub fn up(tree: &mut [u8], caller: Caller, account: Account, working: &[u8]) -> Answer
     requires whole { Whole tree.old }
-    requires path_text { Path-text working.now }
-    ensures { Follows-at (up-steps caller.account account) tree.old working.now result tree.new }
+    requires path_text { PathText working.now }
+    ensures { FollowsAt (up_steps caller.account account) tree.old working.now result tree.new }
 {
     let person = caller.account;
     match linked_rows(tree, person, Right::W, account, working) {

@@ -1,10 +1,10 @@
 // Where a working file and its entry stand: the checks that `commit` and `up` share.
 ghost use Rattle.std.specs.Prelude.{◌≡◌};
 ghost use Rattle.tree.specs.RowAt.{row_at};
-ghost use Rattle.tree.specs.TreeBytes.{Has-row, Whole, Path-text, Whichever, Some-place, Whichever-place};
+ghost use Rattle.tree.specs.TreeBytes.{HasRow, Whole, PathText, Whichever, SomePlace, WhicheverPlace};
 ghost use Rattle.walks.specs.RowWalk.{spot, outcome};
-ghost use Rattle.walks.specs.WalkBytes.{spot-from};
-ghost use Rattle.entries.specs.EntrySteps.{file-tests, file-walk, link_on, link_at, link, link-rows-from, passing, links-told};
+ghost use Rattle.walks.specs.WalkBytes.{spot_from};
+ghost use Rattle.entries.specs.EntrySteps.{file_tests, file_walk, link_on, link_at, link, link_rows_from, passing, links_told};
 
 use crate::Links;
 use accounts::{Account, Right};
@@ -13,8 +13,8 @@ use walks::{Walked, may_at, walk};
 
 // A file with the right, else why not.
 fn judge_file(tree: &[u8], account: Account, right: Right, row: usize, above: usize) -> Walked
-    requires { Has-row tree.now row }
-    ensures { outcome result ≡ passing (file-tests account right (row_at tree.now row).here) (spot row above) }
+    requires { HasRow tree.now row }
+    ensures { outcome result ≡ passing (file_tests account right (row_at tree.now row).here) (spot row above) }
 {
     match kind_at(tree, row) {
         Kind::Directory => Walked::Refused(Cause::WrongKind),
@@ -30,8 +30,8 @@ fn judge_file(tree: &[u8], account: Account, right: Right, row: usize, above: us
 // The walk to a file at which the account has a right.
 fn walk_file(tree: &[u8], account: Account, right: Right, path: &[u8]) -> Walked
     requires whole { Whole tree.now }
-    requires path_text { Path-text path.now }
-    ensures { Whichever tree.now path.now (λ t p. outcome result ≡ spot-from t p (file-walk account right t p)) }
+    requires path_text { PathText path.now }
+    ensures { Whichever tree.now path.now (λ t p. outcome result ≡ spot_from t p (file_walk account right t p)) }
 {
     match walk(tree, account, path) {
         Walked::To { row, above } => judge_file(tree, account, right, row, above),
@@ -41,8 +41,8 @@ fn walk_file(tree: &[u8], account: Account, right: Right, path: &[u8]) -> Walked
 
 // From a working file to the entry that its tag leads to.
 fn entry_rows(tree: &[u8], account: Account, working: usize) -> Links
-    requires { Some-place tree.now working }
-    ensures { Whichever-place tree.now working (λ t p d. links-told result ≡ link-rows-from t (link_on account t p d)) }
+    requires { SomePlace tree.now working }
+    ensures { WhicheverPlace tree.now working (λ t p d. links_told result ≡ link_rows_from t (link_on account t p d)) }
 {
     let path = tag_path_at(tree, working);
     if path.len() == 0 {
@@ -60,8 +60,8 @@ fn entry_rows(tree: &[u8], account: Account, working: usize) -> Links
 
 // The person's tests at a working file, then the account's walk to its entry. What stands above the file is not asked for.
 pub fn linked_at(tree: &[u8], person: Account, right: Right, account: Account, row: usize) -> Links
-    requires { Some-place tree.now row }
-    ensures { Whichever-place tree.now row (λ t p d. links-told result ≡ link-rows-from t (link_at person right account t p d)) }
+    requires { SomePlace tree.now row }
+    ensures { WhicheverPlace tree.now row (λ t p d. links_told result ≡ link_rows_from t (link_at person right account t p d)) }
 {
     match judge_file(tree, person, right, row, row) {
         Walked::To { row: _, above: _ } => entry_rows(tree, account, row),
@@ -78,8 +78,8 @@ pub fn linked_rows(
     working: &[u8],
 ) -> Links
     requires whole { Whole tree.now }
-    requires path_text { Path-text working.now }
-    ensures { Whichever tree.now working.now (λ t w. links-told result ≡ link-rows-from t (link person right account t w)) }
+    requires path_text { PathText working.now }
+    ensures { Whichever tree.now working.now (λ t w. links_told result ≡ link_rows_from t (link person right account t w)) }
 {
     match walk(tree, person, working) {
         Walked::To { row, above: _ } => linked_at(tree, person, right, account, row),

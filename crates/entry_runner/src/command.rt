@@ -1,7 +1,7 @@
 // A parsed command on entries carried out.
 ghost use Rattle.std.specs.Prelude.{◌≤◌, length};
-ghost use Rattle.commands.specs.Meaning.{Some-entry-command};
-ghost use Rattle.entry_runner.specs.EntryDone.{Acts-by, Entry-done};
+ghost use Rattle.commands.specs.Meaning.{SomeEntryCommand};
+ghost use Rattle.entry_runner.specs.EntryDone.{ActsBy, EntryDone};
 
 use crate::lent::{add_in, co_in, del_in, up_in};
 use accounts::{Account, Caller, Dominance, Session};
@@ -20,10 +20,10 @@ pub fn entry_command(
     command: EntryCommand,
     answer: &mut [u8],
 ) -> Answer
-    requires acts_by { Acts-by store.old caller account session dominance }
-    requires some_entry_command { Some-entry-command line.now command }
+    requires acts_by { ActsBy store.old caller account session dominance }
+    requires some_entry_command { SomeEntryCommand line.now command }
     requires in_bounds { 4096 ≤ length answer.old }
-    ensures { Entry-done caller line.now command account session dominance
+    ensures { EntryDone caller line.now command account session dominance
         store.old answer.old result store.new answer.new }
 {
     match command {

@@ -6,11 +6,11 @@ use Rattle.shell.specs.Replies.{Told}
 unfoldable pub no_value : ℕ
 no_value = 18446744073709551615
 
-unfoldable pub value-told : List ℕ → ℕ
-value-told [] = no_value
-value-told (v ∷ vs) = v
+unfoldable pub value_told : List ℕ → ℕ
+value_told [] = no_value
+value_told (v ∷ vs) = v
 
 -- the number and the value are those that are told
-pub record Handed-over (t : Told) (number value : ℕ) : Type 0 where
+pub record HandedOver (t : Told) (number value : ℕ) : Type 0 where
   pub is_number : number ≡ t.number
-  pub is-value : value ≡ value-told t.values
+  pub is_value : value ≡ value_told t.values

@@ -3,51 +3,51 @@ use Rattle.std.specs.Prelude.{◌≡◌, refl, [], ℕ}
 use Rattle.std.proofs.Common.{◌∙◌, ap}
 use Rattle.tree.specs.declared.Cause.{Cause}
 use Rattle.tree.specs.Causes.{number}
-use Rattle.tree.specs.CausesLaws.{wrong-setup-is}
+use Rattle.tree.specs.CausesLaws.{wrong_setup_is}
 use Rattle.shell.specs.declared.Answer.{Answer}
 use Rattle.shell.specs.declared.Answer.TheVariants.{Done, Refused, WrongLine}
 use Rattle.shell.specs.declared.Answer.TheVariants
 use Rattle.shell.specs.Replies.{Told, told}
-use Rattle.exports.specs.Exported.{no_value, value-told, Handed-over}
+use Rattle.exports.specs.Exported.{no_value, value_told, HandedOver}
 
 -- ---- one answer
 
-pub done-number : (told Done).number ≡ 0
+pub done_number : (told Done).number ≡ 0
 unfolding told
-done-number = refl
+done_number = refl
 
-pub text-number : (n : ℕ) → (told (TheVariants.Text n)).number ≡ 0
+pub text_number : (n : ℕ) → (told (TheVariants.Text n)).number ≡ 0
 unfolding told
-text-number n = refl
+text_number n = refl
 
-pub refused-number : (why : Cause) → (told (Refused why)).number ≡ number why
+pub refused_number : (why : Cause) → (told (Refused why)).number ≡ number why
 unfolding told
-refused-number why = refl
+refused_number why = refl
 
-pub wrong-number : (n : ℕ) → (told (WrongLine n)).number ≡ 17
+pub wrong_number : (n : ℕ) → (told (WrongLine n)).number ≡ 17
 unfolding told
-wrong-number n = wrong-setup-is
+wrong_number n = wrong_setup_is
 
-pub done-value : value-told (told Done).values ≡ 18446744073709551615
-unfolding told value-told no_value
-done-value = refl
+pub done_value : value_told (told Done).values ≡ 18446744073709551615
+unfolding told value_told no_value
+done_value = refl
 
-pub text-value : (n : ℕ) → value-told (told (TheVariants.Text n)).values ≡ n
-unfolding told value-told
-text-value n = refl
+pub text_value : (n : ℕ) → value_told (told (TheVariants.Text n)).values ≡ n
+unfolding told value_told
+text_value n = refl
 
-pub refused-value : (why : Cause) → value-told (told (Refused why)).values ≡ 18446744073709551615
-unfolding told value-told no_value
-refused-value why = refl
+pub refused_value : (why : Cause) → value_told (told (Refused why)).values ≡ 18446744073709551615
+unfolding told value_told no_value
+refused_value why = refl
 
-pub wrong-value : (n : ℕ) → value-told (told (WrongLine n)).values ≡ n
-unfolding told value-told
-wrong-value n = refl
+pub wrong_value : (n : ℕ) → value_told (told (WrongLine n)).values ≡ n
+unfolding told value_told
+wrong_value n = refl
 
 -- ---- a call
 
-pub hands-over : (r : Answer) {t : Told} {n v : ℕ} → told r ≡ t → n ≡ (told r).number → v ≡ value-told (told r).values → Handed-over t n v
-hands-over r e p q = record {
+pub hands_over : (r : Answer) {t : Told} {n v : ℕ} → told r ≡ t → n ≡ (told r).number → v ≡ value_told (told r).values → HandedOver t n v
+hands_over r e p q = record {
   is_number = p ∙ ap (λ (x : Told). x.number) e;
-  is-value = q ∙ ap (λ (x : Told). value-told x.values) e;
+  is_value = q ∙ ap (λ (x : Told). value_told x.values) e;
 }

@@ -2,8 +2,8 @@
 // to C, as its number and a value through a lent number. include/patterns.h declares them.
 ghost use Rattle.std.specs.Prelude.{◌≡◌};
 ghost use Rattle.shell.specs.Replies.{told};
-ghost use Rattle.calls.specs.Calls.{setup-call, run_call, listing-call};
-ghost use Rattle.exports.specs.Exported.{value-told, Handed-over};
+ghost use Rattle.calls.specs.Calls.{setup_call, run_call, listing_call};
+ghost use Rattle.exports.specs.Exported.{value_told, HandedOver};
 
 use library::{listing, run, setup};
 use printing::number;
@@ -29,7 +29,7 @@ fn number_of(r: Answer) -> u32
 
 // The value beside it: a text's length, or the wrong line's number.
 fn value_of(r: Answer) -> u64
-    ensures { result ≡ value-told (told r).values }
+    ensures { result ≡ value_told (told r).values }
 {
     match r {
         Answer::Done => NO_VALUE,
@@ -42,8 +42,8 @@ fn value_of(r: Answer) -> u64
 // Makes the store that a setup text says.
 #[unsafe(no_mangle)]
 pub extern "C" fn patterns_setup(store: &mut [u8], text: &[u8], value: &mut u64) -> u32
-    ensures handed_over { Handed-over (setup-call store.old text.now).tells result value.new }
-    ensures store_after { store.new ≡ (setup-call store.old text.now).store }
+    ensures handed_over { HandedOver (setup_call store.old text.now).tells result value.new }
+    ensures store_after { store.new ≡ (setup_call store.old text.now).store }
 {
     let r = setup(store, text);
     *value = value_of(r);
@@ -58,7 +58,7 @@ pub extern "C" fn patterns_run(
     answer: &mut [u8],
     value: &mut u64,
 ) -> u32
-    ensures handed_over { Handed-over (run_call store.old line.now answer.old).tells result value.new }
+    ensures handed_over { HandedOver (run_call store.old line.now answer.old).tells result value.new }
     ensures store_after { store.new ≡ (run_call store.old line.now answer.old).store }
     ensures answer_after { answer.new ≡ (run_call store.old line.now answer.old).answer }
 {
@@ -75,8 +75,8 @@ pub extern "C" fn patterns_listing(
     answer: &mut [u8],
     value: &mut u64,
 ) -> u32
-    ensures handed_over { Handed-over (listing-call store.now n answer.old).tells result value.new }
-    ensures answer_after { answer.new ≡ (listing-call store.now n answer.old).answer }
+    ensures handed_over { HandedOver (listing_call store.now n answer.old).tells result value.new }
+    ensures answer_after { answer.new ≡ (listing_call store.now n answer.old).answer }
 {
     let r = listing(store, n, answer);
     *value = value_of(r);

@@ -4,7 +4,7 @@ use Rattle.buffers.specs.Text.{Text}
 use Rattle.accounts.specs.declared.Account.{Account}
 use Rattle.accounts.specs.declared.Right.TheVariants.{W}
 use Rattle.syntax.specs.Path.{Name, Path, parent, last, depth}
-use Rattle.syntax.specs.Parts.{last-slash}
+use Rattle.syntax.specs.Parts.{last_slash}
 use Rattle.tree.specs.declared.Cause.TheVariants.{Access}
 use Rattle.tree.specs.Result.{Result, refused, done, ◌>>=◌, ◌>>◌, require}
 use Rattle.tree.specs.Forest.{Place, size}
@@ -32,9 +32,9 @@ abbrev pub gap_from : Place Node → Path → Result (Place Node) → Result Gap
 gap_from t p w = w >>= λ d. done (gap_of t p d)
 
 -- what the code's answer means
-unfoldable pub gap-told : Room → Result Gap
-gap-told (TheVariants.At row at depth) = done (gap row at depth)
-gap-told (TheVariants.Refused cause) = refused cause
+unfoldable pub gap_told : Room → Result Gap
+gap_told (TheVariants.At row at depth) = done (gap row at depth)
+gap_told (TheVariants.Refused cause) = refused cause
 
 -- the checks in the directory d at the path q: 6 if the name is used, w 5
 unfoldable pub gap_below : Account → Place Node → Path → Name → Place Node → Result Gap
@@ -44,5 +44,5 @@ gap_below a t q n d = do
   done (gap (index_of t q) (suc (index_of t q + size (lesser n d.below))) (suc (depth q)))
 
 -- what stands behind the last `/` of a text
-unfoldable pub behind-slash : Text → Text
-behind-slash t = drop (suc (last-slash t)) t
+unfoldable pub behind_slash : Text → Text
+behind_slash t = drop (suc (last_slash t)) t

@@ -1,9 +1,9 @@
 // The room for a new child: the walk to its directory, the search for its name there, and the test of w. Every node that is made
 // or put in, by a command or by root for the initial tree, gets its room from the one function `room_for`.
 ghost use Rattle.std.specs.Prelude.{◌≡◌, ◌<◌, length};
-ghost use Rattle.tree.specs.Walk.{by-modes, room};
-ghost use Rattle.tree.specs.TreeBytes.{Whole, Path-text, Whichever, Some-place, Whichever-place};
-ghost use Rattle.gaps.specs.Gaps.{behind-slash, gap_from, gap_below, gap-told};
+ghost use Rattle.tree.specs.Walk.{by_modes, room};
+ghost use Rattle.tree.specs.TreeBytes.{Whole, PathText, Whichever, SomePlace, WhicheverPlace};
+ghost use Rattle.gaps.specs.Gaps.{behind_slash, gap_from, gap_below, gap_told};
 
 use crate::Room;
 use accounts::{Account, Right};
@@ -13,7 +13,7 @@ use walks::{Walked, may_at, parent_walk};
 // The last name of a path: what stands behind the last `/` of its text.
 pub fn last_name(path: &[u8]) -> &[u8]
     requires { 0 < length path.now }
-    ensures { result.now ≡ behind-slash path.now }
+    ensures { result.now ≡ behind_slash path.now }
 {
     let slash = syntax::last_slash(path);
     &path[slash + 1..]
@@ -21,8 +21,8 @@ pub fn last_name(path: &[u8]) -> &[u8]
 
 // In the directory of a row: none where the name is used, and none without w.
 fn room_below(tree: &[u8], account: Account, row: usize, name: &[u8]) -> Room
-    requires { Some-place tree.now row }
-    ensures { Whichever-place tree.now row (λ t q d. gap-told result ≡ gap_below account t q name.now d) }
+    requires { SomePlace tree.now row }
+    ensures { WhicheverPlace tree.now row (λ t q d. gap_told result ≡ gap_below account t q name.now d) }
 {
     match find_child(tree, row, name) {
         Child::Found(_) => Room::Refused(Cause::Exists),
@@ -39,8 +39,8 @@ fn room_below(tree: &[u8], account: Account, row: usize, name: &[u8]) -> Room
 // At a path: none for `/`, and where the walk to its directory is refused.
 pub fn room_for(tree: &[u8], account: Account, path: &[u8]) -> Room
     requires whole { Whole tree.now }
-    requires path_text { Path-text path.now }
-    ensures { Whichever tree.now path.now (λ t p. gap-told result ≡ gap_from t p (room (by-modes account) t p)) }
+    requires path_text { PathText path.now }
+    ensures { Whichever tree.now path.now (λ t p. gap_told result ≡ gap_from t p (room (by_modes account) t p)) }
 {
     if path.len() == 1 {
         return Room::Refused(Cause::Exists);

@@ -4,44 +4,44 @@ use Rattle.std.proofs.Common.{ap, ◌∙◌}
 use Rattle.std.proofs.Math.Option.{none, some}
 use Rattle.buffers.specs.Text.{Text}
 use Rattle.accounts.specs.declared.Uid.{Uid}
-use Rattle.accounts.specs.Dominance.{Bounded-role}
+use Rattle.accounts.specs.Dominance.{BoundedRole}
 use Rattle.setup.specs.Setup.{Setup}
 use Rattle.tree.specs.declared.Cause.TheVariants.{NoGrant}
 use Rattle.tree.specs.Result.{refused, done}
-use Rattle.tree.specs.ResultLaws.{refused-bind, done-bind, require-true, require-false, refused-then, done-then}
+use Rattle.tree.specs.ResultLaws.{refused_bind, done_bind, require_true, require_false, refused_then, done_then}
 use Rattle.shell.specs.declared.Answer.TheVariants.{Done, Refused}
-use Rattle.shell.specs.CommandBytesLaws.{refusal-follows, silence-follows}
-use Rattle.store.specs.State.{Registry, set-session}
-use Rattle.store.specs.StoreBytes.{header-bytes}
+use Rattle.shell.specs.CommandBytesLaws.{refusal_follows, silence_follows}
+use Rattle.store.specs.State.{Registry, set_session}
+use Rattle.store.specs.StoreBytes.{header_bytes}
 use Rattle.store.specs.Callers.{granted}
-use Rattle.store.specs.Logins.{logged-in, logged-out}
-use Rattle.header.specs.HeaderBytes.{silently, Header-follows}
+use Rattle.store.specs.Logins.{logged_in, logged_out}
+use Rattle.header.specs.HeaderBytes.{silently, HeaderFollows}
 
 -- ---- what the steps come to
 
-module _ (u : Setup) (z : Registry) (uid : Uid) (s : Bounded-role) (password : Text) where
-  no-grant-refused : granted u.grants uid s password ≡ false → logged-in u z uid s password ≡ refused NoGrant
-  unfolding logged-in
-  no-grant-refused g = rw (g, require-false NoGrant, refused-then NoGrant (done (set-session uid (some s) z)))
+module _ (u : Setup) (z : Registry) (uid : Uid) (s : BoundedRole) (password : Text) where
+  no_grant_refused : granted u.grants uid s password ≡ false → logged_in u z uid s password ≡ refused NoGrant
+  unfolding logged_in
+  no_grant_refused g = rw (g, require_false NoGrant, refused_then NoGrant (done (set_session uid (some s) z)))
 
-  grant-done : granted u.grants uid s password ≡ true → logged-in u z uid s password ≡ done (set-session uid (some s) z)
-  unfolding logged-in
-  grant-done g = rw (g, require-true NoGrant, done-then (done (set-session uid (some s) z)))
+  grant_done : granted u.grants uid s password ≡ true → logged_in u z uid s password ≡ done (set_session uid (some s) z)
+  unfolding logged_in
+  grant_done g = rw (g, require_true NoGrant, done_then (done (set_session uid (some s) z)))
 
 -- ---- what follows them
 
 module _ (u : Setup) (z : Registry) (b : List ℕ) (uid : Uid) where
   -- `login` without a grant
-  pub login-refused : (s : Bounded-role) (password : Text) → granted u.grants uid s password ≡ false
-      → Header-follows u (logged-in u z uid s password) b (Refused NoGrant) b
-  login-refused s password g = refusal-follows b (ap silently (no-grant-refused u z uid s password g) ∙ refused-bind NoGrant _)
+  pub login_refused : (s : BoundedRole) (password : Text) → granted u.grants uid s password ≡ false
+      → HeaderFollows u (logged_in u z uid s password) b (Refused NoGrant) b
+  login_refused s password g = refusal_follows b (ap silently (no_grant_refused u z uid s password g) ∙ refused_bind NoGrant _)
 
   -- `login` with one
-  pub login-done : (s : Bounded-role) (password : Text) (b' : List ℕ) → granted u.grants uid s password ≡ true
-      → b' ≡ header-bytes u (set-session uid (some s) z) → Header-follows u (logged-in u z uid s password) b Done b'
-  login-done s password b' g e = silence-follows b b' (ap silently (grant-done u z uid s password g) ∙ done-bind (set-session uid (some s) z) _) e
+  pub login_done : (s : BoundedRole) (password : Text) (b' : List ℕ) → granted u.grants uid s password ≡ true
+      → b' ≡ header_bytes u (set_session uid (some s) z) → HeaderFollows u (logged_in u z uid s password) b Done b'
+  login_done s password b' g e = silence_follows b b' (ap silently (grant_done u z uid s password g) ∙ done_bind (set_session uid (some s) z) _) e
 
   -- `logout`
-  pub logout-done : (b' : List ℕ) → b' ≡ header-bytes u (set-session uid none z) → Header-follows u (logged-out z uid) b Done b'
-  unfolding logged-out
-  logout-done b' e = silence-follows b b' (done-bind (set-session uid none z) _) e
+  pub logout_done : (b' : List ℕ) → b' ≡ header_bytes u (set_session uid none z) → HeaderFollows u (logged_out z uid) b Done b'
+  unfolding logged_out
+  logout_done b' e = silence_follows b b' (done_bind (set_session uid none z) _) e

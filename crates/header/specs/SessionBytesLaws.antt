@@ -5,52 +5,52 @@ use Rattle.std.proofs.Common.{arith, add-one, ltb-true, lt-ltb}
 use Rattle.buffers.specs.Cases.{contra}
 use Rattle.accounts.specs.declared.Role.{Role}
 use Rattle.accounts.specs.declared.Session.TheVariants.{Nobody, As}
-use Rattle.accounts.specs.Dominance.{Bounded-role}
-use Rattle.store.specs.StoreBytes.{session-byte}
-use Rattle.header.specs.HeaderBytes.{session-held, Bounded-session}
+use Rattle.accounts.specs.Dominance.{BoundedRole}
+use Rattle.store.specs.StoreBytes.{session_byte}
+use Rattle.header.specs.HeaderBytes.{session_held, BoundedSession}
 
 -- ---- from the byte
 
 -- 0 is no session's
-pub zero-holds : (n : ℕ) (o : Option Bounded-role) → n ≡ session-byte o → n ≡ 0 → Nobody ≡ session-held o
-unfolding session-byte session-held
-zero-holds n none e q = refl
-zero-holds n (some z) e q = let x : ⊥ = omega arith in absurd x
+pub zero_holds : (n : ℕ) (o : Option BoundedRole) → n ≡ session_byte o → n ≡ 0 → Nobody ≡ session_held o
+unfolding session_byte session_held
+zero_holds n none e q = refl
+zero_holds n (some z) e q = let x : ⊥ = omega arith in absurd x
 
 -- any other is one more than the role
-pub role_holds : (n : ℕ) (o : Option Bounded-role) → n ≡ session-byte o → (n ≡ 0 → ⊥) → As (record { 0 = n - 1 }) ≡ session-held o
-unfolding session-byte session-held
+pub role_holds : (n : ℕ) (o : Option BoundedRole) → n ≡ session_byte o → (n ≡ 0 → ⊥) → As (record { 0 = n - 1 }) ≡ session_held o
+unfolding session_byte session_held
 role_holds n none e q = absurd (q e)
 role_holds n (some z) e q = let r : n - 1 ≡ z.role.0 = omega arith in λ i. As (record { 0 = r i })
 
 -- ---- from the session
 
-pub nobody-byte : (o : Option Bounded-role) → Nobody ≡ session-held o → 0 ≡ session-byte o
-unfolding session-byte session-held
-nobody-byte none e = refl
-nobody-byte (some z) e = contra refl (cc)
+pub nobody_byte : (o : Option BoundedRole) → Nobody ≡ session_held o → 0 ≡ session_byte o
+unfolding session_byte session_held
+nobody_byte none e = refl
+nobody_byte (some z) e = contra refl (cc)
 
-pub role-byte : (r : Role) (o : Option Bounded-role) → As r ≡ session-held o → r.0 + 1 ≡ session-byte o
-unfolding session-byte session-held
-role-byte r none e = contra refl (cc)
-role-byte r (some z) e = let q : r ≡ z.role = cc in rw (q, add-one)
+pub role_byte : (r : Role) (o : Option BoundedRole) → As r ≡ session_held o → r.0 + 1 ≡ session_byte o
+unfolding session_byte session_held
+role_byte r none e = contra refl (cc)
+role_byte r (some z) e = let q : r ≡ z.role = cc in rw (q, add-one)
 
 -- a session's role is one of 0 to 7
-pub role-bounded : (r : Role) → Bounded-session (As r) → r.0 < 8
-role-bounded r (none, e) = contra refl (unfold session-held in cc)
-role-bounded r (some z, e) = let q : r ≡ z.role = unfold session-held in cc in rw q (ltb-true z.role.0 8 z.bound)
+pub role_bounded : (r : Role) → BoundedSession (As r) → r.0 < 8
+role_bounded r (none, e) = contra refl (unfold session_held in cc)
+role_bounded r (some z, e) = let q : r ≡ z.role = unfold session_held in cc in rw q (ltb-true z.role.0 8 z.bound)
 
 -- ---- the sessions of the commands
 
 -- none, and a role of 0 to 7
-pub nobody-is : Nobody ≡ session-held none
-unfolding session-held
-nobody-is = refl
+pub nobody_is : Nobody ≡ session_held none
+unfolding session_held
+nobody_is = refl
 
-pub role-is : (r : Role) (z : Bounded-role) → z.role ≡ r → As r ≡ session-held (some z)
-unfolding session-held
-role-is r z e = rw e
+pub role_is : (r : Role) (z : BoundedRole) → z.role ≡ r → As r ≡ session_held (some z)
+unfolding session_held
+role_is r z e = rw e
 
 -- and so every role of 0 to 7 is one's
-pub role-session : (r : Role) → r.0 < 8 → Bounded-session (As r)
-role-session r h = let z : Bounded-role = record { role = r; bound = lt-ltb r.0 8 h } in (some z, role-is r z refl)
+pub role_session : (r : Role) → r.0 < 8 → BoundedSession (As r)
+role_session r h = let z : BoundedRole = record { role = r; bound = lt-ltb r.0 8 h } in (some z, role_is r z refl)

@@ -1,9 +1,9 @@
 // The accounts' sessions, and the two commands that change them.
 ghost use Rattle.std.specs.Prelude.{◌≡◌, ◌<◌, get_or};
 ghost use Rattle.std.proofs.Math.Option.{Option, none};
-ghost use Rattle.accounts.specs.Dominance.{Bounded-role};
-ghost use Rattle.store.specs.StoreBytes.{session-byte};
-ghost use Rattle.header.specs.HeaderBytes.{Headed, Whose, session-held, Bounded-session, Session-put, Logs-in, Logs-out};
+ghost use Rattle.accounts.specs.Dominance.{BoundedRole};
+ghost use Rattle.store.specs.StoreBytes.{session_byte};
+ghost use Rattle.header.specs.HeaderBytes.{Headed, Whose, session_held, BoundedSession, SessionPut, LogsIn, LogsOut};
 
 use crate::grants::is_granted;
 use accounts::{Role, Session, Uid};
@@ -15,7 +15,7 @@ use tree::Cause;
 pub fn session_of(header: &[u8], uid: Uid) -> Session
     requires headed { Headed header.now }
     requires uid_bound { uid.0 < 16 }
-    ensures { Whose header.now (λ u z. result ≡ session-held (get_or z.sessions uid.0 none)) }
+    ensures { Whose header.now (λ u z. result ≡ session_held (get_or z.sessions uid.0 none)) }
 {
     let b = header[SESSIONS + uid.0 as usize];
     if b == 0 {
@@ -26,8 +26,8 @@ pub fn session_of(header: &[u8], uid: Uid) -> Session
 
 // The byte of a session: role + 1, or 0 for none.
 fn byte_of(session: Session) -> u8
-    requires { Bounded-session session }
-    ensures { (o : Option Bounded-role) → session ≡ session-held o → result ≡ session-byte o }
+    requires { BoundedSession session }
+    ensures { (o : Option BoundedRole) → session ≡ session_held o → result ≡ session_byte o }
 {
     match session {
         Session::Nobody => 0,
@@ -39,8 +39,8 @@ fn byte_of(session: Session) -> u8
 pub fn set_session(header: &mut [u8], uid: Uid, session: Session)
     requires headed { Headed header.old }
     requires uid_bound { uid.0 < 16 }
-    requires bounded_session { Bounded-session session }
-    ensures { Session-put header.old uid session header.new }
+    requires bounded_session { BoundedSession session }
+    ensures { SessionPut header.old uid session header.new }
 {
     let b = byte_of(session);
     header[SESSIONS + uid.0 as usize] = b;
@@ -51,7 +51,7 @@ pub fn login(header: &mut [u8], uid: Uid, role: Role, password: &[u8]) -> Answer
     requires headed { Headed header.old }
     requires uid_bound { uid.0 < 16 }
     requires role_bound { role.0 < 8 }
-    ensures { Logs-in header.old uid role password.now result header.new }
+    ensures { LogsIn header.old uid role password.now result header.new }
 {
     if !is_granted(header, uid, role, password) {
         return Answer::Refused(Cause::NoGrant);
@@ -65,7 +65,7 @@ pub fn login(header: &mut [u8], uid: Uid, role: Role, password: &[u8]) -> Answer
 pub fn logout(header: &mut [u8], uid: Uid) -> Answer
     requires headed { Headed header.old }
     requires uid_bound { uid.0 < 16 }
-    ensures { Logs-out header.old uid result header.new }
+    ensures { LogsOut header.old uid result header.new }
 {
     let session = session_of(header, uid).log_out();
     set_session(header, uid, session);

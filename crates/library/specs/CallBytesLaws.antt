@@ -10,125 +10,125 @@ use borrow.Author.Tests.{le-leb, lt-leb, eq-eqb, ne_eqb}
 use Rattle.std.proofs.Math.ListN.{get_elem?}
 use Rattle.buffers.specs.Text.{Text}
 use Rattle.syntax.specs.Form.{is_some}
-use Rattle.syntax.specs.FormLaws.{is_none, the-some}
-use Rattle.setup.specs.Setup.{Setup, Setup-answer, accepted, wrong-line, setup}
+use Rattle.syntax.specs.FormLaws.{is_none, the_some}
+use Rattle.setup.specs.Setup.{Setup, SetupAnswer, accepted, wrong_line, setup}
 use Rattle.tree.specs.declared.Cause.{Cause}
 use Rattle.tree.specs.declared.Cause.TheVariants.{Missing, Unsound, ShortAnswer}
 use Rattle.tree.specs.Result.{Result, refused, done, ◌>>=◌, Outcome}
-use Rattle.tree.specs.ResultLaws.{present-of, present-none, done-bind, refused-bind, done-then, refused-then, require-true, require-false}
+use Rattle.tree.specs.ResultLaws.{present_of, present_none, done_bind, refused_bind, done_then, refused_then, require_true, require_false}
 use Rattle.tree.specs.TreeBytes.{Encodes}
 use Rattle.shell.specs.declared.Answer.{Answer}
 use Rattle.shell.specs.declared.Answer.TheVariants.{Done, Refused, WrongLine}
 use Rattle.shell.specs.declared.Answer.TheVariants
-use Rattle.shell.specs.Replies.{reply, after, answer-of, written}
+use Rattle.shell.specs.Replies.{reply, after, answer_of, written}
 use Rattle.shell.specs.CommandBytes.{bytes_after, Carries}
-use Rattle.store.specs.HeaderLayout.{header-width}
+use Rattle.store.specs.HeaderLayout.{header_width}
 use Rattle.store.specs.State.{Store, State}
-use Rattle.store.specs.StoreBytes.{store-width, decode}
-use Rattle.store.specs.StoreBytesLaws.{decode-length}
-use Rattle.store.specs.DecodeLaws.{tree-read}
-use Rattle.machine.specs.RunsLaws.{least-room-is}
+use Rattle.store.specs.StoreBytes.{store_width, decode}
+use Rattle.store.specs.StoreBytesLaws.{decode_length}
+use Rattle.store.specs.DecodeLaws.{tree_read}
+use Rattle.machine.specs.RunsLaws.{least_room_is}
 use Rattle.listing.specs.Listing.{listing}
-use Rattle.calls.specs.Calls.{set-up, setup-call, Called, called, encoded, on-state, listing-on, listing-result, listing-call}
-use Rattle.stored_header.specs.Stored.{bytes-with}
+use Rattle.calls.specs.Calls.{set_up, setup_call, Called, called, encoded, on_state, listing_on, listing_result, listing_call}
+use Rattle.stored_header.specs.Stored.{bytes_with}
 use Rattle.setups.specs.declared.TextRead.{TextRead}
 use Rattle.setups.specs.declared.TextRead.TheVariants.{Accepted, Wrong}
-use Rattle.setups.specs.Making.{Text-done, text-as, store-made}
-use Rattle.library.specs.CallBytes.{set-up-as, called-as}
+use Rattle.setups.specs.Making.{TextDone, text_as, store_made}
+use Rattle.library.specs.CallBytes.{set_up_as, called_as}
 
 -- ---- setup
 
 -- the answer to a setup text that was read
-unfoldable pub setup-told : TextRead → Answer
-setup-told Accepted = Done
-setup-told (Wrong n) = WrongLine n
+unfoldable pub setup_told : TextRead → Answer
+setup_told Accepted = Done
+setup_told (Wrong n) = WrongLine n
 
 module _ (b : List ℕ) (text : Text) where
   -- what is made of a text is what the call says of its answer
-  set-up-made : (a : Setup-answer) → set-up-as (setup-told (store-made b a).answer) (store-made b a).bytes ≡ set-up b a
-  unfolding store-made set-up setup-told
-  set-up-made (accepted u) = refl
-  set-up-made (wrong-line n) = refl
+  set_up_made : (a : SetupAnswer) → set_up_as (setup_told (store_made b a).answer) (store_made b a).bytes ≡ set_up b a
+  unfolding store_made set_up setup_told
+  set_up_made (accepted u) = refl
+  set_up_made (wrong_line n) = refl
 
   -- a buffer of another length is refused by 18
-  pub unset-elsewhere : (length b ≡ 65536 → ⊥) → set-up-as (Refused Unsound) b ≡ setup-call b text
-  unfolding setup-call store-width
-  unset-elsewhere h = rw (ne_eqb (length b) 65536 h)
+  pub unset_elsewhere : (length b ≡ 65536 → ⊥) → set_up_as (Refused Unsound) b ≡ setup_call b text
+  unfolding setup_call store_width
+  unset_elsewhere h = rw (ne_eqb (length b) 65536 h)
 
   -- the code's answer to a text of the right length, whatever it is
-  pub made-called : (r : TextRead) (b' : List ℕ) → length b ≡ 65536 → text-as r b' ≡ store-made b (setup text) → set-up-as (setup-told r) b' ≡ setup-call b text
-  unfolding setup-call store-width
-  made-called r b' h e = ap (λ (x : Text-done). set-up-as (setup-told x.answer) x.bytes) e ∙ set-up-made (setup text) ∙ rw (eq-eqb (length b) 65536 h)
+  pub made_called : (r : TextRead) (b' : List ℕ) → length b ≡ 65536 → text_as r b' ≡ store_made b (setup text) → set_up_as (setup_told r) b' ≡ setup_call b text
+  unfolding setup_call store_width
+  made_called r b' h e = ap (λ (x : TextDone). set_up_as (setup_told x.answer) x.bytes) e ∙ set_up_made (setup text) ∙ rw (eq-eqb (length b) 65536 h)
 
 -- ---- before a command or a listing
 
 module _ (b a : List ℕ) where
   -- what is refused leaves both buffers
-  pub refused-call : {r : Result (Outcome (List ℕ))} {k : Cause} → r ≡ refused k → called-as (Refused k) b a ≡ called b a r
-  unfolding called answer-of written reply after
-  refused-call e = rw e
+  pub refused_call : {r : Result (Outcome (List ℕ))} {k : Cause} → r ≡ refused k → called_as (Refused k) b a ≡ called b a r
+  unfolding called answer_of written reply after
+  refused_call e = rw e
 
   module _ (act : State → Result (Outcome (List ℕ))) where
     -- an answer buffer that is too short
-    pub short-call : length a < 4096 → on-state b (length a) act ≡ refused ShortAnswer
-    unfolding on-state
-    short-call l = rw (least-room-is, lt-leb 4096 (length a) l, require-false, refused-then)
+    pub short_call : length a < 4096 → on_state b (length a) act ≡ refused ShortAnswer
+    unfolding on_state
+    short_call l = rw (least_room_is, lt-leb 4096 (length a) l, require_false, refused_then)
 
     -- bytes that are no state's
-    pub unsound-call : 4096 ≤ length a → decode b ≡ none → on-state b (length a) act ≡ refused Unsound
-    unfolding on-state
-    unsound-call l e = rw (least-room-is, le-leb 4096 (length a) l, require-true, done-then, e, present-none, refused-bind)
+    pub unsound_call : 4096 ≤ length a → decode b ≡ none → on_state b (length a) act ≡ refused Unsound
+    unfolding on_state
+    unsound_call l e = rw (least_room_is, le-leb 4096 (length a) l, require_true, done_then, e, present_none, refused_bind)
 
     -- those of a state
-    pub sound-call : (s : State) → 4096 ≤ length a → decode b ≡ some s → on-state b (length a) act ≡ act s
-    unfolding on-state
-    sound-call s l e = rw (least-room-is, le-leb 4096 (length a) l, require-true, done-then, e, present-of, done-bind)
+    pub sound_call : (s : State) → 4096 ≤ length a → decode b ≡ some s → on_state b (length a) act ≡ act s
+    unfolding on_state
+    sound_call s l e = rw (least_room_is, le-leb 4096 (length a) l, require_true, done_then, e, present_of, done_bind)
 
 -- ---- carried out
 
 -- a command that was carried out on the store
-pub carried-call : (u : Setup) (b a : List ℕ) (steps : Result (Outcome Store)) {r : Answer} {b' a' : List ℕ} → Carries (bytes-with u) steps b a r b' a'
-    → called-as r b' a' ≡ called b a (steps >>= λ o. done (encoded u o))
-unfolding called reply after answer-of written bytes_after encoded
-carried-call u b a (refused k) f = rw refused-bind (λ i. called-as (f.tells i) (f.bytes i) (f.text i))
-carried-call u b a (done o) f = rw done-bind (λ i. called-as (f.tells i) (f.bytes i) (f.text i))
+pub carried_call : (u : Setup) (b a : List ℕ) (steps : Result (Outcome Store)) {r : Answer} {b' a' : List ℕ} → Carries (bytes_with u) steps b a r b' a'
+    → called_as r b' a' ≡ called b a (steps >>= λ o. done (encoded u o))
+unfolding called reply after answer_of written bytes_after encoded
+carried_call u b a (refused k) f = rw refused_bind (λ i. called_as (f.tells i) (f.bytes i) (f.text i))
+carried_call u b a (done o) f = rw done_bind (λ i. called_as (f.tells i) (f.bytes i) (f.text i))
 
 module _ (b a : List ℕ) (n : ℕ) (s : State) where
   -- a line of the listing in front of the answer buffer
-  pub line-called : (x : Text) (m : ℕ) (a' : List ℕ) → get_elem? (listing s.store.tree) n ≡ some x → m ≡ length x → a' ≡ x ++ drop (length x) a
-      → called-as (TheVariants.Text m) b a' ≡ called b a (listing-on b n s)
-  unfolding called reply after answer-of written listing-on
-  line-called x m a' e l q = rw (e, present-of, done-bind) (λ i. called-as (TheVariants.Text (l i)) b (q i))
+  pub line_called : (x : Text) (m : ℕ) (a' : List ℕ) → get_elem? (listing s.store.tree) n ≡ some x → m ≡ length x → a' ≡ x ++ drop (length x) a
+      → called_as (TheVariants.Text m) b a' ≡ called b a (listing_on b n s)
+  unfolding called reply after answer_of written listing_on
+  line_called x m a' e l q = rw (e, present_of, done_bind) (λ i. called_as (TheVariants.Text (l i)) b (q i))
 
   -- past the last there is none
-  pub no-listed-line : get_elem? (listing s.store.tree) n ≡ none → listing-on b n s ≡ refused Missing
-  unfolding listing-on
-  no-listed-line e = rw (e, present-none, refused-bind)
+  pub no_listed_line : get_elem? (listing s.store.tree) n ≡ none → listing_on b n s ≡ refused Missing
+  unfolding listing_on
+  no_listed_line e = rw (e, present_none, refused_bind)
 
 -- ---- a listing
 
 module _ (b a : List ℕ) (n : ℕ) where
-  pub listing-short : length a < 4096 → called-as (Refused ShortAnswer) b a ≡ listing-call b n a
-  unfolding listing-call listing-result
-  listing-short l = refused-call b a (short-call b a (listing-on b n) l)
+  pub listing_short : length a < 4096 → called_as (Refused ShortAnswer) b a ≡ listing_call b n a
+  unfolding listing_call listing_result
+  listing_short l = refused_call b a (short_call b a (listing_on b n) l)
 
-  pub listing-unsound : 4096 ≤ length a → is_some (decode b) ≡ false → called-as (Refused Unsound) b a ≡ listing-call b n a
-  unfolding listing-call listing-result
-  listing-unsound l e = refused-call b a (unsound-call b a (listing-on b n) l (is_none (decode b) e))
+  pub listing_unsound : 4096 ≤ length a → is_some (decode b) ≡ false → called_as (Refused Unsound) b a ≡ listing_call b n a
+  unfolding listing_call listing_result
+  listing_unsound l e = refused_call b a (unsound_call b a (listing_on b n) l (is_none (decode b) e))
 
   -- of the state that the bytes are read as
-  pub listing-sound : {x : Called} → 4096 ≤ length a → is_some (decode b) ≡ true
-      → ((s : State) → decode b ≡ some s → x ≡ called b a (listing-on b n s)) → x ≡ listing-call b n a
-  unfolding listing-call listing-result
-  listing-sound l e k =
-      let s = the-some (decode b) e in
-      k s.0 s.1 ∙ ap (called b a) (sym (sound-call b a (listing-on b n) s.0 l s.1))
+  pub listing_sound : {x : Called} → 4096 ≤ length a → is_some (decode b) ≡ true
+      → ((s : State) → decode b ≡ some s → x ≡ called b a (listing_on b n s)) → x ≡ listing_call b n a
+  unfolding listing_call listing_result
+  listing_sound l e k =
+      let s = the_some (decode b) e in
+      k s.0 s.1 ∙ ap (called b a) (sym (sound_call b a (listing_on b n) s.0 l s.1))
 
 -- the tree of a sound store, as a part that ends with the store
-pub tree-part : (b : List ℕ) (s : State) → decode b ≡ some s → Encodes (take (length b - header-width) (drop header-width b)) s.store.tree
-tree-part b s e = rw (take_all (length b - header-width) (drop header-width b) (omega (arith, length-drop header-width b))) (tree-read b s e)
+pub tree_part : (b : List ℕ) (s : State) → decode b ≡ some s → Encodes (take (length b - header_width) (drop header_width b)) s.store.tree
+tree_part b s e = rw (take_all (length b - header_width) (drop header_width b) (omega (arith, length-drop header_width b))) (tree_read b s e)
 
 -- a sound store has room for its header
-pub store-reaches : (b : List ℕ) → is_some (decode b) ≡ true → header-width ≤ length b
-unfolding store-width
-store-reaches b e = let s = the-some (decode b) e in omega (arith, decode-length b s.0 s.1)
+pub store_reaches : (b : List ℕ) → is_some (decode b) ≡ true → header_width ≤ length b
+unfolding store_width
+store_reaches b e = let s = the_some (decode b) e in omega (arith, decode_length b s.0 s.1)

@@ -2,8 +2,8 @@
 ghost use Rattle.std.specs.Prelude.{◌≡◌, List, ℕ, ◌≤◌, length};
 ghost use Rattle.tree.specs.TreeBytes.{Encodes, Whole};
 ghost use Rattle.store.specs.State.{State};
-ghost use Rattle.calls.specs.Calls.{called, listing-on, listing-call};
-ghost use Rattle.library.specs.CallBytes.{called-as};
+ghost use Rattle.calls.specs.Calls.{called, listing_on, listing_call};
+ghost use Rattle.library.specs.CallBytes.{called_as};
 
 use crate::LEAST_ROOM;
 use listing::write_line;
@@ -17,7 +17,7 @@ fn line_of(tree: &[u8], n: usize, answer: &mut [u8]) -> Answer
     requires whole { Whole tree.now }
     requires in_bounds { 4096 ≤ length answer.old }
     ensures { (s : State) (b : List ℕ) → Encodes tree.now s.store.tree
-        → called-as result b answer.new ≡ called b answer.old (listing-on b n s) }
+        → called_as result b answer.new ≡ called b answer.old (listing_on b n s) }
 {
     if count(tree) <= n {
         return Answer::Refused(Cause::Missing);
@@ -27,7 +27,7 @@ fn line_of(tree: &[u8], n: usize, answer: &mut [u8]) -> Answer
 
 // Line n of the listing, from 0, in front of the answer. It changes no store.
 pub fn listing(store: &[u8], n: usize, answer: &mut [u8]) -> Answer
-    ensures { called-as result store.now answer.new ≡ listing-call store.now n answer.old }
+    ensures { called_as result store.now answer.new ≡ listing_call store.now n answer.old }
 {
     if answer.len() < LEAST_ROOM {
         return Answer::Refused(Cause::ShortAnswer);

@@ -1,10 +1,10 @@
 // `run`: a command line on a store.
 ghost use Rattle.std.specs.Prelude.{◌≡◌, ◌≤◌, length};
 ghost use Rattle.calls.specs.Calls.{run_call};
-ghost use Rattle.stored_header.specs.Stored.{Some-store};
-ghost use Rattle.line_runner.specs.LineDone.{Some-typed};
-ghost use Rattle.library.specs.CallBytes.{called-as};
-ghost use Rattle.library.specs.CallerBytes.{Called-by};
+ghost use Rattle.stored_header.specs.Stored.{SomeStore};
+ghost use Rattle.line_runner.specs.LineDone.{SomeTyped};
+ghost use Rattle.library.specs.CallBytes.{called_as};
+ghost use Rattle.library.specs.CallerBytes.{CalledBy};
 
 use crate::LEAST_ROOM;
 use accounts::Uid;
@@ -18,10 +18,10 @@ use tree::Cause;
 
 // A command by whom the setup knows under an account number.
 fn by_caller(store: &mut [u8], uid: Uid, line: &[u8], typed: Typed, answer: &mut [u8]) -> Answer
-    requires some_store { Some-store store.old }
-    requires some_typed { Some-typed line.now typed }
+    requires some_store { SomeStore store.old }
+    requires some_typed { SomeTyped line.now typed }
     requires in_bounds { 4096 ≤ length answer.old }
-    ensures { Called-by uid line.now typed store.old answer.old result store.new answer.new }
+    ensures { CalledBy uid line.now typed store.old answer.old result store.new answer.new }
 {
     match caller_in(store, uid) {
         Known::Nobody => Answer::Refused(Cause::UnknownCaller),
@@ -31,7 +31,7 @@ fn by_caller(store: &mut [u8], uid: Uid, line: &[u8], typed: Typed, answer: &mut
 
 // Carries out a command line; a text that it gives stands in front of the answer.
 pub fn run(store: &mut [u8], line: &[u8], answer: &mut [u8]) -> Answer
-    ensures { called-as result store.new answer.new ≡ run_call store.old line.now answer.old }
+    ensures { called_as result store.new answer.new ≡ run_call store.old line.now answer.old }
 {
     if answer.len() < LEAST_ROOM {
         return Answer::Refused(Cause::ShortAnswer);

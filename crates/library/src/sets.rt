@@ -1,7 +1,7 @@
 // `setup`: a store made from a setup text.
 ghost use Rattle.std.specs.Prelude.{◌≡◌};
-ghost use Rattle.calls.specs.Calls.{setup-call};
-ghost use Rattle.library.specs.CallBytes.{set-up-as};
+ghost use Rattle.calls.specs.Calls.{setup_call};
+ghost use Rattle.library.specs.CallBytes.{set_up_as};
 
 use setups::{TextRead, make_store};
 use shell::Answer;
@@ -10,7 +10,7 @@ use tree::Cause;
 
 // Makes the store that a setup text says, whatever stood there; a wrong text leaves the buffer.
 pub fn setup(store: &mut [u8], text: &[u8]) -> Answer
-    ensures { set-up-as result store.new ≡ setup-call store.old text.now }
+    ensures { set_up_as result store.new ≡ setup_call store.old text.now }
 {
     if store.len() != STORE {
         return Answer::Refused(Cause::Unsound);

@@ -1,6 +1,6 @@
 // What the reader does with plain values: the next place, and the fields put together.
 ghost use Rattle.std.specs.Prelude.{◌≡◌};
-ghost use Rattle.line_fields.specs.FieldsRead.{place_after, behind-word, fields-of};
+ghost use Rattle.line_fields.specs.FieldsRead.{place_after, behind_word, fields_of};
 
 use crate::Fields;
 use syntax::Field;
@@ -17,7 +17,7 @@ pub fn place_after(line: &[u8], f: Field) -> usize
 
 // How many fields come behind the first of four, or 4 where the fourth is not the last.
 fn behind_word(word: Field, first: Field, second: Field, third: Field) -> usize
-    ensures { result ≡ behind-word word first second third }
+    ensures { result ≡ behind_word word first second third }
 {
     if word.last {
         return 0;
@@ -36,7 +36,7 @@ fn behind_word(word: Field, first: Field, second: Field, third: Field) -> usize
 
 // The four fields of a line that were read one after another.
 pub fn fields_of(word: Field, first: Field, second: Field, third: Field) -> Fields
-    ensures { result ≡ fields-of word first second third }
+    ensures { result ≡ fields_of word first second third }
 {
     let count = behind_word(word, first, second, third);
     Fields {

@@ -6,83 +6,83 @@ use Rattle.std.proofs.Math.Option.{some}
 use Rattle.buffers.specs.Text.{Text}
 use Rattle.accounts.specs.declared.Caller.{Caller}
 use Rattle.accounts.specs.declared.Uid.{Uid}
-use Rattle.syntax.specs.Path.{Path, is-path, path, path-text}
-use Rattle.syntax.specs.PathLaws.{path-of-text}
+use Rattle.syntax.specs.Path.{Path, is_path, path, path_text}
+use Rattle.syntax.specs.PathLaws.{path_of_text}
 use Rattle.commands.specs.declared.Typed.{Typed}
-use Rattle.commands.specs.Command.{Command, Typed-command}
-use Rattle.commands.specs.Parsed.{whole-meaning, Typed-read}
-use Rattle.commands.specs.Meaning.{Typed-meant}
+use Rattle.commands.specs.Command.{Command, TypedCommand}
+use Rattle.commands.specs.Parsed.{whole_meaning, TypedRead}
+use Rattle.commands.specs.Meaning.{TypedMeant}
 use Rattle.tree.specs.declared.Cause.TheVariants.{TooDeep}
 use Rattle.tree.specs.Result.{refused, done}
-use Rattle.tree.specs.ResultLaws.{done-bind, refused-bind}
+use Rattle.tree.specs.ResultLaws.{done_bind, refused_bind}
 use Rattle.shell.specs.declared.Answer.{Answer}
 use Rattle.shell.specs.declared.Answer.TheVariants.{Refused}
 use Rattle.shell.specs.CommandBytes.{Carries}
-use Rattle.shell.specs.CommandBytesLaws.{refusal-follows}
-use Rattle.shell.specs.WholePaths.{whole-command}
+use Rattle.shell.specs.CommandBytesLaws.{refusal_follows}
+use Rattle.shell.specs.WholePaths.{whole_command}
 use Rattle.shell.specs.WholePathsLaws.{whole_in_range}
-use Rattle.store.specs.State.{working-directory, State}
-use Rattle.store.specs.RegistryLaws.{working-directory-is-path}
+use Rattle.store.specs.State.{working_directory, State}
+use Rattle.store.specs.RegistryLaws.{working_directory_is_path}
 use Rattle.machine.specs.Machine.{run}
 use Rattle.machine.specs.StoreMachine.{store}
-use Rattle.stored_header.specs.Stored.{Stored, bytes-with}
+use Rattle.stored_header.specs.Stored.{Stored, bytes_with}
 use Rattle.whole_paths.specs.declared.Whole.{Whole}
 use Rattle.whole_paths.specs.declared.Whole.TheVariants as w
-use Rattle.whole_paths.specs.WholeText.{text-width, any-short, whole-text, whole-or-deep}
-use Rattle.whole_paths.specs.WholeTextLaws.{unshort-done, deep-told, whole-told}
-use Rattle.line_runner.specs.LineDone.{Whole-meant, joins-and-runs}
+use Rattle.whole_paths.specs.WholeText.{text_width, any_short, whole_text, whole_or_deep}
+use Rattle.whole_paths.specs.WholeTextLaws.{unshort_done, deep_told, whole_told}
+use Rattle.line_runner.specs.LineDone.{WholeMeant, joins_and_runs}
 
 -- ---- the directory
 
 module _ {b : List ℕ} {s : State} (h : Stored b s) (uid : Uid) where
-  kept-is-path : is-path (working-directory uid s.store.registry) ≡ true
-  kept-is-path = working-directory-is-path s.store.registry uid h.header.registered
+  kept_is_path : is_path (working_directory uid s.store.registry) ≡ true
+  kept_is_path = working_directory_is_path s.store.registry uid h.header.registered
 
   -- its text reads as it
-  pub directory-reads : (d : Text) → d ≡ path-text (working-directory uid s.store.registry) → path d ≡ some (working-directory uid s.store.registry)
-  directory-reads d e = ap path e ∙ path-of-text (working-directory uid s.store.registry) kept-is-path
+  pub directory_reads : (d : Text) → d ≡ path_text (working_directory uid s.store.registry) → path d ≡ some (working_directory uid s.store.registry)
+  directory_reads d e = ap path e ∙ path_of_text (working_directory uid s.store.registry) kept_is_path
 
 -- ---- the whole command
 
 -- a whole command that is made in a text, of a command that was typed in a directory
-pub record Made-whole (q : Path) (k : Typed-command) (t : Text) (c : Typed) : Type 0 where
+pub record MadeWhole (q : Path) (k : TypedCommand) (t : Text) (c : Typed) : Type 0 where
   pub command : Command
-  pub is_whole : whole-command q k ≡ done command
-  pub meant : Whole-meant t c command
+  pub is_whole : whole_command q k ≡ done command
+  pub meant : WholeMeant t c command
 
-module _ {b : List ℕ} {s : State} (h : Stored b s) (uid : Uid) {t : Text} {c : Typed} {k : Typed-command} (m : Typed-meant t c k) (i : Typed-read t c) where
+module _ {b : List ℕ} {s : State} (h : Stored b s) (uid : Uid) {t : Text} {c : Typed} {k : TypedCommand} (m : TypedMeant t c k) (i : TypedRead t c) where
   abbrev directory : Path
-  directory = working-directory uid s.store.registry
+  directory = working_directory uid s.store.registry
 
-  made_of : {x : Text} {d : Typed} → (l : Command) × (whole-command directory k ≡ done l) × (whole-meaning x d ≡ some l) → Made-whole directory k x d
+  made_of : {x : Text} {d : Typed} → (l : Command) × (whole_command directory k ≡ done l) × (whole_meaning x d ≡ some l) → MadeWhole directory k x d
   made_of j = record {
     command = j.0;
     is_whole = j.1;
-    meant = record { means = j.2; in-range = whole_in_range directory k j.1 (kept-is-path h uid) m.in-range };
+    meant = record { means = j.2; in_range = whole_in_range directory k j.1 (kept_is_path h uid) m.in_range };
   }
 
   -- without short paths it is made in the line
-  pub line_made : any-short t c ≡ false → Made-whole directory k t c
-  line_made e = made_of (unshort-done t c k e i m directory)
+  pub line_made : any_short t c ≡ false → MadeWhole directory k t c
+  line_made e = made_of (unshort_done t c k e i m directory)
 
   -- with them in the second text, or one is too deep
-  module _ (d : Text) (same : d ≡ path-text directory) (x : List ℕ) (wide : length x ≡ text-width) {r : Whole} (told : r ≡ whole-or-deep d t c x) where
-    pub text-made : (y : Text) → y ≡ whole-text d t c x → {moved : Typed} → r ≡ w.In moved → Made-whole directory k y moved
-    text-made y left e = rw left (made_of (whole-told d directory (directory-reads h uid d same) t c i k m x wide (sym e ∙ told)))
+  module _ (d : Text) (same : d ≡ path_text directory) (x : List ℕ) (wide : length x ≡ text_width) {r : Whole} (told : r ≡ whole_or_deep d t c x) where
+    pub text_made : (y : Text) → y ≡ whole_text d t c x → {moved : Typed} → r ≡ w.In moved → MadeWhole directory k y moved
+    text_made y left e = rw left (made_of (whole_told d directory (directory_reads h uid d same) t c i k m x wide (sym e ∙ told)))
 
-    pub text-too-deep : r ≡ w.TooDeep → whole-command directory k ≡ refused TooDeep
-    text-too-deep e = deep-told d directory (directory-reads h uid d same) t c i k m x wide (sym e ∙ told)
+    pub text_too_deep : r ≡ w.TooDeep → whole_command directory k ≡ refused TooDeep
+    text_too_deep e = deep_told d directory (directory_reads h uid d same) t c i k m x wide (sym e ∙ told)
 
 -- ---- what is carried out
 
-module _ (s : State) (c : Caller) (k : Typed-command) where
+module _ (s : State) (c : Caller) (k : TypedCommand) where
   -- the whole command carried out is the typed one
-  pub whole_carries : (l : Command) → whole-command (working-directory c.account.uid s.store.registry) k ≡ done l
-      → {b a : List ℕ} {r : Answer} {b' a' : List ℕ} → Carries (bytes-with s.setup) (run store s.setup s.store c l) b a r b' a'
-      → Carries (bytes-with s.setup) (joins-and-runs s c k) b a r b' a'
-  whole_carries l e f = rw (e, done-bind l (λ x. run store s.setup s.store c x)) f
+  pub whole_carries : (l : Command) → whole_command (working_directory c.account.uid s.store.registry) k ≡ done l
+      → {b a : List ℕ} {r : Answer} {b' a' : List ℕ} → Carries (bytes_with s.setup) (run store s.setup s.store c l) b a r b' a'
+      → Carries (bytes_with s.setup) (joins_and_runs s c k) b a r b' a'
+  whole_carries l e f = rw (e, done_bind l (λ x. run store s.setup s.store c x)) f
 
   -- a path that would be too deep is refused by 19
-  pub deep-carries : whole-command (working-directory c.account.uid s.store.registry) k ≡ refused TooDeep → (b a : List ℕ)
-      → Carries (bytes-with s.setup) (joins-and-runs s c k) b a (Refused TooDeep) b a
-  deep-carries e b a = refusal-follows b (rw e (refused-bind TooDeep (λ x. run store s.setup s.store c x))) a
+  pub deep_carries : whole_command (working_directory c.account.uid s.store.registry) k ≡ refused TooDeep → (b a : List ℕ)
+      → Carries (bytes_with s.setup) (joins_and_runs s c k) b a (Refused TooDeep) b a
+  deep_carries e b a = refusal_follows b (rw e (refused_bind TooDeep (λ x. run store s.setup s.store c x))) a

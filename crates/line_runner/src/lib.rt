@@ -1,8 +1,8 @@
 // A typed command of a known caller carried out on a store's bytes: without short paths from its line, and with them from a second
 // text, in which the working directory stands in front.
 ghost use Rattle.std.specs.Prelude.{◌≤◌, ◌<◌, length};
-ghost use Rattle.stored_header.specs.Stored.{Some-store};
-ghost use Rattle.line_runner.specs.LineDone.{Some-whole, Some-typed, Whole-done, Line-done};
+ghost use Rattle.stored_header.specs.Stored.{SomeStore};
+ghost use Rattle.line_runner.specs.LineDone.{SomeWhole, SomeTyped, WholeDone, LineDone};
 
 use accounts::Caller;
 use commands::{Typed, command_of};
@@ -20,11 +20,11 @@ fn run_whole(
     typed: Typed,
     answer: &mut [u8],
 ) -> Answer
-    requires some_store { Some-store store.old }
-    requires some_whole { Some-whole text.now typed }
+    requires some_store { SomeStore store.old }
+    requires some_whole { SomeWhole text.now typed }
     requires in_bounds { 4096 ≤ length answer.old }
     requires uid_bound { caller.account.uid.0 < 16 }
-    ensures { Whole-done caller text.now typed
+    ensures { WholeDone caller text.now typed
         store.old answer.old result store.new answer.new }
 {
     run_command(store, caller, text, command_of(typed), answer)
@@ -38,11 +38,11 @@ fn run_short(
     typed: Typed,
     answer: &mut [u8],
 ) -> Answer
-    requires some_store { Some-store store.old }
-    requires some_typed { Some-typed line.now typed }
+    requires some_store { SomeStore store.old }
+    requires some_typed { SomeTyped line.now typed }
     requires in_bounds { 4096 ≤ length answer.old }
     requires uid_bound { caller.account.uid.0 < 16 }
-    ensures { Line-done caller line.now typed
+    ensures { LineDone caller line.now typed
         store.old answer.old result store.new answer.new }
 {
     let mut text = [0u8; TEXT];
@@ -61,11 +61,11 @@ pub fn run_line(
     typed: Typed,
     answer: &mut [u8],
 ) -> Answer
-    requires some_store { Some-store store.old }
-    requires some_typed { Some-typed line.now typed }
+    requires some_store { SomeStore store.old }
+    requires some_typed { SomeTyped line.now typed }
     requires in_bounds { 4096 ≤ length answer.old }
     requires uid_bound { caller.account.uid.0 < 16 }
-    ensures { Line-done caller line.now typed
+    ensures { LineDone caller line.now typed
         store.old answer.old result store.new answer.new }
 {
     if any_short(line, typed) {

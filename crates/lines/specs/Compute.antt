@@ -1,6 +1,6 @@
 -- For computed examples only: whoever unfolds `compute` unfolds every definition of this crate that a run goes through.
-use Rattle.lines.specs.SetupLines.{longest-line, person-uid, person-or-root, person-gid, plain-role, setup-form, setup-forms, setup-line-of, setup-line}
+use Rattle.lines.specs.SetupLines.{longest_line, person_uid, person_or_root, person_gid, plain_role, setup_form, setup_forms, setup_line_of, setup_line}
 
 unfoldable pub compute : Unit {0}
-unfolding longest-line person-uid person-or-root person-gid plain-role setup-form setup-forms setup-line-of setup-line
+unfolding longest_line person_uid person_or_root person_gid plain_role setup_form setup_forms setup_line_of setup_line
 compute = tt

@@ -7,54 +7,54 @@ use Rattle.accounts.specs.declared.Gid.{Gid}
 use Rattle.accounts.specs.declared.Role.{Role}
 use Rattle.syntax.specs.Pieces.{bytes, comma, pieces}
 use Rattle.syntax.specs.Number.{between}
-use Rattle.syntax.specs.Form.{◌>>=◌, ◌>>◌, check, Form, two-of, three-of, by_form}
+use Rattle.syntax.specs.Form.{◌>>=◌, ◌>>◌, check, Form, two_of, three_of, by_form}
 use Rattle.syntax.specs.Field.{password}
 
-unfoldable pub longest-line : ℕ
-longest-line = 200
+unfoldable pub longest_line : ℕ
+longest_line = 200
 
 -- the lines before `end`, by their form
-pub data Setup-line : Type 0 where
-  p-line : Uid → Gid → Setup-line
-  g-line : Uid → Gid → Setup-line
-  r-line : Role → Role → Setup-line
-  l-line : Uid → Role → Text → Setup-line
+pub data LineOfSetup : Type 0 where
+  p_line : Uid → Gid → LineOfSetup
+  g_line : Uid → Gid → LineOfSetup
+  r_line : Role → Role → LineOfSetup
+  l_line : Uid → Role → Text → LineOfSetup
 
-unfoldable pub person-uid : Text → Option Uid
-person-uid t = do
+unfoldable pub person_uid : Text → Option Uid
+person_uid t = do
   n ← between 1 15 t
   some (record { 0 = n })
 
-unfoldable pub person-or-root : Text → Option Uid
-person-or-root t = do
+unfoldable pub person_or_root : Text → Option Uid
+person_or_root t = do
   n ← between 0 15 t
   some (record { 0 = n })
 
-unfoldable pub person-gid : Text → Option Gid
-person-gid t = do
+unfoldable pub person_gid : Text → Option Gid
+person_gid t = do
   n ← between 1 15 t
   some (record { 0 = n })
 
-unfoldable pub plain-role : Text → Option Role
-plain-role t = do
+unfoldable pub plain_role : Text → Option Role
+plain_role t = do
   n ← between 0 7 t
   some (record { 0 = n })
 
-unfoldable pub setup-form : Text → (List Text → Option Setup-line) → Form Setup-line
-setup-form w read-arguments = record { word = w; arguments = read-arguments }
+unfoldable pub setup_form : Text → (List Text → Option LineOfSetup) → Form LineOfSetup
+setup_form w read_arguments = record { word = w; arguments = read_arguments }
 
-unfoldable pub setup-forms : List (Form Setup-line)
-setup-forms =
-    setup-form (bytes "p") (two-of person-uid person-gid p-line) ∷
-    setup-form (bytes "g") (two-of person-uid person-gid g-line) ∷
-    setup-form (bytes "r") (two-of plain-role plain-role r-line) ∷
-    setup-form (bytes "l") (three-of person-or-root plain-role password l-line) ∷ []
+unfoldable pub setup_forms : List (Form LineOfSetup)
+setup_forms =
+    setup_form (bytes "p") (two_of person_uid person_gid p_line) ∷
+    setup_form (bytes "g") (two_of person_uid person_gid g_line) ∷
+    setup_form (bytes "r") (two_of plain_role plain_role r_line) ∷
+    setup_form (bytes "l") (three_of person_or_root plain_role password l_line) ∷ []
 
-unfoldable pub setup-line-of : List Text → Option Setup-line
-setup-line-of [] = none
-setup-line-of (w ∷ arguments) = by_form setup-forms w arguments
+unfoldable pub setup_line_of : List Text → Option LineOfSetup
+setup_line_of [] = none
+setup_line_of (w ∷ arguments) = by_form setup_forms w arguments
 
-unfoldable pub setup-line : Text → Option Setup-line
-setup-line t = do
-  check (leb (length t) longest-line)
-  setup-line-of (pieces comma t)
+unfoldable pub setup_line : Text → Option LineOfSetup
+setup_line t = do
+  check (leb (length t) longest_line)
+  setup_line_of (pieces comma t)

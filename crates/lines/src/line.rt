@@ -2,9 +2,9 @@
 ghost use Rattle.std.specs.Prelude.{◌≡◌, List, ◌∷◌, ◌≤◌, ◌<◌, length, drop};
 ghost use Rattle.std.proofs.Math.Option.{some, map};
 ghost use Rattle.buffers.specs.Text.{Text};
-ghost use Rattle.syntax.specs.Parts.{Inside, part, span-text};
-ghost use Rattle.lines.specs.SetupLines.{setup-line-of, setup-line};
-ghost use Rattle.lines.specs.Line.{line-form, two-texts, three-texts, both-between, both_of, line-told};
+ghost use Rattle.syntax.specs.Parts.{Inside, part, span_text};
+ghost use Rattle.lines.specs.SetupLines.{setup_line_of, setup_line};
+ghost use Rattle.lines.specs.Line.{line_form, two_texts, three_texts, both_between, both_of, line_told};
 
 use crate::{LineKind, NumberPair, SetupLine};
 use accounts::{Gid, Role, Uid};
@@ -14,7 +14,7 @@ use syntax::{Number, Span, name_at, number_at};
 // The word that a part is.
 fn word_at(text: &[u8], w: Span) -> LineKind
     requires { Inside w text.now }
-    ensures { (arguments : List Text) → setup-line-of (span-text text.now w ∷ arguments) ≡ line-form result arguments }
+    ensures { (arguments : List Text) → setup_line_of (span_text text.now w ∷ arguments) ≡ line_form result arguments }
 {
     let start = w.start;
     if w.end - start != 1 {
@@ -35,7 +35,7 @@ fn numbers_at(text: &[u8], a: Span, b: Span, low: u16, high1: u16, high2: u16) -
     requires inside_2 { Inside b text.now }
     requires high1_bound { high1 < 256 }
     requires high2_bound { high2 < 256 }
-    ensures { both_of result ≡ both-between low high1 high2 (span-text text.now a) (span-text text.now b) }
+    ensures { both_of result ≡ both_between low high1 high2 (span_text text.now a) (span_text text.now b) }
 {
     match number_at(text, a, low, high1) {
         Number::Nothing => NumberPair::Nothing,
@@ -50,7 +50,7 @@ fn numbers_at(text: &[u8], a: Span, b: Span, low: u16, high1: u16, high2: u16) -
 fn two_argument_line(text: &[u8], word: LineKind, a: Span, b: Span) -> SetupLine
     requires inside { Inside a text.now }
     requires inside_2 { Inside b text.now }
-    ensures { line-told text.now result ≡ map some (line-form word (two-texts text.now a b)) }
+    ensures { line_told text.now result ≡ map some (line_form word (two_texts text.now a b)) }
 {
     match word {
         LineKind::P => match numbers_at(text, a, b, 1, 15, 15) {
@@ -84,7 +84,7 @@ fn three_argument_line(text: &[u8], word: LineKind, a: Span, b: Span, c: Span) -
     requires inside { Inside a text.now }
     requires inside_2 { Inside b text.now }
     requires inside_3 { Inside c text.now }
-    ensures { line-told text.now result ≡ map some (line-form word (three-texts text.now a b c)) }
+    ensures { line_told text.now result ≡ map some (line_form word (three_texts text.now a b c)) }
 {
     let LineKind::L = word else {
         return SetupLine::Wrong;
@@ -105,7 +105,7 @@ fn three_argument_line(text: &[u8], word: LineKind, a: Span, b: Span, c: Span) -
 // The line that starts at a place and ends where the text ends.
 fn last_line(text: &[u8], at: usize) -> SetupLine
     requires { at ≤ length text.now }
-    ensures { line-told text.now result ≡ map some (setup-line (drop at text.now)) }
+    ensures { line_told text.now result ≡ map some (setup_line (drop at text.now)) }
 {
     if 200 < text.len() - at {
         return SetupLine::Wrong;
@@ -124,7 +124,7 @@ fn last_line(text: &[u8], at: usize) -> SetupLine
 pub fn line_at(text: &[u8], start: usize, end: usize) -> SetupLine
     requires start_le_end { start ≤ end }
     requires end_in_bounds { end ≤ length text.now }
-    ensures { line-told text.now result ≡ map some (setup-line (part text.now start end)) }
+    ensures { line_told text.now result ≡ map some (setup_line (part text.now start end)) }
 {
     last_line(&text[..end], start)
 }

@@ -1,6 +1,6 @@
 -- For computed examples only: whoever unfolds `compute` unfolds every definition of this crate that a run goes through.
-use Rattle.listing.specs.Listing.{kind-text, tag-fields, node-line, forest-lines, listing}
+use Rattle.listing.specs.Listing.{kind_text, tag_fields, node_line, forest_lines, listing}
 
 unfoldable pub compute : Unit {0}
-unfolding kind-text tag-fields node-line forest-lines listing
+unfolding kind_text tag_fields node_line forest_lines listing
 compute = tt

@@ -3,103 +3,103 @@ use Rattle.std.specs.Prelude.{◌≡◌, List, [], ◌∷◌, ◌++◌, cond, �
 use Rattle.buffers.specs.Text.{Text}
 use Rattle.buffers.specs.Over.{Wrote}
 use Rattle.syntax.specs.Pieces.{bytes, comma}
-use Rattle.syntax.specs.Number.{decimal-text, mode-text}
+use Rattle.syntax.specs.Number.{decimal_text, mode_text}
 use Rattle.syntax.specs.Path.{Name, Path, root, ◌▹◌}
 use Rattle.tree.specs.Node.{Node}
 use Rattle.tree.specs.Rows.{Row}
-use Rattle.tree.specs.RowAt.{row_at, all-rows, tag-text-at, tag-number-at}
-use Rattle.tree.specs.TreeBytes.{Has-row}
-use Rattle.listing.specs.Listing.{kind-text, node-line}
+use Rattle.tree.specs.RowAt.{row_at, all_rows, tag_text_at, tag_number_at}
+use Rattle.tree.specs.TreeBytes.{HasRow}
+use Rattle.listing.specs.Listing.{kind_text, node_line}
 
 -- ---- paths
 
 -- the name last seen at each depth
-abbrev pub Names-seen : Type 0
-Names-seen = ℕ → Name
+abbrev pub NamesSeen : Type 0
+NamesSeen = ℕ → Name
 
 -- before the first row there is none
-abbrev pub none_seen : Names-seen
+abbrev pub none_seen : NamesSeen
 none_seen k = []
 
 -- once a row more is seen
-unfoldable pub row_seen : Names-seen → Row Node → Names-seen
+unfoldable pub row_seen : NamesSeen → Row Node → NamesSeen
 row_seen m r k = cond (eqb k r.depth) r.name (m k)
 
 -- once all of some rows are
-unfoldable pub rows_seen : Names-seen → List (Row Node) → Names-seen
+unfoldable pub rows_seen : NamesSeen → List (Row Node) → NamesSeen
 rows_seen m [] = m
 rows_seen m (r ∷ rs) = rows_seen (row_seen m r) rs
 
 -- the path of the names last seen at depths 1 to k
-unfoldable pub path-seen : Names-seen → ℕ → Path
-path-seen m zero = root
-path-seen m (suc k) = path-seen m k ▹ m (suc k)
+unfoldable pub path_seen : NamesSeen → ℕ → Path
+path_seen m zero = root
+path_seen m (suc k) = path_seen m k ▹ m (suc k)
 
 -- ---- lines
 
 -- the lines of rows behind others
-unfoldable pub lines-behind : Names-seen → List (Row Node) → List Text
-lines-behind m [] = []
-lines-behind m (r ∷ rs) = node-line (path-seen (row_seen m r) r.depth) r.here ∷ lines-behind (row_seen m r) rs
+unfoldable pub lines_behind : NamesSeen → List (Row Node) → List Text
+lines_behind m [] = []
+lines_behind m (r ∷ rs) = node_line (path_seen (row_seen m r) r.depth) r.here ∷ lines_behind (row_seen m r) rs
 
 -- the lines of all rows
-unfoldable pub lines-in : List (Row Node) → List Text
-lines-in rs = lines-behind none_seen rs
+unfoldable pub lines_in : List (Row Node) → List Text
+lines_in rs = lines_behind none_seen rs
 
 -- ---- in a tree's bytes
 
 -- the names last seen among the first so many rows
-unfoldable pub names-among : List ℕ → ℕ → Names-seen
-names-among b n = rows_seen none_seen (take n (all-rows b))
+unfoldable pub names_among : List ℕ → ℕ → NamesSeen
+names_among b n = rows_seen none_seen (take n (all_rows b))
 
 -- the path of the row at an index
-unfoldable pub row-path : List ℕ → ℕ → Path
-row-path b i = path-seen (names-among b (suc i)) (row_at b i).depth
+unfoldable pub row_path : List ℕ → ℕ → Path
+row_path b i = path_seen (names_among b (suc i)) (row_at b i).depth
 
 -- a row for each depth up to 6
-pub record Told-rows (b last : List ℕ) : Type 0 where
+pub record ToldRows (b last : List ℕ) : Type 0 where
   pub size : length last ≡ 7
-  pub there : (k : ℕ) → k < 7 → Has-row b (get_or last k 0)
+  pub there : (k : ℕ) → k < 7 → HasRow b (get_or last k 0)
 
 -- their names
-abbrev pub names-told : List ℕ → List ℕ → Names-seen
-names-told b last k = (row_at b (get_or last k 0)).name
+abbrev pub names_told : List ℕ → List ℕ → NamesSeen
+names_told b last k = (row_at b (get_or last k 0)).name
 
 -- the row last seen at each depth up to 6 among the first n; that of `/` where there is none
-unfoldable pub last-among : List ℕ → ℕ → List ℕ
-last-among b zero = replicate 7 0
-last-among b (suc i) = set (last-among b i) (row_at b i).depth i
+unfoldable pub last_among : List ℕ → ℕ → List ℕ
+last_among b zero = replicate 7 0
+last_among b (suc i) = set (last_among b i) (row_at b i).depth i
 
 -- rows whose names are those last seen among the first n
-pub record Last-rows (b : List ℕ) (n : ℕ) (last : List ℕ) : Type 0 where
-  pub told : Told-rows b last
-  pub same : (k : ℕ) → k < 7 → names-told b last k ≡ names-among b n k
+pub record LastRows (b : List ℕ) (n : ℕ) (last : List ℕ) : Type 0 where
+  pub told : ToldRows b last
+  pub same : (k : ℕ) → k < 7 → names_told b last k ≡ names_among b n k
 
 -- ---- written
 
 -- a text of at most so many bytes written over a buffer from a place on, and where it ends
-pub record Wrote-most (most : ℕ) (t : Text) (b : List ℕ) (at : ℕ) (c : List ℕ) (r : ℕ) : Type 0 where
+pub record WroteMost (most : ℕ) (t : Text) (b : List ℕ) (at : ℕ) (c : List ℕ) (r : ℕ) : Type 0 where
   pub wrote : Wrote t b at c r
   pub short : r ≤ at + most
 
 -- a tag's path, or `-` where its text is empty
-unfoldable pub or-dash : Text → Text
-or-dash [] = bytes "-"
-or-dash (c ∷ t) = c ∷ t
+unfoldable pub or_dash : Text → Text
+or_dash [] = bytes "-"
+or_dash (c ∷ t) = c ∷ t
 
 -- the owner and the group of a row, each behind a comma
-unfoldable pub owner-fields : List ℕ → ℕ → Text
-owner-fields b i = (comma ∷ decimal-text (row_at b i).here.owner.0) ++ (comma ∷ decimal-text (row_at b i).here.group.0)
+unfoldable pub owner_fields : List ℕ → ℕ → Text
+owner_fields b i = (comma ∷ decimal_text (row_at b i).here.owner.0) ++ (comma ∷ decimal_text (row_at b i).here.group.0)
 
 -- its mode and its revision
-unfoldable pub number-fields : List ℕ → ℕ → Text
-number-fields b i = (comma ∷ mode-text (row_at b i).here.mode) ++ (comma ∷ decimal-text (row_at b i).here.revision)
+unfoldable pub number_fields : List ℕ → ℕ → Text
+number_fields b i = (comma ∷ mode_text (row_at b i).here.mode) ++ (comma ∷ decimal_text (row_at b i).here.revision)
 
 -- the path and the revision of its tag
-unfoldable pub tag-fields-at : List ℕ → ℕ → Text
-tag-fields-at b i = (comma ∷ or-dash (tag-text-at b i)) ++ (comma ∷ decimal-text (tag-number-at b i))
+unfoldable pub tag_fields_at : List ℕ → ℕ → Text
+tag_fields_at b i = (comma ∷ or_dash (tag_text_at b i)) ++ (comma ∷ decimal_text (tag_number_at b i))
 
 -- all that stands behind its path
 unfoldable pub fields_at : List ℕ → ℕ → Text
 fields_at b i =
-    ((((comma ∷ kind-text (row_at b i).here.kind) ++ owner-fields b i) ++ number-fields b i) ++ tag-fields-at b i) ++ (comma ∷ (row_at b i).here.content)
+    ((((comma ∷ kind_text (row_at b i).here.kind) ++ owner_fields b i) ++ number_fields b i) ++ tag_fields_at b i) ++ (comma ∷ (row_at b i).here.content)

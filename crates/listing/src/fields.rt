@@ -2,11 +2,11 @@
 ghost use Rattle.std.specs.Prelude.{◌∷◌, ◌+◌, ◌≤◌, length};
 ghost use Rattle.buffers.specs.Over.{Wrote};
 ghost use Rattle.syntax.specs.Pieces.{comma};
-ghost use Rattle.syntax.specs.Number.{decimal-text, mode-text};
+ghost use Rattle.syntax.specs.Number.{decimal_text, mode_text};
 ghost use Rattle.tree.specs.RowAt.{row_at};
-ghost use Rattle.tree.specs.TreeBytes.{Has-row};
-ghost use Rattle.listing.specs.Listing.{kind-text};
-ghost use Rattle.listing.specs.RowListing.{Wrote-most, or-dash, owner-fields, number-fields, tag-fields-at, fields_at};
+ghost use Rattle.tree.specs.TreeBytes.{HasRow};
+ghost use Rattle.listing.specs.Listing.{kind_text};
+ghost use Rattle.listing.specs.RowListing.{WroteMost, or_dash, owner_fields, number_fields, tag_fields_at, fields_at};
 
 use buffers::write;
 use syntax::{write_decimal, write_mode};
@@ -28,7 +28,7 @@ pub fn write_behind(answer: &mut [u8], at: usize, mark: u8, text: &[u8]) -> usiz
 // Writes a decimal number behind a comma.
 fn write_decimal_field(answer: &mut [u8], at: usize, n: u16) -> usize
     requires { at + 6 ≤ length answer.old }
-    ensures { Wrote-most 6 (comma ∷ decimal-text n) answer.old at answer.new result }
+    ensures { WroteMost 6 (comma ∷ decimal_text n) answer.old at answer.new result }
 {
     answer[at] = b',';
     write_decimal(answer, at + 1, n as usize)
@@ -37,7 +37,7 @@ fn write_decimal_field(answer: &mut [u8], at: usize, n: u16) -> usize
 // Writes a mode behind a comma.
 fn write_mode_field(answer: &mut [u8], at: usize, mode: u16) -> usize
     requires { at + 5 ≤ length answer.old }
-    ensures { Wrote-most 5 (comma ∷ mode-text mode) answer.old at answer.new result }
+    ensures { WroteMost 5 (comma ∷ mode_text mode) answer.old at answer.new result }
 {
     answer[at] = b',';
     write_mode(answer, at + 1, mode)
@@ -45,9 +45,9 @@ fn write_mode_field(answer: &mut [u8], at: usize, mode: u16) -> usize
 
 // Writes `d` or `f`.
 fn write_kind(tree: &[u8], i: usize, answer: &mut [u8], at: usize) -> usize
-    requires has_row { Has-row tree.now i }
+    requires has_row { HasRow tree.now i }
     requires at_in_bounds { at + 2 ≤ length answer.old }
-    ensures { Wrote-most 2 (comma ∷ kind-text (row_at tree.now i).here.kind) answer.old at answer.new result }
+    ensures { WroteMost 2 (comma ∷ kind_text (row_at tree.now i).here.kind) answer.old at answer.new result }
 {
     match kind_at(tree, i) {
         Kind::File => write_behind(answer, at, b',', b"f"),
@@ -57,9 +57,9 @@ fn write_kind(tree: &[u8], i: usize, answer: &mut [u8], at: usize) -> usize
 
 // Writes the owner and the group.
 fn write_owners(tree: &[u8], i: usize, answer: &mut [u8], at: usize) -> usize
-    requires has_row { Has-row tree.now i }
+    requires has_row { HasRow tree.now i }
     requires at_in_bounds { at + 12 ≤ length answer.old }
-    ensures { Wrote-most 12 (owner-fields tree.now i) answer.old at answer.new result }
+    ensures { WroteMost 12 (owner_fields tree.now i) answer.old at answer.new result }
 {
     let owner = owner_at(tree, i).0 as u16;
     let group = group_at(tree, i).0 as u16;
@@ -69,9 +69,9 @@ fn write_owners(tree: &[u8], i: usize, answer: &mut [u8], at: usize) -> usize
 
 // Writes the mode and the revision.
 fn write_numbers(tree: &[u8], i: usize, answer: &mut [u8], at: usize) -> usize
-    requires has_row { Has-row tree.now i }
+    requires has_row { HasRow tree.now i }
     requires at_in_bounds { at + 11 ≤ length answer.old }
-    ensures { Wrote-most 11 (number-fields tree.now i) answer.old at answer.new result }
+    ensures { WroteMost 11 (number_fields tree.now i) answer.old at answer.new result }
 {
     let end = write_mode_field(answer, at, mode_at(tree, i));
     write_decimal_field(answer, end, revision_at(tree, i))
@@ -81,7 +81,7 @@ fn write_numbers(tree: &[u8], i: usize, answer: &mut [u8], at: usize) -> usize
 fn write_tag_path(answer: &mut [u8], at: usize, path: &[u8]) -> usize
     requires path_len_bound { length path.now ≤ 54 }
     requires at_in_bounds { at + 55 ≤ length answer.old }
-    ensures { Wrote-most 55 (comma ∷ or-dash path.now) answer.old at answer.new result }
+    ensures { WroteMost 55 (comma ∷ or_dash path.now) answer.old at answer.new result }
 {
     if path.len() == 0 {
         return write_behind(answer, at, b',', b"-");
@@ -91,9 +91,9 @@ fn write_tag_path(answer: &mut [u8], at: usize, path: &[u8]) -> usize
 
 // Writes the path and the revision of the tag.
 fn write_tag(tree: &[u8], i: usize, answer: &mut [u8], at: usize) -> usize
-    requires has_row { Has-row tree.now i }
+    requires has_row { HasRow tree.now i }
     requires at_in_bounds { at + 61 ≤ length answer.old }
-    ensures { Wrote-most 61 (tag-fields-at tree.now i) answer.old at answer.new result }
+    ensures { WroteMost 61 (tag_fields_at tree.now i) answer.old at answer.new result }
 {
     let end = write_tag_path(answer, at, tag_path_at(tree, i));
     write_decimal_field(answer, end, tag_revision_at(tree, i))
@@ -101,9 +101,9 @@ fn write_tag(tree: &[u8], i: usize, answer: &mut [u8], at: usize) -> usize
 
 // Writes all fields behind the path.
 pub fn write_fields(tree: &[u8], i: usize, answer: &mut [u8], at: usize) -> usize
-    requires has_row { Has-row tree.now i }
+    requires has_row { HasRow tree.now i }
     requires at_in_bounds { at + 167 ≤ length answer.old }
-    ensures { Wrote-most 167 (fields_at tree.now i) answer.old at answer.new result }
+    ensures { WroteMost 167 (fields_at tree.now i) answer.old at answer.new result }
 {
     let kind = write_kind(tree, i, answer, at);
     let owners = write_owners(tree, i, answer, kind);

@@ -5,7 +5,7 @@ ghost use Rattle.tree.specs.Forest.{Place};
 ghost use Rattle.tree.specs.Node.{Node};
 ghost use Rattle.tree.specs.RowAt.{row_count};
 ghost use Rattle.tree.specs.TreeBytes.{Encodes, Whole};
-ghost use Rattle.listing.specs.Listing.{listing, Line-written};
+ghost use Rattle.listing.specs.Listing.{listing, LineWritten};
 
 use crate::fields::write_fields;
 use crate::path::write_path;
@@ -16,7 +16,7 @@ pub fn write_line(tree: &[u8], n: usize, answer: &mut [u8]) -> usize
     requires n_bound { n < row_count tree.now }
     requires in_bounds { 256 ≤ length answer.old }
     ensures { (t : Place Node) → Encodes tree.now t
-        → Line-written (get_elem? (listing t) n) answer.old result answer.new }
+        → LineWritten (get_elem? (listing t) n) answer.old result answer.new }
 {
     let end = write_path(tree, n, answer);
     write_fields(tree, n, answer, end)

@@ -2,7 +2,7 @@
 use Rattle.std.specs.Prelude.{◌≡◌}
 use Rattle.accounts.specs.declared.Account.{Account}
 use Rattle.accounts.specs.declared.Caller.{Caller}
-use Rattle.accounts.specs.Dominance.{Bounded-role}
+use Rattle.accounts.specs.Dominance.{BoundedRole}
 use Rattle.accounts.specs.Service.{service}
 use Rattle.setup.specs.Setup.{Setup}
 use Rattle.tree.specs.Result.{Result, done, ◌>>=◌, Outcome}
@@ -16,10 +16,10 @@ use Rattle.machine.specs.StoreMachine.{store}
 pub record Acting (c : Caller) (account : Account) : Type 0 where
   pub setup : Setup
   pub state : Store
-  pub role : Bounded-role
+  pub role : BoundedRole
   pub session : session store setup state c ≡ done role
   pub served : account ≡ service setup.pairs role
 
 -- the steps of a command as they are on the tree
-unfoldable pub on-tree-steps : Result (Outcome Store) → Result (Outcome (Place Node))
-on-tree-steps r = r >>= λ o. done (record { text = o.text; state = o.state.tree })
+unfoldable pub on_tree_steps : Result (Outcome Store) → Result (Outcome (Place Node))
+on_tree_steps r = r >>= λ o. done (record { text = o.text; state = o.state.tree })

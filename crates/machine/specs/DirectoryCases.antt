@@ -1,7 +1,7 @@
 -- Document 02's `cd` and short paths, computed on both machines: what each check answers, and which of two that fail decides.
 use Rattle.std.specs.Prelude.{refl, List, [], ◌∷◌}
 use Rattle.shell.specs.Cases.{Case, ◌gives◌, ◌shows◌}
-use Rattle.machine.specs.Cases.{In-store, In-abstract, Answered, compute}
+use Rattle.machine.specs.Cases.{InStore, InAbstract, Answered, compute}
 
 -- ---- joining: 1 and 2 come before its 19, and every check of the command behind it, 12 and 9 included; of `mv` both paths come first
 joining : List Case
@@ -20,13 +20,13 @@ joining =
     "1,mv,a/b/c/d/e/f,/" gives 19 ∷
     "1,mv,/,a" gives 9 ∷ []
 
-joining-in-store : In-store joining
+joining_in_store : InStore joining
 unfolding compute joining
-joining-in-store = refl
+joining_in_store = refl
 
-joining-in-abstract : In-abstract joining
+joining_in_abstract : InAbstract joining
 unfolding compute joining
-joining-in-abstract = refl
+joining_in_abstract = refl
 
 -- ---- `cd`: the walk, then 7, then x; what is kept is the joined path, for this account alone
 moves : List Case
@@ -53,13 +53,13 @@ moves =
     "2,read,/u1/d/f" gives 5 ∷
     "1,read,f" shows "x" ∷ []
 
-moves-in-store : In-store moves
+moves_in_store : InStore moves
 unfolding compute moves
-moves-in-store = refl
+moves_in_store = refl
 
-moves-in-abstract : In-abstract moves
+moves_in_abstract : InAbstract moves
 unfolding compute moves
-moves-in-abstract = refl
+moves_in_abstract = refl
 
 -- ---- a kept directory that has gone, or that is a file now, is met by the walk, which comes behind 19
 gone : List Case
@@ -74,13 +74,13 @@ gone =
     "1,cd,/u1" gives 0 ∷
     "1,create,f,0644" gives 0 ∷ []
 
-gone-in-store : In-store gone
+gone_in_store : InStore gone
 unfolding compute gone
-gone-in-store = refl
+gone_in_store = refl
 
-gone-in-abstract : In-abstract gone
+gone_in_abstract : InAbstract gone
 unfolding compute gone
-gone-in-abstract = refl
+gone_in_abstract = refl
 
 -- ---- reserved names are judged on the joined path, `/rep` may not be entered by a person, and working paths are joined in a session
 reserves : List Case
@@ -99,6 +99,6 @@ reserves =
     "1,read,/u1/b" shows "y" ∷
     "1,up,b" gives 0 ∷ []
 
-reserves-answered : Answered reserves
+reserves_answered : Answered reserves
 unfolding compute reserves
-reserves-answered = (refl, refl)
+reserves_answered = (refl, refl)

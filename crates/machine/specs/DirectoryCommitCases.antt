@@ -4,21 +4,21 @@
 use Rattle.std.specs.Prelude.{◌≡◌, refl, List, [], ◌∷◌, ◌++◌, ℕ}
 use Rattle.std.proofs.Math.Option.{Option, none, some}
 use Prim.Native.String.{String}
-use Rattle.accounts.specs.Dominance.{Bounded-role}
+use Rattle.accounts.specs.Dominance.{BoundedRole}
 use Rattle.syntax.specs.Number.{octal}
 use Rattle.syntax.specs.Pieces.{bytes}
 use Rattle.syntax.specs.Path.{root, ◌▹◌}
-use Rattle.setup.specs.Setup.{Setup-answer, accepted, wrong-line, setup}
+use Rattle.setup.specs.Setup.{SetupAnswer, accepted, wrong_line, setup}
 use Rattle.tree.specs.declared.Kind.{Kind}
 use Rattle.tree.specs.declared.Kind.TheVariants.{File, Directory}
-use Rattle.tree.specs.Forest.{Forest, no-nodes, Place, insert, place_at, put, leaf}
+use Rattle.tree.specs.Forest.{Forest, no_nodes, Place, insert, place_at, put, leaf}
 use Rattle.tree.specs.Node.{Tag, Node}
 use Rattle.shell.specs.Cases.{Case, ◌gives◌, ◌shows◌, all_done}
-use Rattle.store.specs.Initial.{initial-store}
-use Rattle.machine.specs.StoreMachine.{entry-node, store}
-use Rattle.machine.specs.AbstractMachine.{Entry, abstract-runs, initial-abstract}
+use Rattle.store.specs.Initial.{initial_store}
+use Rattle.machine.specs.StoreMachine.{entry_node, store}
+use Rattle.machine.specs.AbstractMachine.{Entry, abstract_runs, initial_abstract}
 use Rattle.machine.specs.Runs.{runs}
-use Rattle.machine.specs.Cases.{calls, roles, In-store, In-abstract, Answered, compute}
+use Rattle.machine.specs.Cases.{calls, roles, InStore, InAbstract, Answered, compute}
 
 -- ---- checks: no session 12; the walk, 3, 4, 5; not readable 5, which is r and x. Nothing below it, or nothing tagged, is 0
 checks : List Case
@@ -42,13 +42,13 @@ checks =
     "1,commit,d" shows "0" ∷
     "1,up,/u1/d" gives 7 ∷ [])
 
-checks-in-store : In-store checks
+checks_in_store : InStore checks
 unfolding compute checks
-checks-in-store = refl
+checks_in_store = refl
 
-checks-in-abstract : In-abstract checks
+checks_in_abstract : InAbstract checks
 unfolding compute checks
-checks-in-abstract = refl
+checks_in_abstract = refl
 
 -- ---- one after another: of two files of one entry the first in path order is committed, whichever was there first; the second is
 -- stale at its turn, and what lies behind it is committed all the same
@@ -65,13 +65,13 @@ one_entry =
     "1,commit,/u1/d/c" gives 0 ∷
     "1,commit,/u1/d/a" gives 0 ∷ [])
 
-one-entry-in-store : In-store one_entry
+one_entry_in_store : InStore one_entry
 unfolding compute one_entry
-one-entry-in-store = refl
+one_entry_in_store = refl
 
-one-entry-in-abstract : In-abstract one_entry
+one_entry_in_abstract : InAbstract one_entry
 unfolding compute one_entry
-one-entry-in-abstract = refl
+one_entry_in_abstract = refl
 
 -- An entry that was deleted and added again is revised twice where tags 1 and 2 stand in that order below one directory, and once
 -- where they stand in the other.
@@ -91,9 +91,9 @@ revised =
     "1,commit,/u1/e/b" gives 0 ∷
     "1,commit,/u1/e/a" gives 14 ∷ []))
 
-revised-answered : Answered revised
+revised_answered : Answered revised
 unfolding compute revised
-revised-answered = (refl, refl)
+revised_answered = (refl, refl)
 
 -- ---- through directories that may be read: one that may not, for want of r or of x, is passed by with all below it, and what lies
 -- behind it is met; its file would be committed by itself
@@ -115,9 +115,9 @@ between =
     "1,commit,/u1/w/m" shows "1" ∷
     "1,commit,/u1/w/m/n/c" gives 0 ∷ []))
 
-between-answered : Answered between
+between_answered : Answered between
 unfolding compute between
-between-answered = (refl, refl)
+between_answered = (refl, refl)
 
 -- ---- passed over, while others are committed: no tag, no r, a tag that leads to a directory or to nothing; for role 1 an entry that
 -- it may not read, and one in `/rep`
@@ -136,9 +136,9 @@ others =
     "1,chmod,/u1/d/b,0400" gives 0 ∷
     "1,commit,/u1/d" shows "4" ∷ [])))
 
-others-answered : Answered others
+others_answered : Answered others
 unfolding compute others
-others-answered = (refl, refl)
+others_answered = (refl, refl)
 
 -- ---- whose: of `/` and of another's home each file that the person may read and meets; `/rep` is not read
 homes : List Case
@@ -152,13 +152,13 @@ homes =
     "1,commit,/u1" shows "4" ∷
     "1,commit,/" shows "4" ∷ []))
 
-homes-answered : Answered homes
+homes_answered : Answered homes
 unfolding compute homes
-homes-answered = (refl, refl)
+homes_answered = (refl, refl)
 
 -- root passes every test as a person, and the account of its session's role is judged
-of-root : List Case
-of-root =
+of_root : List Case
+of_root =
     all_done "1,login,0,oak\n1,mkdir,/u1/d,0700\n1,add,/u1/d,/rep/d,1\n1,create,/u1/d/a,0600\n1,add,/u1/d/a,/rep/d/a,1\n1,create,/u1/d/b,0600\n1,add,/u1/d/b,/rep/b,1\n1,chmod,/u1/d/a,0000\n1,chmod,/u1/d,0000" ++ (
     "0,commit,/" gives 12 ∷
     "0,login,1,yew" gives 0 ∷
@@ -167,9 +167,9 @@ of-root =
     "0,commit,/u1/d" shows "1" ∷
     "1,commit,/" shows "0" ∷ [])
 
-of-root-answered : Answered of-root
-unfolding compute of-root
-of-root-answered = (refl, refl)
+of_root_answered : Answered of_root
+unfolding compute of_root
+of_root_answered = (refl, refl)
 
 -- In the store root meets what it has brought below `/rep`: a working file there, and one that is the very node of its entry. It is
 -- committed with the content that it has at its turn.
@@ -183,9 +183,9 @@ brought =
     "0,commit,/rep/d/e" gives 15 ∷
     "0,commit,/" shows "2" ∷ []))
 
-brought-in-store : In-store brought
+brought_in_store : InStore brought
 unfolding compute brought
-brought-in-store = refl
+brought_in_store = refl
 
 -- ---- a number of two digits
 many : List Case
@@ -195,9 +195,9 @@ many =
     "1,commit,/u1/c" shows "12" ∷
     "1,commit,/u1" shows "12" ∷ []))
 
-many-answered : Answered many
+many_answered : Answered many
 unfolding compute many
-many-answered = (refl, refl)
+many_answered = (refl, refl)
 
 -- ---- what is left: the entry with the first file's content and the next revision, that file's tag with it, and the second's as it was;
 -- nor is the directory's own tag, whose entry is gone, asked for or changed
@@ -212,36 +212,36 @@ working kind mode e revision content =
     let tag : Tag = record { path = record { folder = root; name = bytes e }; revision = revision } in
     record { kind = kind; owner = record { 0 = 1 }; group = record { 0 = 1 }; mode = mode; revision = 0; tag = some tag; content = bytes content }
 
-committed-directory : Place Node
-committed-directory =
+committed_directory : Place Node
+committed_directory =
     put (bytes "a") (leaf (working File (octal 0 6 0 0) "e" 2 "s"))
     (put (bytes "b") (leaf (working File (octal 0 6 0 0) "e" 1 "t"))
     (leaf (working Directory (octal 0 7 0 0) "d" 1 "")))
 
-r₁ : Bounded-role
+r₁ : BoundedRole
 r₁ = record { role = record { 0 = 1 }; bound = refl }
 
 -- what the directory and the entries are in the store, and in the abstract machine
-in-store : Setup-answer → List Case → Option (Place Node) × Option (Place Node)
-in-store (wrong-line n) cases = (none, none)
-in-store (accepted u) cases =
-    let t = (runs store u (initial-store u) (calls 4096 cases)).state.tree in
+in_store : SetupAnswer → List Case → Option (Place Node) × Option (Place Node)
+in_store (wrong_line n) cases = (none, none)
+in_store (accepted u) cases =
+    let t = (runs store u (initial_store u) (calls 4096 cases)).state.tree in
     (place_at t (root ▹ bytes "u1" ▹ bytes "d"), place_at t (root ▹ bytes "rep" ▹ bytes "e"))
 
-in-abstract : Setup-answer → List Case → Option (Place Node) × Forest Entry
-in-abstract (wrong-line n) cases = (none, no-nodes)
-in-abstract (accepted u) cases =
-    let h = (abstract-runs u (initial-abstract u) (calls 4096 cases)).state in
+in_abstract : SetupAnswer → List Case → Option (Place Node) × Forest Entry
+in_abstract (wrong_line n) cases = (none, no_nodes)
+in_abstract (accepted u) cases =
+    let h = (abstract_runs u (initial_abstract u) (calls 4096 cases)).state in
     (place_at h.workspace (root ▹ bytes "u1" ▹ bytes "d"), h.entries)
 
-left-in-store : in-store (setup roles) leaving ≡ (some committed-directory, some (leaf (entry-node File r₁ 2 (bytes "s"))))
-unfolding compute place_at leaving working committed-directory r₁ in-store
-left-in-store = refl
+left_in_store : in_store (setup roles) leaving ≡ (some committed_directory, some (leaf (entry_node File r₁ 2 (bytes "s"))))
+unfolding compute place_at leaving working committed_directory r₁ in_store
+left_in_store = refl
 
-left-in-abstract : in-abstract (setup roles) leaving ≡ (some committed-directory, insert (bytes "e") (leaf (record { kind = File; role = r₁; revision = 2; content = bytes "s" })) no-nodes)
-unfolding compute place_at leaving working committed-directory r₁ in-abstract
-left-in-abstract = refl
+left_in_abstract : in_abstract (setup roles) leaving ≡ (some committed_directory, insert (bytes "e") (leaf (record { kind = File; role = r₁; revision = 2; content = bytes "s" })) no_nodes)
+unfolding compute place_at leaving working committed_directory r₁ in_abstract
+left_in_abstract = refl
 
-leaving-answered : Answered leaving
+leaving_answered : Answered leaving
 unfolding compute leaving
-leaving-answered = (refl, refl)
+leaving_answered = (refl, refl)

@@ -11,93 +11,93 @@ use Rattle.buffers.specs.Text.{Text, every}
 use Rattle.accounts.specs.declared.Caller.{Caller}
 use Rattle.accounts.specs.declared.Uid.{Uid}
 use Rattle.accounts.specs.declared.Right.TheVariants.{R}
-use Rattle.accounts.specs.Access.{is-root}
-use Rattle.accounts.specs.Dominance.{Bounded-role}
-use Rattle.syntax.specs.Path.{Path, Entry-path, within}
+use Rattle.accounts.specs.Access.{is_root}
+use Rattle.accounts.specs.Dominance.{BoundedRole}
+use Rattle.syntax.specs.Path.{Path, EntryPath, within}
 use Rattle.syntax.specs.WithinLaws.{itself, lies_within}
 use Rattle.commands.specs.Command.{add, co, commit, up, del, Command, shell, account, entry}
-use Rattle.setup.specs.Setup.{Setup, is-setup}
-use Rattle.setup.specs.SetupLaws.{accepted-is-setup}
+use Rattle.setup.specs.Setup.{Setup, is_setup}
+use Rattle.setup.specs.SetupLaws.{accepted_is_setup}
 use Rattle.tree.specs.declared.Kind.{Kind}
 use Rattle.tree.specs.declared.Cause.TheVariants.{Access, Stale, RevisionsSpent}
 use Rattle.tree.specs.Result.{Result, done, Outcome}
 use Rattle.tree.specs.ResultLaws.{by_result}
 use Rattle.tree.specs.Outcomes.{gives, Ensures}
-use Rattle.tree.specs.GivesLaws.{done-with, then-check, then-do}
+use Rattle.tree.specs.GivesLaws.{done_with, then_check, then_do}
 use Rattle.tree.specs.AgreeLaws.{done_first}
-use Rattle.tree.specs.Walk.{by-modes, walk}
-use Rattle.tree.specs.Files.{files-below}
-use Rattle.tree.specs.FilesLaws.{files-within}
+use Rattle.tree.specs.Walk.{by_modes, walk}
+use Rattle.tree.specs.Files.{files_below}
+use Rattle.tree.specs.FilesLaws.{files_within}
 use Rattle.store.specs.State.{Store}
 use Rattle.store.specs.Callers.{caller}
-use Rattle.machine.specs.Working.{then-commits, commit-each}
-use Rattle.machine.specs.Machine.{session, working-file, original, commit-found, commit-file, run-entry, run}
-use Rattle.machine.specs.DirectoryCommitLaws.{commit-done}
-use Rattle.machine.specs.StoreMachine.{entry-node, store}
-use Rattle.machine.specs.AbstractMachine.{Abstract, by-dominance}
+use Rattle.machine.specs.Working.{then_commits, commit_each}
+use Rattle.machine.specs.Machine.{session, working_file, original, commit_found, commit_file, run_entry, run}
+use Rattle.machine.specs.DirectoryCommitLaws.{commit_done}
+use Rattle.machine.specs.StoreMachine.{entry_node, store}
+use Rattle.machine.specs.AbstractMachine.{Abstract, by_dominance}
 use Rattle.machine.specs.AbstractInstance.{abstract}
 use Rattle.machine.specs.Embedding.{met}
-use Rattle.machine.specs.Observed.{Reached-without-root}
+use Rattle.machine.specs.Observed.{ReachedWithoutRoot}
 use Rattle.machine.specs.Simulation.{Tie}
-use Rattle.machine.specs.SimulationLaws.{kept_out, file-agrees}
-use Rattle.machine.specs.ComparedLaws.{reached-tie}
-use Rattle.machine.specs.EntryChanges.{Filed-as, entry_of, Rightful, Committed, Revised, no_more, another's, its_own, Change, by-commit, by-directory}
-use Rattle.machine.specs.EntryPlacesLaws.{revised-after, Rightful-apart, revised-right, node-tied, rightful-tied, both-done, in_both}
-use Rattle.machine.specs.EntryChangesLaws.{is-commit, Guarded, file-guarded, entry-changed, met-role, either-tied, file-tied}
+use Rattle.machine.specs.SimulationLaws.{kept_out, file_agrees}
+use Rattle.machine.specs.ComparedLaws.{reached_tie}
+use Rattle.machine.specs.EntryChanges.{FiledAs, entry_of, Rightful, Committed, Revised, no_more, another's, its_own, Change, by_commit, by_directory}
+use Rattle.machine.specs.EntryPlacesLaws.{revised_after, RightfulApart, revised_right, node_tied, rightful_tied, both_done, in_both}
+use Rattle.machine.specs.EntryChangesLaws.{is_commit, Guarded, file_guarded, entry_changed, met_role, either_tied, file_tied}
 
 -- a right that is there after a single commit was there before it
-file-right : (u : Setup) (h : Abstract) (c : Caller) (e : Entry-path) (r : Bounded-role) (w : Path)
-    → Ensures (λ o. Rightful-apart u o.state c e r → Rightful-apart u h c e r) (commit-file abstract u h c w)
-unfolding commit-file commit-found
-file-right u h c e r w =
-    then-do (session abstract u h c) λ z _.
-    then-do (walk (by-modes c.account) h.workspace w) λ f _.
-    then-do (working-file abstract u h c R f) λ k _.
-    then-do (original abstract u h c z k.tag.path) λ a _.
-    then-do (walk (by-dominance u z) (abstract.entries h) k.tag.path.folder) λ d _.
-    then-check Access tt _ λ _.
-    then-check Stale tt _ λ _.
-    then-check RevisionsSpent tt _ λ _.
-    gives (revised-right u c e h _ k.tag.path k.node.content refl (revised-after k.tag.path k.node.content h) r)
+file_right : (u : Setup) (h : Abstract) (c : Caller) (e : EntryPath) (r : BoundedRole) (w : Path)
+    → Ensures (λ o. RightfulApart u o.state c e r → RightfulApart u h c e r) (commit_file abstract u h c w)
+unfolding commit_file commit_found
+file_right u h c e r w =
+    then_do (session abstract u h c) λ z _.
+    then_do (walk (by_modes c.account) h.workspace w) λ f _.
+    then_do (working_file abstract u h c R f) λ k _.
+    then_do (original abstract u h c z k.tag.path) λ a _.
+    then_do (walk (by_dominance u z) (abstract.entries h) k.tag.path.folder) λ d _.
+    then_check Access tt _ λ _.
+    then_check Stale tt _ λ _.
+    then_check RevisionsSpent tt _ λ _.
+    gives (revised_right u c e h _ k.tag.path k.node.content refl (revised_after k.tag.path k.node.content h) r)
 
-module _ (u : Setup) (g : is-setup u ≡ true) (v : Uid) (c : Caller) (n : is-root v ≡ false) (i : caller u v ≡ done c) (e : Entry-path) (kind : Kind) (r : Bounded-role) where
+module _ (u : Setup) (g : is_setup u ≡ true) (v : Uid) (c : Caller) (n : is_root v ≡ false) (i : caller u v ≡ done c) (e : EntryPath) (kind : Kind) (r : BoundedRole) where
   -- what a single commit leaves: a state of the abstract machine that stands for the store, with no right that was not there; the entry
   -- as it is, or committed by right
   record Left (s : Store) (h : Abstract) (w : Path) (s' : Store) : Type 0 where
     apart : Abstract
     tie : Tie s' apart
-    right : Rightful-apart u apart c e r → Rightful-apart u h c e r
-    entry : (revision : ℕ) (content : Text) → Filed-as s e kind r revision content
-        → Filed-as s' e kind r revision content ⊎ (Committed s s' e kind r revision w × Rightful-apart u h c e r)
+    right : RightfulApart u apart c e r → RightfulApart u h c e r
+    entry : (revision : ℕ) (content : Text) → FiledAs s e kind r revision content
+        → FiledAs s' e kind r revision content ⊎ (Committed s s' e kind r revision w × RightfulApart u h c e r)
 
-  file-leaves : (s : Store) (h : Abstract) → Tie s h → (w : Path) (o : Outcome Store) → commit-file store u s c w ≡ done o → Left s h w o.state
+  file_leaves : (s : Store) (h : Abstract) → Tie s h → (w : Path) (o : Outcome Store) → commit_file store u s c w ≡ done o → Left s h w o.state
   unfolding Guarded
-  file-leaves s h t w o ran =
-      let a = done_first (file-agrees u c (kept_out u g v c n i) h t.kept w) (ap (λ x. commit-file store u x c w) (sym t.same) ∙ ran) in
+  file_leaves s h t w o ran =
+      let a = done_first (file_agrees u c (kept_out u g v c n i) h t.kept w) (ap (λ x. commit_file store u x c w) (sym t.same) ∙ ran) in
       record {
         apart = a.0.state;
         tie = a.2.state;
-        right = done-with (file-right u h c e r w) a.1;
+        right = done_with (file_right u h c e r w) a.1;
         entry = λ revision content stood.
-            let x = (map-eq-some_iff met (entry_of h e)).0 (sym (node-tied t e) ∙ stood) in
-            let y = met-role kind r revision content x.0 x.2 in
-            file-tied kind r revision content u (both-done u g v c n i t a.0 a.2.state) e y.0 (ap met (sym y.1) ∙ x.2) y.2
-            (done-with (file-guarded u h c e y.0 (x.1 ∙ ap some y.1) w) a.1);
+            let x = (map-eq-some_iff met (entry_of h e)).0 (sym (node_tied t e) ∙ stood) in
+            let y = met_role kind r revision content x.0 x.2 in
+            file_tied kind r revision content u (both_done u g v c n i t a.0 a.2.state) e y.0 (ap met (sym y.1) ∙ x.2) y.2
+            (done_with (file_guarded u h c e y.0 (x.1 ∙ ap some y.1) w) a.1);
       }
 
   -- the entry after several, one after another
   record Went (w : Path) (s : Store) (h : Abstract) (revision : ℕ) (content : Text) (s' : Store) : Type 0 where
     v' : ℕ
     content' : Text
-    filed : Filed-as s' e kind r v' content'
+    filed : FiledAs s' e kind r v' content'
     chain : Revised e kind r w s revision s' v'
-    how : ((v' ≡ revision) × (content' ≡ content)) ⊎ ((revision < v') × Rightful-apart u h c e r)
+    how : ((v' ≡ revision) × (content' ≡ content)) ⊎ ((revision < v') × RightfulApart u h c e r)
 
   -- one more in front of them
-  went_on : (w p : Path) → within w p ≡ true → {s t s' : Store} {h h' : Abstract} → (Rightful-apart u h' c e r → Rightful-apart u h c e r)
-      → {revision : ℕ} {content : Text} → Filed-as s e kind r revision content
-      → Filed-as t e kind r revision content ⊎ (Committed s t e kind r revision p × Rightful-apart u h c e r)
-      → ((revision' : ℕ) (content' : Text) → Filed-as t e kind r revision' content' → Went w t h' revision' content' s') → Went w s h revision content s'
+  went_on : (w p : Path) → within w p ≡ true → {s t s' : Store} {h h' : Abstract} → (RightfulApart u h' c e r → RightfulApart u h c e r)
+      → {revision : ℕ} {content : Text} → FiledAs s e kind r revision content
+      → FiledAs t e kind r revision content ⊎ (Committed s t e kind r revision p × RightfulApart u h c e r)
+      → ((revision' : ℕ) (content' : Text) → FiledAs t e kind r revision' content' → Went w t h' revision' content' s') → Went w s h revision content s'
   went_on w p l before {revision} {content} stood (inl k) rest =
       let x = rest revision content k in
       record {
@@ -118,63 +118,63 @@ module _ (u : Setup) (g : is-setup u ≡ true) (v : Uid) (c : Caller) (n : is-ro
       }
 
   abbrev single : Store → Path → Result (Outcome Store)
-  single s p = commit-file store u s c p
+  single s p = commit_file store u s c p
 
-  each-leaves : (w : Path) (ws : List Path) → every (within w) ws ≡ true → (s : Store) (h : Abstract) → Tie s h → (revision : ℕ) (content : Text)
-      → Filed-as s e kind r revision content → Went w s h revision content (commit-each single ws s).state
-  unfolding commit-each then-commits every
-  each-leaves w [] l s h t revision content stood = record { v' = revision; content' = content; filed = stood; chain = no_more; how = inl (refl, refl) }
-  each-leaves w (p ∷ ws) l s h t revision content stood =
+  each_leaves : (w : Path) (ws : List Path) → every (within w) ws ≡ true → (s : Store) (h : Abstract) → Tie s h → (revision : ℕ) (content : Text)
+      → FiledAs s e kind r revision content → Went w s h revision content (commit_each single ws s).state
+  unfolding commit_each then_commits every
+  each_leaves w [] l s h t revision content stood = record { v' = revision; content' = content; filed = stood; chain = no_more; how = inl (refl, refl) }
+  each_leaves w (p ∷ ws) l s h t revision content stood =
       let m = and_both (within w p) (every (within w) ws) l in
       by_result (single s p)
-      (λ why k. rw k (each-leaves w ws m.1 s h t revision content stood))
+      (λ why k. rw k (each_leaves w ws m.1 s h t revision content stood))
       (λ o k.
-      let f = file-leaves s h t p o k in
-      rw k (went_on w p m.0 f.right stood (f.entry revision content stood) (each-leaves w ws m.1 o.state f.apart f.tie)))
+      let f = file_leaves s h t p o k in
+      rw k (went_on w p m.0 f.right stood (f.entry revision content stood) (each_leaves w ws m.1 o.state f.apart f.tie)))
 
   -- a commit, of a file or of a directory
-  commit-changed : (s : Store) (h : Abstract) → Tie s h → (w : Path) (o : Outcome Store) → run store u s c (entry (commit w)) ≡ done o
-      → (revision : ℕ) (content : Text) → Filed-as s e kind r revision content
-      → Filed-as o.state e kind r revision content ⊎ (Change s o.state e kind r revision (entry (commit w)) × Rightful u s c e r)
-  unfolding run run-entry
-  commit-changed s h t w o ran revision content stood = ⊎_elim
-      (λ k. ⊎_elim inl (λ m. inr (by-commit m.0, rightful-tied u t c e r r refl m.1)) ((file-leaves s h t w o k).entry revision content stood))
+  commit_changed : (s : Store) (h : Abstract) → Tie s h → (w : Path) (o : Outcome Store) → run store u s c (entry (commit w)) ≡ done o
+      → (revision : ℕ) (content : Text) → FiledAs s e kind r revision content
+      → FiledAs o.state e kind r revision content ⊎ (Change s o.state e kind r revision (entry (commit w)) × Rightful u s c e r)
+  unfolding run run_entry
+  commit_changed s h t w o ran revision content stood = ⊎_elim
+      (λ k. ⊎_elim inl (λ m. inr (by_commit m.0, rightful_tied u t c e r r refl m.1)) ((file_leaves s h t w o k).entry revision content stood))
       (λ k.
-      let ws = files-below (by-modes c.account) w k.0.below in
-      let x = each-leaves w ws (files-within (by-modes c.account) w w k.0.below (lies_within itself)) s h t revision content stood in
+      let ws = files_below (by_modes c.account) w k.0.below in
+      let x = each_leaves w ws (files_within (by_modes c.account) w w k.0.below (lies_within itself)) s h t revision content stood in
       rw k.1 (⊎_elim
-      (λ m. inl (x.filed ∙ ap₂ (λ a b. some (entry-node kind r a b)) m.0 m.1))
-      (λ m. inr (by-directory x.chain m.0, rightful-tied u t c e r r refl m.1))
+      (λ m. inl (x.filed ∙ ap₂ (λ a b. some (entry_node kind r a b)) m.0 m.1))
+      (λ m. inr (by_directory x.chain m.0, rightful_tied u t c e r r refl m.1))
       x.how))
-      (commit-done store u c s w o ran)
+      (commit_done store u c s w o ran)
 
 -- a command is a commit or not
-commit-or-not : (command : Command) → ((w : Path) × (command ≡ entry (commit w))) ⊎ (is-commit command ≡ false)
-unfolding is-commit
-commit-or-not (shell command) = inr refl
-commit-or-not (account command) = inr refl
-commit-or-not (entry (add w e r)) = inr refl
-commit-or-not (entry (co e d)) = inr refl
-commit-or-not (entry (commit w)) = inl (w, refl)
-commit-or-not (entry (up w)) = inr refl
-commit-or-not (entry (del e)) = inr refl
+commit_or_not : (command : Command) → ((w : Path) × (command ≡ entry (commit w))) ⊎ (is_commit command ≡ false)
+unfolding is_commit
+commit_or_not (shell command) = inr refl
+commit_or_not (account command) = inr refl
+commit_or_not (entry (add w e r)) = inr refl
+commit_or_not (entry (co e d)) = inr refl
+commit_or_not (entry (commit w)) = inl (w, refl)
+commit_or_not (entry (up w)) = inr refl
+commit_or_not (entry (del e)) = inr refl
 
 -- an entry's node stays under a person's done command, or is changed by right
-pub stored-entry-changed : (u : Setup) (s : Store) → Reached-without-root u s → (v : Uid) (c : Caller) → is-root v ≡ false → caller u v ≡ done c
+pub stored_entry_changed : (u : Setup) (s : Store) → ReachedWithoutRoot u s → (v : Uid) (c : Caller) → is_root v ≡ false → caller u v ≡ done c
     → (command : Command) (o : Outcome Store) → run store u s c command ≡ done o
-    → (e : Entry-path) (kind : Kind) (r : Bounded-role) (revision : ℕ) (content : Text) → Filed-as s e kind r revision content
-    → Filed-as o.state e kind r revision content ⊎ (Change s o.state e kind r revision command × Rightful u s c e r)
-stored-entry-changed u s reached v c n i command o ran e kind r revision content stood = ⊎_elim
+    → (e : EntryPath) (kind : Kind) (r : BoundedRole) (revision : ℕ) (content : Text) → FiledAs s e kind r revision content
+    → FiledAs o.state e kind r revision content ⊎ (Change s o.state e kind r revision command × Rightful u s c e r)
+stored_entry_changed u s reached v c n i command o ran e kind r revision content stood = ⊎_elim
     (λ k.
-    let t = reached-tie u s reached in
-    let g = accepted-is-setup reached.reached.text u reached.reached.taken in
-    let m = commit-changed u g v c n i e kind r s t.0 t.1 k.0 o (rw k.1 at ran) revision content stood in
+    let t = reached_tie u s reached in
+    let g = accepted_is_setup reached.reached.text u reached.reached.taken in
+    let m = commit_changed u g v c n i e kind r s t.0 t.1 k.0 o (rw k.1 at ran) revision content stood in
     rw k.1 m)
     (λ k.
     let both = in_both u s reached v c n i command o ran in
     let b = both.0 in
-    let x = (map-eq-some_iff met (entry_of b.apart e)).0 (sym (node-tied b.tie e) ∙ stood) in
-    let y = met-role kind r revision content x.0 x.2 in
-    either-tied kind r revision content u b e y.0 (ap met (sym y.1) ∙ x.2) y.2 both.2
-    (entry-changed u b.apart c command k b.outcome both.1 e y.0 (x.1 ∙ ap some y.1)))
-    (commit-or-not command)
+    let x = (map-eq-some_iff met (entry_of b.apart e)).0 (sym (node_tied b.tie e) ∙ stood) in
+    let y = met_role kind r revision content x.0 x.2 in
+    either_tied kind r revision content u b e y.0 (ap met (sym y.1) ∙ x.2) y.2 both.2
+    (entry_changed u b.apart c command k b.outcome both.1 e y.0 (x.1 ∙ ap some y.1)))
+    (commit_or_not command)

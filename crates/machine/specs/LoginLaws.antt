@@ -3,29 +3,29 @@ use Rattle.std.specs.Prelude.{◌≡◌}
 use Rattle.std.proofs.Math.Option.{none, some}
 use Rattle.buffers.specs.Text.{Text}
 use Rattle.accounts.specs.declared.Caller.{Caller}
-use Rattle.accounts.specs.Dominance.{Bounded-role}
+use Rattle.accounts.specs.Dominance.{BoundedRole}
 use Rattle.setup.specs.Setup.{Setup}
 use Rattle.tree.specs.declared.Cause.TheVariants.{NoGrant}
 use Rattle.tree.specs.Result.{Result, done, ◌>>=◌, require, Outcome}
-use Rattle.tree.specs.ResultLaws.{then-bind, done-bind}
-use Rattle.store.specs.State.{Registry, set-session}
+use Rattle.tree.specs.ResultLaws.{then_bind, done_bind}
+use Rattle.store.specs.State.{Registry, set_session}
 use Rattle.store.specs.Callers.{granted}
-use Rattle.store.specs.Logins.{logged-in, logged-out}
-use Rattle.machine.specs.Machine.{Machine, run-login, run-logout}
+use Rattle.store.specs.Logins.{logged_in, logged_out}
+use Rattle.machine.specs.Machine.{Machine, run_login, run_logout}
 
 module _ {S A : Type 0} (M : Machine S A) (setup : Setup) (s : S) (c : Caller) where
   -- done without a text, with another registry
-  abbrev continued-with : Registry → Result (Outcome S)
-  continued-with registry = done (record { text = none; state = M.with-registry registry s })
+  abbrev continued_with : Registry → Result (Outcome S)
+  continued_with registry = done (record { text = none; state = M.with_registry registry s })
 
-  pub run-login-is : (z : Bounded-role) (password : Text)
-      → run-login M setup s c z password ≡ (logged-in setup (M.registry s) c.account.uid z password >>= continued-with)
-  unfolding run-login logged-in
-  run-login-is z password =
-      let after = set-session c.account.uid (some z) (M.registry s) in
+  pub run_login_is : (z : BoundedRole) (password : Text)
+      → run_login M setup s c z password ≡ (logged_in setup (M.registry s) c.account.uid z password >>= continued_with)
+  unfolding run_login logged_in
+  run_login_is z password =
+      let after = set_session c.account.uid (some z) (M.registry s) in
       let allowed = require (granted setup.grants c.account.uid z password) NoGrant in
-      rw (then-bind allowed (done after) continued-with, done-bind after continued-with)
+      rw (then_bind allowed (done after) continued_with, done_bind after continued_with)
 
-  pub run-logout-is : run-logout M setup s c ≡ (logged-out (M.registry s) c.account.uid >>= continued-with)
-  unfolding run-logout logged-out
-  run-logout-is = rw (done-bind (set-session c.account.uid none (M.registry s)) continued-with)
+  pub run_logout_is : run_logout M setup s c ≡ (logged_out (M.registry s) c.account.uid >>= continued_with)
+  unfolding run_logout logged_out
+  run_logout_is = rw (done_bind (set_session c.account.uid none (M.registry s)) continued_with)

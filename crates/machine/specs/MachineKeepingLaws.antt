@@ -12,293 +12,293 @@ use Rattle.accounts.specs.declared.Caller.{Caller}
 use Rattle.accounts.specs.declared.Uid.{Uid}
 use Rattle.accounts.specs.declared.Right.{Right}
 use Rattle.accounts.specs.declared.Right.TheVariants.{R, W}
-use Rattle.accounts.specs.Caller.{is-caller, caller-low}
-use Rattle.accounts.specs.Dominance.{Bounded-role}
+use Rattle.accounts.specs.Caller.{is_caller, caller_low}
+use Rattle.accounts.specs.Dominance.{BoundedRole}
 use Rattle.accounts.specs.Service.{service}
-use Rattle.syntax.specs.Path.{Path, ◌▹◌, Entry-path, parent, depth, in-rep, entry-location, is-path, is-entry-path, most-names, below-rep}
-use Rattle.syntax.specs.PathLaws.{entry-parts}
-use Rattle.commands.specs.Command.{line, Account-command, login, logout, cd, Entry-command, add, co, commit, up, del, Command, shell, account, entry}
-use Rattle.commands.specs.Command.{is-command-form, is-shell-command, is-account-form, is-account-command, is-entry-form, is-entry-command, is-command, is-typed-command, is-line}
-use Rattle.commands.specs.CommandLaws.{line-is-line}
-use Rattle.setup.specs.Setup.{Setup, is-setup}
-use Rattle.setup.specs.SetupLaws.{accepted-is-setup}
+use Rattle.syntax.specs.Path.{Path, ◌▹◌, EntryPath, parent, depth, in_rep, entry_location, is_path, is_entry_path, most_names, below_rep}
+use Rattle.syntax.specs.PathLaws.{entry_parts}
+use Rattle.commands.specs.Command.{line, AccountAction, login, logout, cd, EntryAction, add, co, commit, up, del, Command, shell, account, entry}
+use Rattle.commands.specs.Command.{is_command_form, is_shell_command, is_account_form, is_account_command, is_entry_form, is_entry_command, is_command, is_typed_command, is_line}
+use Rattle.commands.specs.CommandLaws.{line_is_line}
+use Rattle.setup.specs.Setup.{Setup, is_setup}
+use Rattle.setup.specs.SetupLaws.{accepted_is_setup}
 use Rattle.tree.specs.declared.Cause.TheVariants.{NoForm, Access, WrongKind, NotEmpty, Reserved, Full, NoGrant, Stale, Untagged, RevisionsSpent, TooDeep, ShortAnswer}
 use Rattle.tree.specs.Result.{Result, done, Outcome}
-use Rattle.tree.specs.ResultLaws.{present-some}
+use Rattle.tree.specs.ResultLaws.{present_some}
 use Rattle.tree.specs.Outcomes.{refuses, gives, Ensures}
-use Rattle.tree.specs.GivesLaws.{any-outcome, then-step, then-check, then-guard, then-do}
+use Rattle.tree.specs.GivesLaws.{any_outcome, then_step, then_check, then_guard, then_do}
 use Rattle.tree.specs.Forest.{Place, update, alter, leaf, size, height}
-use Rattle.tree.specs.Node.{is-directory, Tag, Node, set-tag, set-content}
-use Rattle.tree.specs.Walk.{Judge, by-modes, walk}
-use Rattle.tree.specs.WellFormed.{last-revision, is-node, is-tree}
-use Rattle.tree.specs.JudgeLaws.{kind-by-modes}
-use Rattle.tree.specs.StepLaws.{was-unused, parent-walked}
-use Rattle.tree.specs.RoomLaws.{room-found}
-use Rattle.tree.specs.PlaceLaws.{leaf-size}
-use Rattle.tree.specs.UpdateLaws.{leaf-height}
-use Rattle.tree.specs.NodeLaws.{last-revision-is, node-ranges, node-of-revision, node-of-tag, node-of-content, kind-of-set-revision, kind-of-set-tag, kind-of-set-content}
-use Rattle.tree.specs.WellFormedLaws.{place-node, leaf-place, entered-directory, walked-place, walked-depth}
-use Rattle.tree.specs.ChangeLaws.{keep-alter, keep-alter-all, keep-put, keep-drop}
+use Rattle.tree.specs.Node.{is_directory, Tag, Node, set_tag, set_content}
+use Rattle.tree.specs.Walk.{Judge, by_modes, walk}
+use Rattle.tree.specs.WellFormed.{last_revision, is_node, is_tree}
+use Rattle.tree.specs.JudgeLaws.{kind_by_modes}
+use Rattle.tree.specs.StepLaws.{was_unused, parent_walked}
+use Rattle.tree.specs.RoomLaws.{room_found}
+use Rattle.tree.specs.PlaceLaws.{leaf_size}
+use Rattle.tree.specs.UpdateLaws.{leaf_height}
+use Rattle.tree.specs.NodeLaws.{last_revision_is, node_ranges, node_of_revision, node_of_tag, node_of_content, kind_of_set_revision, kind_of_set_tag, kind_of_set_content}
+use Rattle.tree.specs.WellFormedLaws.{place_node, leaf_place, entered_directory, walked_place, walked_depth}
+use Rattle.tree.specs.ChangeLaws.{keep_alter, keep_alter_all, keep_put, keep_drop}
 use Rattle.copying.specs.Copying.{copy}
-use Rattle.copying.specs.CopyLaws.{copy-is-place}
-use Rattle.shell.specs.ShellKeepingLaws.{fit-most, room-keeps, run-shell-keeps}
+use Rattle.copying.specs.CopyLaws.{copy_is_place}
+use Rattle.shell.specs.ShellKeepingLaws.{fit_most, room_keeps, run_shell_keeps}
 use Rattle.shell.specs.Replies.{after}
 use Rattle.shell.specs.WholePathsLaws.{whole_in_range}
-use Rattle.store.specs.State.{Registry, set-session, is-registry, Store, state-of, well-formed}
+use Rattle.store.specs.State.{Registry, set_session, is_registry, Store, state_of, well_formed}
 use Rattle.store.specs.StateLaws.{parts, formed}
-use Rattle.store.specs.RegistryLaws.{working-directory-is-path, set-session-keeps, set-directory-keeps}
-use Rattle.store.specs.Initial.{initial-store}
-use Rattle.store.specs.InitialLaws.{initial-well-formed}
+use Rattle.store.specs.RegistryLaws.{working_directory_is_path, set_session_keeps, set_directory_keeps}
+use Rattle.store.specs.Initial.{initial_store}
+use Rattle.store.specs.InitialLaws.{initial_well_formed}
 use Rattle.store.specs.StoreBytes.{encode, decode}
-use Rattle.store.specs.StoreBytesLaws.{decode-encode}
+use Rattle.store.specs.StoreBytesLaws.{decode_encode}
 use Rattle.store.specs.Callers.{caller}
 use Rattle.machine.specs.Working.{Working}
-use Rattle.machine.specs.Machine.{source, run-login, run-logout, run-cd, run-add, run-co, working-file, original, commit-found, commit-file, run_up, run-del, run-account, run-entry, run}
-use Rattle.machine.specs.DirectoryCommitLaws.{commit-keeps-all}
-use Rattle.machine.specs.StoreMachine.{entry-node, next-node, store}
+use Rattle.machine.specs.Machine.{source, run_login, run_logout, run_cd, run_add, run_co, working_file, original, commit_found, commit_file, run_up, run_del, run_account, run_entry, run}
+use Rattle.machine.specs.DirectoryCommitLaws.{commit_keeps_all}
+use Rattle.machine.specs.StoreMachine.{entry_node, next_node, store}
 use Rattle.machine.specs.Runs.{Call, perform, step, runs}
 use Rattle.machine.specs.Observed.{Reached}
-use Rattle.machine.specs.CallerLaws.{caller-in-range}
-use Rattle.machine.specs.EntryRangeLaws.{entry-fits}
+use Rattle.machine.specs.CallerLaws.{caller_in_range}
+use Rattle.machine.specs.EntryRangeLaws.{entry_fits}
 
 -- ---- commands
 
-module _ (u : Setup) (g : is-setup u ≡ true) (s : Store) (w : well-formed (state-of u s) ≡ true) (c : Caller) where
+module _ (u : Setup) (g : is_setup u ≡ true) (s : Store) (w : well_formed (state_of u s) ≡ true) (c : Caller) where
   abbrev Keeps : Result (Outcome Store) → Type 0
-  Keeps r = Ensures (λ o. well-formed (state-of u o.state) ≡ true) r
+  Keeps r = Ensures (λ o. well_formed (state_of u o.state) ≡ true) r
 
-  tree : is-tree s.tree ≡ true
-  tree = (parts (state-of u s) w).tree
+  tree : is_tree s.tree ≡ true
+  tree = (parts (state_of u s) w).tree
 
-  registered : is-registry s.registry ≡ true
-  registered = (parts (state-of u s) w).registry
+  registered : is_registry s.registry ≡ true
+  registered = (parts (state_of u s) w).registry
 
   -- done with another well-formed tree
-  changed : (x : Option Text) (t : Place Node) → is-tree t ≡ true
+  changed : (x : Option Text) (t : Place Node) → is_tree t ≡ true
       → Keeps (done (record { text = x; state = record { tree = t; registry = s.registry } }))
   changed x t h = gives (formed u g (record { tree = t; registry = s.registry }) registered h)
 
   -- done with another well-formed registry
-  registry-set : (r : Registry) → is-registry r ≡ true → Keeps (done (record { text = none; state = record { tree = s.tree; registry = r } }))
-  registry-set r h = gives (formed u g (record { tree = s.tree; registry = r }) h tree)
+  registry_set : (r : Registry) → is_registry r ≡ true → Keeps (done (record { text = none; state = record { tree = s.tree; registry = r } }))
+  registry_set r h = gives (formed u g (record { tree = s.tree; registry = r }) h tree)
 
-  session-set : (z : Option Bounded-role)
-      → Keeps (done (record { text = none; state = record { tree = s.tree; registry = set-session c.account.uid z s.registry } }))
-  session-set z = registry-set _ (set-session-keeps s.registry c.account.uid z registered)
+  session_set : (z : Option BoundedRole)
+      → Keeps (done (record { text = none; state = record { tree = s.tree; registry = set_session c.account.uid z s.registry } }))
+  session_set z = registry_set _ (set_session_keeps s.registry c.account.uid z registered)
 
-  login-keeps : (z : Bounded-role) (password : Text) → Keeps (run-login store u s c z password)
-  unfolding run-login
-  login-keeps z password = then-check NoGrant tt _ λ _. session-set (some z)
+  login_keeps : (z : BoundedRole) (password : Text) → Keeps (run_login store u s c z password)
+  unfolding run_login
+  login_keeps z password = then_check NoGrant tt _ λ _. session_set (some z)
 
-  logout-keeps : Keeps (run-logout store u s c)
-  unfolding run-logout
-  logout-keeps = session-set none
+  logout_keeps : Keeps (run_logout store u s c)
+  unfolding run_logout
+  logout_keeps = session_set none
 
-  cd-keeps : (p : Path) → is-path p ≡ true → Keeps (run-cd store u s c p)
-  unfolding run-cd
-  cd-keeps p k =
-      then-do _ λ d _.
-      then-check WrongKind tt _ λ _.
-      then-check Access tt _ λ _.
-      registry-set _ (set-directory-keeps s.registry c.account.uid p registered k)
+  cd_keeps : (p : Path) → is_path p ≡ true → Keeps (run_cd store u s c p)
+  unfolding run_cd
+  cd_keeps p k =
+      then_do _ λ d _.
+      then_check WrongKind tt _ λ _.
+      then_check Access tt _ λ _.
+      registry_set _ (set_directory_keeps s.registry c.account.uid p registered k)
 
   -- the node where a walk leads is in range
-  node_at : (j : Judge Node) (p : Path) (d : Place Node) → walk j s.tree p ≡ done d → is-node d.here ≡ true
-  node_at j p d e = place-node d (walked-place j s.tree p d tree e)
+  node_at : (j : Judge Node) (p : Path) (d : Place Node) → walk j s.tree p ≡ done d → is_node d.here ≡ true
+  node_at j p d e = place_node d (walked_place j s.tree p d tree e)
 
   -- a tag in range put on whatever node lies at a path
-  tagged : (t : Place Node) → is-tree t ≡ true → (p : Path) (e : Entry-path) (v : ℕ) → is-entry-path e ≡ true → v ≤ 9999
-      → is-tree (update p (alter (set-tag (record { path = e; revision = v }))) t) ≡ true
+  tagged : (t : Place Node) → is_tree t ≡ true → (p : Path) (e : EntryPath) (v : ℕ) → is_entry_path e ≡ true → v ≤ 9999
+      → is_tree (update p (alter (set_tag (record { path = e; revision = v }))) t) ≡ true
   tagged t h p e v k l =
       let tag : Tag = record { path = e; revision = v } in
-      let i : leb v last-revision ≡ true = rw last-revision-is (le-leb v 9999 l) in
-      keep-alter-all t p (set-tag tag) h (λ x n. (node-of-tag tag x n k i, kind-of-set-tag tag x))
+      let i : leb v last_revision ≡ true = rw last_revision_is (le-leb v 9999 l) in
+      keep_alter_all t p (set_tag tag) h (λ x n. (node_of_tag tag x n k i, kind_of_set_tag tag x))
 
-  add-keeps : (p : Path) (e : Entry-path) (role : Bounded-role) → is-entry-path e ≡ true → Keeps (run-add store u s c p e role)
-  unfolding run-add below-rep in-rep parent
-  add-keeps p e role k =
-      then-do _ λ z _.
-      then-do _ λ d i.
-      then-check Reserved tt _ λ _.
-      then-check Access tt _ λ _.
-      then-check Reserved tt _ λ _.
-      then-do _ λ f l.
-      then-guard (any-outcome _) λ free.
-      then-check Access tt _ λ _.
-      then-check Full tt _ λ fits.
-      let j = by-modes (service u.pairs z) in
-      let to = parent-walked j s.tree (in-rep e.folder ▹ e.name) l in
-      let r = node-ranges d.here (node_at (by-modes c.account) p d i) in
-      let names = entry-parts e k in
-      let x = entry-node d.here.kind role 1 d.here.content in
-      changed none _ (tagged _ (keep-put j s.tree (in-rep e.folder) f e.name (leaf x) tree to.0
-      (entered-directory (service u.pairs z) f.here to.1) (was-unused e.name f.below free) names.0
-      (leaf-place x (entry-fits d.here.kind role d.here.content r.content r.bare))
-      (omega (arith, names.1, leaf-height x)) (omega (arith, leaf-size x, fit-most c 0 s.tree 1 fits))) p e 1 k (omega arith))
+  add_keeps : (p : Path) (e : EntryPath) (role : BoundedRole) → is_entry_path e ≡ true → Keeps (run_add store u s c p e role)
+  unfolding run_add below_rep in_rep parent
+  add_keeps p e role k =
+      then_do _ λ z _.
+      then_do _ λ d i.
+      then_check Reserved tt _ λ _.
+      then_check Access tt _ λ _.
+      then_check Reserved tt _ λ _.
+      then_do _ λ f l.
+      then_guard (any_outcome _) λ free.
+      then_check Access tt _ λ _.
+      then_check Full tt _ λ fits.
+      let j = by_modes (service u.pairs z) in
+      let to = parent_walked j s.tree (in_rep e.folder ▹ e.name) l in
+      let r = node_ranges d.here (node_at (by_modes c.account) p d i) in
+      let names = entry_parts e k in
+      let x = entry_node d.here.kind role 1 d.here.content in
+      changed none _ (tagged _ (keep_put j s.tree (in_rep e.folder) f e.name (leaf x) tree to.0
+      (entered_directory (service u.pairs z) f.here to.1) (was_unused e.name f.below free) names.0
+      (leaf_place x (entry_fits d.here.kind role d.here.content r.content r.bare))
+      (omega (arith, names.1, leaf_height x)) (omega (arith, leaf_size x, fit_most c 0 s.tree 1 fits))) p e 1 k (omega arith))
 
-  co-keeps : is-caller c ≡ true → (e : Entry-path) (p : Path) → is-entry-path e ≡ true → is-path p ≡ true → Keeps (run-co store u s c e p)
-  unfolding run-co most-names below-rep in-rep entry-location
-  co-keeps o e p k i =
-      then-do _ λ z _.
-      then-do _ λ f r.
-      then-do _ λ d a.
-      then-check Access tt _ λ _.
-      then-check TooDeep tt _ λ l.
-      then-check Full tt _ λ fits.
-      let j = by-modes (service u.pairs z) in
+  co_keeps : is_caller c ≡ true → (e : EntryPath) (p : Path) → is_entry_path e ≡ true → is_path p ≡ true → Keeps (run_co store u s c e p)
+  unfolding run_co most_names below_rep in_rep entry_location
+  co_keeps o e p k i =
+      then_do _ λ z _.
+      then_do _ λ f r.
+      then_do _ λ d a.
+      then_check Access tt _ λ _.
+      then_check TooDeep tt _ λ l.
+      then_check Full tt _ λ fits.
+      let j = by_modes (service u.pairs z) in
       let x = copy c (source store j) f.here e d in
-      changed none _ (room-keeps c 0 s.tree p f x tree i r
-      (copy-is-place c o (service u.pairs z) f.here e d (node_at (by-modes c.account) (parent p) f (room-found c.account s.tree p r).led)
-      k (walked-place j s.tree (entry-location e) d tree a) (walked-depth j s.tree (entry-location e) d tree a))
-      (leb-true (depth p + height x.below) 6 l) (fit-most c 0 s.tree (suc (size x.below)) fits))
+      changed none _ (room_keeps c 0 s.tree p f x tree i r
+      (copy_is_place c o (service u.pairs z) f.here e d (node_at (by_modes c.account) (parent p) f (room_found c.account s.tree p r).led)
+      k (walked_place j s.tree (entry_location e) d tree a) (walked_depth j s.tree (entry_location e) d tree a))
+      (leb-true (depth p + height x.below) 6 l) (fit_most c 0 s.tree (suc (size x.below)) fits))
 
-  del-keeps : (e : Entry-path) → Keeps (run-del store u s c e)
-  unfolding run-del
-  del-keeps e =
-      then-do _ λ z _.
-      then-do _ λ d _.
-      then-check Access tt _ λ _.
-      then-do _ λ f _.
-      then-check Access tt _ λ _.
-      then-check NotEmpty tt _ λ _.
-      changed none _ (keep-drop s.tree (in-rep e.folder) e.name tree)
+  del_keeps : (e : EntryPath) → Keeps (run_del store u s c e)
+  unfolding run_del
+  del_keeps e =
+      then_do _ λ z _.
+      then_do _ λ d _.
+      then_check Access tt _ λ _.
+      then_do _ λ f _.
+      then_check Access tt _ λ _.
+      then_check NotEmpty tt _ λ _.
+      changed none _ (keep_drop s.tree (in_rep e.folder) e.name tree)
 
   -- a working file is where the walk leads, with its tag
   abbrev Worked : Path → Working → Type 0
-  Worked p k = (d : Place Node) × (walk (by-modes c.account) s.tree p ≡ done d) × (k.node ≡ d.here) × (is-directory d.here.kind ≡ false) × (d.here.tag ≡ some k.tag)
+  Worked p k = (d : Place Node) × (walk (by_modes c.account) s.tree p ≡ done d) × (k.node ≡ d.here) × (is_directory d.here.kind ≡ false) × (d.here.tag ≡ some k.tag)
 
-  worked : (right : Right) (p : Path) (d : Place Node) → walk (by-modes c.account) s.tree p ≡ done d → Ensures (Worked p) (working-file store u s c right d)
-  unfolding working-file
+  worked : (right : Right) (p : Path) (d : Place Node) → walk (by_modes c.account) s.tree p ≡ done d → Ensures (Worked p) (working_file store u s c right d)
+  unfolding working_file
   worked right p d e =
-      then-check WrongKind tt _ λ b.
-      then-check Access tt _ λ _.
-      then-do _ λ t i.
-      gives (d, e, refl, not-true (is-directory d.here.kind) b, present-some d.here.tag Untagged i)
+      then_check WrongKind tt _ λ b.
+      then_check Access tt _ λ _.
+      then_do _ λ t i.
+      gives (d, e, refl, not-true (is_directory d.here.kind) b, present_some d.here.tag Untagged i)
 
   -- its original is a file where the account's walk leads
-  abbrev Filed : Bounded-role → Entry-path → Place Node → Type 0
-  Filed z e d = (walk (by-modes (service u.pairs z)) s.tree (in-rep (below-rep e)) ≡ done d) × (is-directory d.here.kind ≡ false)
+  abbrev Filed : BoundedRole → EntryPath → Place Node → Type 0
+  Filed z e d = (walk (by_modes (service u.pairs z)) s.tree (in_rep (below_rep e)) ≡ done d) × (is_directory d.here.kind ≡ false)
 
-  filed : (z : Bounded-role) (e : Entry-path) → Ensures (Filed z e) (original store u s c z e)
+  filed : (z : BoundedRole) (e : EntryPath) → Ensures (Filed z e) (original store u s c z e)
   unfolding original
   filed z e =
-      then-do _ λ d i.
-      then-check WrongKind tt _ λ b.
-      then-check Access tt _ λ _.
-      gives (i, not-true (is-directory d.here.kind) (rw (kind-by-modes (service u.pairs z) d.here) at b))
+      then_do _ λ d i.
+      then_check WrongKind tt _ λ b.
+      then_check Access tt _ λ _.
+      gives (i, not-true (is_directory d.here.kind) (rw (kind_by_modes (service u.pairs z) d.here) at b))
 
-  up-keeps : (p : Path) → Keeps (run_up store u s c p)
+  up_keeps : (p : Path) → Keeps (run_up store u s c p)
   unfolding run_up
-  up-keeps p =
-      then-do _ λ z _.
-      then-do _ λ x led.
-      then-step (worked W p x led) λ k h.
-      then-step (filed z k.tag.path) λ a i.
-      let j = by-modes (service u.pairs z) in
+  up_keeps p =
+      then_do _ λ z _.
+      then_do _ λ x led.
+      then_step (worked W p x led) λ k h.
+      then_step (filed z k.tag.path) λ a i.
+      let j = by_modes (service u.pairs z) in
       let d = h.0 in
-      let n = node_at (by-modes c.account) p d h.1 in
-      let r = node-ranges a.here (node_at j (in-rep (below-rep k.tag.path)) a i.0) in
+      let n = node_at (by_modes c.account) p d h.1 in
+      let r = node_ranges a.here (node_at j (in_rep (below_rep k.tag.path)) a i.0) in
       let tag : Tag = record { path = k.tag.path; revision = a.here.revision } in
       let content = a.here.content in
-      let x = set-tag tag d.here in
-      changed none _ (keep-alter (by-modes c.account) s.tree p d (λ y. set-content content (set-tag tag y)) tree h.1
-      (node-of-content content x (node-of-tag tag d.here n ((node-ranges d.here n).tag k.tag h.4).0 r.revision)
-      (ap is-directory (kind-of-set-tag tag d.here) ∙ h.3) r.content)
-      (kind-of-set-content content x ∙ kind-of-set-tag tag d.here))
+      let x = set_tag tag d.here in
+      changed none _ (keep_alter (by_modes c.account) s.tree p d (λ y. set_content content (set_tag tag y)) tree h.1
+      (node_of_content content x (node_of_tag tag d.here n ((node_ranges d.here n).tag k.tag h.4).0 r.revision)
+      (ap is_directory (kind_of_set_tag tag d.here) ∙ h.3) r.content)
+      (kind_of_set_content content x ∙ kind_of_set_tag tag d.here))
 
   -- a single commit, of any caller
-  pub file-keeps : (p : Path) → Keeps (commit-file store u s c p)
-  unfolding commit-file commit-found entry-location below-rep in-rep next-node
-  file-keeps p =
-      then-do _ λ z _.
-      then-do _ λ x led.
-      then-step (worked R p x led) λ k h.
-      then-step (filed z k.tag.path) λ a i.
-      then-do _ λ f _.
-      then-check Access tt _ λ _.
-      then-check Stale tt _ λ _.
-      then-check RevisionsSpent tt _ λ b.
-      let j = by-modes (service u.pairs z) in
+  pub file_keeps : (p : Path) → Keeps (commit_file store u s c p)
+  unfolding commit_file commit_found entry_location below_rep in_rep next_node
+  file_keeps p =
+      then_do _ λ z _.
+      then_do _ λ x led.
+      then_step (worked R p x led) λ k h.
+      then_step (filed z k.tag.path) λ a i.
+      then_do _ λ f _.
+      then_check Access tt _ λ _.
+      then_check Stale tt _ λ _.
+      then_check RevisionsSpent tt _ λ b.
+      let j = by_modes (service u.pairs z) in
       let d = h.0 in
-      let r = node-ranges d.here (node_at (by-modes c.account) p d h.1) in
+      let r = node_ranges d.here (node_at (by_modes c.account) p d h.1) in
       let e = k.tag.path in
-      let n = node_at j (in-rep (below-rep e)) a i.0 in
+      let n = node_at j (in_rep (below_rep e)) a i.0 in
       let content = k.node.content in
       let v = a.here.revision in
-      let x = set-content content a.here in
-      let l : suc v ≤ 9999 = omega (arith, leb-true v 9999 (rw last-revision-is at (node-ranges a.here n).revision), eqb-false v 9999 (not-true (eqb v 9999) (rw last-revision-is at b))) in
-      changed none _ (tagged _ (keep-alter j s.tree (entry-location e) a (next-node content) tree i.0
-      (node-of-revision (suc v) x (node-of-content content a.here n i.1 (rw h.2 r.content)) (rw last-revision-is (le-leb (suc v) 9999 l)))
-      (kind-of-set-revision (suc v) x ∙ kind-of-set-content content a.here)) p e (suc v) (r.tag k.tag h.4).0 l)
+      let x = set_content content a.here in
+      let l : suc v ≤ 9999 = omega (arith, leb-true v 9999 (rw last_revision_is at (node_ranges a.here n).revision), eqb-false v 9999 (not-true (eqb v 9999) (rw last_revision_is at b))) in
+      changed none _ (tagged _ (keep_alter j s.tree (entry_location e) a (next_node content) tree i.0
+      (node_of_revision (suc v) x (node_of_content content a.here n i.1 (rw h.2 r.content)) (rw last_revision_is (le-leb (suc v) 9999 l)))
+      (kind_of_set_revision (suc v) x ∙ kind_of_set_content content a.here)) p e (suc v) (r.tag k.tag h.4).0 l)
 
-  account-keeps : (command : Account-command) → is-account-command command ≡ true → Keeps (run-account store u s c command)
-  unfolding run-account is-account-command is-account-form
-  account-keeps (login z password) k = login-keeps z password
-  account-keeps logout k = logout-keeps
-  account-keeps (cd p) k = cd-keeps p k
+  account_keeps : (command : AccountAction) → is_account_command command ≡ true → Keeps (run_account store u s c command)
+  unfolding run_account is_account_command is_account_form
+  account_keeps (login z password) k = login_keeps z password
+  account_keeps logout k = logout_keeps
+  account_keeps (cd p) k = cd_keeps p k
 
-module _ (u : Setup) (g : is-setup u ≡ true) (s : Store) (w : well-formed (state-of u s) ≡ true) (c : Caller) (o : is-caller c ≡ true) where
-  entry-keeps : (command : Entry-command) → is-entry-command command ≡ true → Keeps u g s w c (run-entry store u s c command)
-  unfolding run-entry is-entry-command is-entry-form
-  entry-keeps (add p e role) k = add-keeps u g s w c p e role (and_both (is-path p) (is-entry-path e) k).1
-  entry-keeps (co e p) k = let i = and_both (is-entry-path e) (is-path p) k in co-keeps u g s w c o e p i.0 i.1
-  entry-keeps (commit p) k = commit-keeps-all store u c (λ t. well-formed (state-of u t) ≡ true) (λ t h q. file-keeps u g t h c q) s w p
-  entry-keeps (up p) k = up-keeps u g s w c p
-  entry-keeps (del e) k = del-keeps u g s w c e
+module _ (u : Setup) (g : is_setup u ≡ true) (s : Store) (w : well_formed (state_of u s) ≡ true) (c : Caller) (o : is_caller c ≡ true) where
+  entry_keeps : (command : EntryAction) → is_entry_command command ≡ true → Keeps u g s w c (run_entry store u s c command)
+  unfolding run_entry is_entry_command is_entry_form
+  entry_keeps (add p e role) k = add_keeps u g s w c p e role (and_both (is_path p) (is_entry_path e) k).1
+  entry_keeps (co e p) k = let i = and_both (is_entry_path e) (is_path p) k in co_keeps u g s w c o e p i.0 i.1
+  entry_keeps (commit p) k = commit_keeps_all store u c (λ t. well_formed (state_of u t) ≡ true) (λ t h q. file_keeps u g t h c q) s w p
+  entry_keeps (up p) k = up_keeps u g s w c p
+  entry_keeps (del e) k = del_keeps u g s w c e
 
   -- a command of a caller in range keeps the store well-formed
-  run-keeps : (command : Command) → is-command command ≡ true → Ensures (λ o. well-formed (state-of u o.state) ≡ true) (run store u s c command)
-  unfolding run is-command is-command-form is-shell-command is-account-command is-entry-command
-  run-keeps (shell command) k =
-      then-step (run-shell-keeps c 0 s.tree o (tree u g s w c) command k) λ x h. changed u g s w c x.text x.state h
-  run-keeps (account command) k = account-keeps u g s w c command k
-  run-keeps (entry command) k = entry-keeps command k
+  run_keeps : (command : Command) → is_command command ≡ true → Ensures (λ o. well_formed (state_of u o.state) ≡ true) (run store u s c command)
+  unfolding run is_command is_command_form is_shell_command is_account_command is_entry_command
+  run_keeps (shell command) k =
+      then_step (run_shell_keeps c 0 s.tree o (tree u g s w c) command k) λ x h. changed u g s w c x.text x.state h
+  run_keeps (account command) k = account_keeps u g s w c command k
+  run_keeps (entry command) k = entry_keeps command k
 
 -- ---- calls
 
 -- who calls is in range
-caller-fits : (u : Setup) → is-setup u ≡ true → (v : Uid) (c : Caller) → caller u v ≡ done c → is-caller c ≡ true
-caller-fits u g v c h =
-    let i = caller-in-range u g v c h in
-    caller-low c (omega (arith, ltb-true c.account.uid.0 16 i.0)) (omega (arith, ltb-true c.primary.0 16 i.1))
+caller_fits : (u : Setup) → is_setup u ≡ true → (v : Uid) (c : Caller) → caller u v ≡ done c → is_caller c ≡ true
+caller_fits u g v c h =
+    let i = caller_in_range u g v c h in
+    caller_low c (omega (arith, ltb-true c.account.uid.0 16 i.0)) (omega (arith, ltb-true c.primary.0 16 i.1))
 
 -- what holds before a call and is gives of it holds after it
-after-keeps : (P : Store → Type 0) {r : Result (Outcome Store)} (s : Store) → P s → Ensures (λ o. P o.state) r → P (after s r)
+after_keeps : (P : Store → Type 0) {r : Result (Outcome Store)} (s : Store) → P s → Ensures (λ o. P o.state) r → P (after s r)
 unfolding after
-after-keeps P s h (refuses r) = h
-after-keeps P s h (gives k) = k
+after_keeps P s h (refuses r) = h
+after_keeps P s h (gives k) = k
 
 -- a line of any bytes keeps the store well-formed
-pub perform-keeps : (u : Setup) → is-setup u ≡ true → (s : Store) → well-formed (state-of u s) ≡ true → (t : Text)
-    → Ensures (λ o. well-formed (state-of u o.state) ≡ true) (perform store u s t)
-unfolding perform is-line
-perform-keeps u g s w t =
-    then-do _ λ l e.
-    then-do _ λ c f.
-    then-do _ λ command h.
-    let i = and_both (ltb l.caller.0 24) (is-typed-command l.command) (line-is-line t l (present-some (line t) NoForm e)) in
-    let q = working-directory-is-path s.registry l.caller (parts (state-of u s) w).registry in
-    run-keeps u g s w c (caller-fits u g l.caller c f) command (whole_in_range _ l.command h q i.1)
+pub perform_keeps : (u : Setup) → is_setup u ≡ true → (s : Store) → well_formed (state_of u s) ≡ true → (t : Text)
+    → Ensures (λ o. well_formed (state_of u o.state) ≡ true) (perform store u s t)
+unfolding perform is_line
+perform_keeps u g s w t =
+    then_do _ λ l e.
+    then_do _ λ c f.
+    then_do _ λ command h.
+    let i = and_both (ltb l.caller.0 24) (is_typed_command l.command) (line_is_line t l (present_some (line t) NoForm e)) in
+    let q = working_directory_is_path s.registry l.caller (parts (state_of u s) w).registry in
+    run_keeps u g s w c (caller_fits u g l.caller c f) command (whole_in_range _ l.command h q i.1)
 
 -- so does a call
-pub step_keeps : (u : Setup) → is-setup u ≡ true → (s : Store) → well-formed (state-of u s) ≡ true → (call : Call)
-    → well-formed (state-of u (after s (step store u s call))) ≡ true
+pub step_keeps : (u : Setup) → is_setup u ≡ true → (s : Store) → well_formed (state_of u s) ≡ true → (call : Call)
+    → well_formed (state_of u (after s (step store u s call))) ≡ true
 unfolding step
-step_keeps u g s w call = after-keeps (λ t. well-formed (state-of u t) ≡ true) s w (then-check ShortAnswer tt _ λ _. perform-keeps u g s w call.line)
+step_keeps u g s w call = after_keeps (λ t. well_formed (state_of u t) ≡ true) s w (then_check ShortAnswer tt _ λ _. perform_keeps u g s w call.line)
 
 -- and a list of calls
-pub runs-keep : (u : Setup) → is-setup u ≡ true → (s : Store) → well-formed (state-of u s) ≡ true → (calls : List Call)
-    → well-formed (state-of u (runs store u s calls).state) ≡ true
+pub runs_keep : (u : Setup) → is_setup u ≡ true → (s : Store) → well_formed (state_of u s) ≡ true → (calls : List Call)
+    → well_formed (state_of u (runs store u s calls).state) ≡ true
 unfolding runs
-runs-keep u g s w [] = w
-runs-keep u g s w (call ∷ calls) = runs-keep u g (after s (step store u s call)) (step_keeps u g s w call) calls
+runs_keep u g s w [] = w
+runs_keep u g s w (call ∷ calls) = runs_keep u g (after s (step store u s call)) (step_keeps u g s w call) calls
 
 -- a store reached from the initial one is well-formed
-pub reached-well-formed : (u : Setup) (s : Store) → Reached u s → well-formed (state-of u s) ≡ true
-reached-well-formed u s r =
-    let g = accepted-is-setup r.text u r.taken in
-    rw r.state (runs-keep u g (initial-store u) (initial-well-formed u g) r.calls)
+pub reached_well_formed : (u : Setup) (s : Store) → Reached u s → well_formed (state_of u s) ≡ true
+reached_well_formed u s r =
+    let g = accepted_is_setup r.text u r.taken in
+    rw r.state (runs_keep u g (initial_store u) (initial_well_formed u g) r.calls)
 
 -- and read back from its bytes
-pub reached-decodes : (u : Setup) (s : Store) → Reached u s → decode (encode (state-of u s)) ≡ some (state-of u s)
-reached-decodes u s r = decode-encode (state-of u s) (reached-well-formed u s r)
+pub reached_decodes : (u : Setup) (s : Store) → Reached u s → decode (encode (state_of u s)) ≡ some (state_of u s)
+reached_decodes u s r = decode_encode (state_of u s) (reached_well_formed u s r)

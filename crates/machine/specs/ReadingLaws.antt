@@ -9,205 +9,205 @@ use Rattle.buffers.specs.Cases.{and_both}
 use Rattle.buffers.specs.Text.{every}
 use Rattle.accounts.specs.declared.Role.{Role}
 use Rattle.accounts.specs.declared.Pair.{Pair}
-use Rattle.accounts.specs.Dominance.{Bounded-role, Listed, Dominates, self, down, Falling, all-fall-is, dominates-is, dominates-self, dominates-trans}
+use Rattle.accounts.specs.Dominance.{BoundedRole, Listed, Dominates, self, down, Falling, all_fall_is, dominates_is, dominates_self, dominates_trans}
 use Rattle.syntax.specs.Pieces.{bytes}
-use Rattle.syntax.specs.Path.{Path, Entry-path, root, ◌▹◌, depth, rep, in-rep, name-byte, is_name}
-use Rattle.syntax.specs.Field.{is-content}
-use Rattle.setup.specs.Setup.{Setup, is-setup}
-use Rattle.setup.specs.SetupLaws.{pairs-fall}
+use Rattle.syntax.specs.Path.{Path, EntryPath, root, ◌▹◌, depth, rep, in_rep, name_byte, is_name}
+use Rattle.syntax.specs.Field.{is_content}
+use Rattle.setup.specs.Setup.{Setup, is_setup}
+use Rattle.setup.specs.SetupLaws.{pairs_fall}
 use Rattle.tree.specs.declared.Kind.{Kind}
 use Rattle.tree.specs.declared.Kind.TheVariants.{File}
 use Rattle.tree.specs.Result.{done}
-use Rattle.tree.specs.AgreeLaws.{done_first, done-second}
-use Rattle.tree.specs.Forest.{no-nodes, Place, get, insert, update-forest, leaf, map-place}
-use Rattle.tree.specs.Node.{is-directory, Node}
+use Rattle.tree.specs.AgreeLaws.{done_first, done_second}
+use Rattle.tree.specs.Forest.{no_nodes, Place, get, insert, update_forest, leaf, map_place}
+use Rattle.tree.specs.Node.{is_directory, Node}
 use Rattle.tree.specs.Walk.{enter, walk}
-use Rattle.tree.specs.StepLaws.{walk-root, walks-on, walk_more, enters}
-use Rattle.tree.specs.JudgeLaws.{directory-is-one}
-use Rattle.tree.specs.ForestLaws.{get-nil, get-insert, get-map, leaf-map}
-use Rattle.tree.specs.RootedLaws.{rooted-here, rooted-below, update-forest-root}
-use Rattle.tree.specs.PlaceLaws.{leaf-here, leaf-below, leaf-size}
-use Rattle.tree.specs.UpdateLaws.{leaf-height}
-use Rattle.tree.specs.WellFormedLaws.{leaf-place}
-use Rattle.tree.specs.ChangeLaws.{keep-put}
-use Rattle.tree.specs.MapLaws.{map-here}
-use Rattle.store.specs.State.{state-of, well-formed}
+use Rattle.tree.specs.StepLaws.{walk_root, walks_on, walk_more, enters}
+use Rattle.tree.specs.JudgeLaws.{directory_is_one}
+use Rattle.tree.specs.ForestLaws.{get_nil, get_insert, get_map, leaf_map}
+use Rattle.tree.specs.RootedLaws.{rooted_here, rooted_below, update_forest_root}
+use Rattle.tree.specs.PlaceLaws.{leaf_here, leaf_below, leaf_size}
+use Rattle.tree.specs.UpdateLaws.{leaf_height}
+use Rattle.tree.specs.WellFormedLaws.{leaf_place}
+use Rattle.tree.specs.ChangeLaws.{keep_put}
+use Rattle.tree.specs.MapLaws.{map_here}
+use Rattle.store.specs.State.{state_of, well_formed}
 use Rattle.store.specs.StateLaws.{parts, formed}
-use Rattle.store.specs.Initial.{directory-of, rep-node, initial-store}
-use Rattle.store.specs.InitialLaws.{initial-few, initial-well-formed}
-use Rattle.machine.specs.StoreMachine.{entry-node, store}
-use Rattle.machine.specs.AbstractMachine.{Entry, Abstract, Filed, top, an-entry, dominated, filed-kind, filed-passes, filed-readable, filed-writable, by-dominance, new-entry, initial-abstract}
+use Rattle.store.specs.Initial.{directory_of, rep_node, initial_store}
+use Rattle.store.specs.InitialLaws.{initial_few, initial_well_formed}
+use Rattle.machine.specs.StoreMachine.{entry_node, store}
+use Rattle.machine.specs.AbstractMachine.{Entry, Abstract, Filed, top, an_entry, dominated, filed_kind, filed_passes, filed_readable, filed_writable, by_dominance, new_entry, initial_abstract}
 use Rattle.machine.specs.AbstractInstance.{abstract}
 use Rattle.machine.specs.Embedding.{met, embed}
-use Rattle.machine.specs.EntryJudgeLaws.{passes-law, readable-law, writable-law}
-use Rattle.machine.specs.EntryRangeLaws.{entry-fits}
+use Rattle.machine.specs.EntryJudgeLaws.{passes_law, readable_law, writable_law}
+use Rattle.machine.specs.EntryRangeLaws.{entry_fits}
 use Rattle.machine.specs.Simulation.{Kept, Tie}
-use Rattle.machine.specs.SimulationLaws.{stored-is-met, account-walk}
-use Rattle.machine.specs.TieLaws.{file-tie}
-use Rattle.machine.specs.ComparedLaws.{stored-none, initial-tie}
-use Rattle.machine.specs.EntryAccess.{May-read, Reads-all, More-pairs}
+use Rattle.machine.specs.SimulationLaws.{stored_is_met, account_walk}
+use Rattle.machine.specs.TieLaws.{file_tie}
+use Rattle.machine.specs.ComparedLaws.{stored_none, initial_tie}
+use Rattle.machine.specs.EntryAccess.{MayRead, ReadsAll, MorePairs}
 
 -- ---- dominance
 
 -- the pairs of a setup in range lead down
-setup-falls : (u : Setup) → is-setup u ≡ true → Falling u.pairs
-setup-falls u s = all-fall-is u.pairs (pairs-fall u s)
+setup_falls : (u : Setup) → is_setup u ≡ true → Falling u.pairs
+setup_falls u s = all_fall_is u.pairs (pairs_fall u s)
 
-role-bound : (z : Bounded-role) → z.role.0 ≤ 7
-role-bound z = omega (arith, ltb-true z.role.0 8 z.bound)
+role_bound : (z : BoundedRole) → z.role.0 ≤ 7
+role_bound z = omega (arith, ltb-true z.role.0 8 z.bound)
 
 wider : {ps qs : List Pair} → ((s j : Role) → Listed s j ps → Listed s j qs) → {s r : Role} → Dominates ps s r → Dominates qs s r
 wider more self = self
 wider more (down {s = s} {j = j} l d) = down (more s j l) (wider more d)
 
 -- what a role dominates by some pairs it dominates by more
-more-dominates : (u u' : Setup) → is-setup u ≡ true → is-setup u' ≡ true → More-pairs u u'
-    → (a b : Bounded-role) → dominated u a b ≡ true → dominated u' a b ≡ true
-unfolding More-pairs dominated
-more-dominates u u' s s' more a b d =
-    (dominates-is u'.pairs (setup-falls u' s') a.role b.role (role-bound b)).1
-    (wider more ((dominates-is u.pairs (setup-falls u s) a.role b.role (role-bound b)).0 d))
+more_dominates : (u u' : Setup) → is_setup u ≡ true → is_setup u' ≡ true → MorePairs u u'
+    → (a b : BoundedRole) → dominated u a b ≡ true → dominated u' a b ≡ true
+unfolding MorePairs dominated
+more_dominates u u' s s' more a b d =
+    (dominates_is u'.pairs (setup_falls u' s') a.role b.role (role_bound b)).1
+    (wider more ((dominates_is u.pairs (setup_falls u s) a.role b.role (role_bound b)).0 d))
 
 -- ---- judges
 
-module _ (u u' : Setup) (a a' : Bounded-role) (more : (r : Bounded-role) → dominated u a r ≡ true → dominated u' a' r ≡ true) where
-  directory-more : (k : Kind) (r : Bounded-role) → (is-directory k && dominated u a r) ≡ true → (is-directory k && dominated u' a' r) ≡ true
-  directory-more k r h = let w = and_both (is-directory k) (dominated u a r) h in rw w.0 (more r w.1)
+module _ (u u' : Setup) (a a' : BoundedRole) (more : (r : BoundedRole) → dominated u a r ≡ true → dominated u' a' r ≡ true) where
+  directory_more : (k : Kind) (r : BoundedRole) → (is_directory k && dominated u a r) ≡ true → (is_directory k && dominated u' a' r) ≡ true
+  directory_more k r h = let w = and_both (is_directory k) (dominated u a r) h in rw w.0 (more r w.1)
 
-  passes-more : (x : Filed) → (by-dominance u a).passes x ≡ true → (by-dominance u' a').passes x ≡ true
-  unfolding by-dominance filed-passes
-  passes-more top h = h
-  passes-more (an-entry x) h = directory-more x.kind x.role h
+  passes_more : (x : Filed) → (by_dominance u a).passes x ≡ true → (by_dominance u' a').passes x ≡ true
+  unfolding by_dominance filed_passes
+  passes_more top h = h
+  passes_more (an_entry x) h = directory_more x.kind x.role h
 
-  readable-apart : (x : Filed) → (by-dominance u a).readable x ≡ true → (by-dominance u' a').readable x ≡ true
-  unfolding by-dominance filed-readable
-  readable-apart top h = h
-  readable-apart (an-entry x) h = more x.role h
+  readable_apart : (x : Filed) → (by_dominance u a).readable x ≡ true → (by_dominance u' a').readable x ≡ true
+  unfolding by_dominance filed_readable
+  readable_apart top h = h
+  readable_apart (an_entry x) h = more x.role h
 
-  readable-more : (x : Filed) → (store.judge u a).readable (met x) ≡ true → (store.judge u' a').readable (met x) ≡ true
-  readable-more x h = rw (readable-law u' a' x) (readable-apart x (rw (readable-law u a x) at h))
+  readable_more : (x : Filed) → (store.judge u a).readable (met x) ≡ true → (store.judge u' a').readable (met x) ≡ true
+  readable_more x h = rw (readable_law u' a' x) (readable_apart x (rw (readable_law u a x) at h))
 
-  kind-same : (x : Filed) → (by-dominance u' a').kind x ≡ (by-dominance u a).kind x
-  unfolding by-dominance
-  kind-same x = refl
+  kind_same : (x : Filed) → (by_dominance u' a').kind x ≡ (by_dominance u a).kind x
+  unfolding by_dominance
+  kind_same x = refl
 
   -- who dominates no less may read no less
-  reads_more : (h : Abstract) → Kept h → (p : Path) (d : Place Node) → May-read u a (embed h) p d → May-read u' a' (embed h) p d
+  reads_more : (h : Abstract) → Kept h → (p : Path) (d : Place Node) → MayRead u a (embed h) p d → MayRead u' a' (embed h) p d
   reads_more h k p d m =
-      let w = done_first (account-walk u a h k p) m.walks in
+      let w = done_first (account_walk u a h k p) m.walks in
       let e = w.0 in
-      let v = done-second (account-walk u' a' h k p) (walk_more (by-dominance u a) (by-dominance u' a') kind-same passes-more (abstract.entries h) p e w.1) in
-      let q : d ≡ map-place met e = w.2 in
-      let here : d.here ≡ met e.here = ap (λ x. x.here) q ∙ map-here met e in
+      let v = done_second (account_walk u' a' h k p) (walk_more (by_dominance u a) (by_dominance u' a') kind_same passes_more (abstract.entries h) p e w.1) in
+      let q : d ≡ map_place met e = w.2 in
+      let here : d.here ≡ met e.here = ap (λ x. x.here) q ∙ map_here met e in
       record {
         walks = v.1 ∙ ap done (v.2 ∙ sym q);
-        reads = rw here (readable-more e.here (rw here at m.reads));
+        reads = rw here (readable_more e.here (rw here at m.reads));
       }
 
-writable_apart : (u u' : Setup) (z : Bounded-role) → ((r : Bounded-role) → dominated u z r ≡ true → dominated u' z r ≡ true)
-    → (x : Filed) → (by-dominance u z).writable x ≡ true → (by-dominance u' z).writable x ≡ true
-unfolding by-dominance filed-writable
+writable_apart : (u u' : Setup) (z : BoundedRole) → ((r : BoundedRole) → dominated u z r ≡ true → dominated u' z r ≡ true)
+    → (x : Filed) → (by_dominance u z).writable x ≡ true → (by_dominance u' z).writable x ≡ true
+unfolding by_dominance filed_writable
 writable_apart u u' z more top h = h
-writable_apart u u' z more (an-entry x) h = directory-more u u' z z more x.kind x.role h
+writable_apart u u' z more (an_entry x) h = directory_more u u' z z more x.kind x.role h
 
 -- ---- more pairs
 
-module _ (u u' : Setup) (s : is-setup u ≡ true) (s' : is-setup u' ≡ true) (pairs : More-pairs u u') (z : Bounded-role) where
+module _ (u u' : Setup) (s : is_setup u ≡ true) (s' : is_setup u' ≡ true) (pairs : MorePairs u u') (z : BoundedRole) where
   module _ (x : Filed) where
     -- more pairs take no entry's x away
-    pub more-passes : (store.judge u z).passes (met x) ≡ true → (store.judge u' z).passes (met x) ≡ true
-    more-passes h = rw (passes-law u' z x) (passes-more u u' z z (more-dominates u u' s s' pairs z) x (rw (passes-law u z x) at h))
+    pub more_passes : (store.judge u z).passes (met x) ≡ true → (store.judge u' z).passes (met x) ≡ true
+    more_passes h = rw (passes_law u' z x) (passes_more u u' z z (more_dominates u u' s s' pairs z) x (rw (passes_law u z x) at h))
 
     -- nor its being readable
-    pub more-readable : (store.judge u z).readable (met x) ≡ true → (store.judge u' z).readable (met x) ≡ true
-    more-readable = readable-more u u' z z (more-dominates u u' s s' pairs z) x
+    pub more_readable : (store.judge u z).readable (met x) ≡ true → (store.judge u' z).readable (met x) ≡ true
+    more_readable = readable_more u u' z z (more_dominates u u' s s' pairs z) x
 
     -- nor its being writable
-    pub more-writable : (store.judge u z).writable (met x) ≡ true → (store.judge u' z).writable (met x) ≡ true
-    more-writable h = rw (writable-law u' z x) (writable_apart u u' z (more-dominates u u' s s' pairs z) x (rw (writable-law u z x) at h))
+    pub more_writable : (store.judge u z).writable (met x) ≡ true → (store.judge u' z).writable (met x) ≡ true
+    more_writable h = rw (writable_law u' z x) (writable_apart u u' z (more_dominates u u' s s' pairs z) x (rw (writable_law u z x) at h))
 
   -- nor an entry that may be read
-  pub more-may-read : (h : Abstract) → Kept h → (p : Path) (d : Place Node) → May-read u z (embed h) p d → May-read u' z (embed h) p d
-  more-may-read = reads_more u u' z z (more-dominates u u' s s' pairs z)
+  pub more_may_read : (h : Abstract) → Kept h → (p : Path) (d : Place Node) → MayRead u z (embed h) p d → MayRead u' z (embed h) p d
+  more_may_read = reads_more u u' z z (more_dominates u u' s s' pairs z)
 
 -- ---- the witness: the initial state with one file of a role, named `x`, in `/rep`
 
-abbrev filed-path : Entry-path
-filed-path = record { folder = root; name = bytes "x" }
+abbrev filed_path : EntryPath
+filed_path = record { folder = root; name = bytes "x" }
 
-module _ (u : Setup) (b : Bounded-role) where
-  abbrev filed-entry : Entry
-  filed-entry = new-entry File b []
+module _ (u : Setup) (b : BoundedRole) where
+  abbrev filed_entry : Entry
+  filed_entry = new_entry File b []
 
-  abbrev filed-node : Node
-  filed-node = entry-node File b 1 []
+  abbrev filed_node : Node
+  filed_node = entry_node File b 1 []
 
   witness : Abstract
-  witness = abstract.file filed-path File b [] (initial-abstract u)
+  witness = abstract.file filed_path File b [] (initial_abstract u)
 
   -- it stands for the initial store with the file put in
-  witness-tie : Tie (store.file filed-path File b [] (initial-store u)) witness
+  witness_tie : Tie (store.file filed_path File b [] (initial_store u)) witness
   unfolding witness
-  witness-tie = file-tie (initial-tie u) filed-path File b []
+  witness_tie = file_tie (initial_tie u) filed_path File b []
 
   -- a walk from `/rep` meets the file
-  witness-entry : get (bytes "x") (abstract.entries witness).below ≡ some (leaf (an-entry filed-entry))
-  unfolding witness initial-abstract
-  witness-entry =
-      let F = update-forest root (insert (bytes "x") (leaf filed-entry)) no-nodes in
+  witness_entry : get (bytes "x") (abstract.entries witness).below ≡ some (leaf (an_entry filed_entry))
+  unfolding witness initial_abstract
+  witness_entry =
+      let F = update_forest root (insert (bytes "x") (leaf filed_entry)) no_nodes in
       let x = bytes "x" in
-      rw (rooted-below an-entry top F, get-map an-entry x F, update-forest-root (insert x (leaf filed-entry)) no-nodes, get-insert x (leaf filed-entry) no-nodes (get-nil x)) (
-      ap some (sym (leaf-map an-entry filed-entry)))
+      rw (rooted_below an_entry top F, get_map an_entry x F, update_forest_root (insert x (leaf filed_entry)) no_nodes, get_insert x (leaf filed_entry) no_nodes (get_nil x)) (
+      ap some (sym (leaf_map an_entry filed_entry)))
 
   -- who dominates the role may read it, and nobody else
-  witness-readable : (a : Bounded-role) → (store.judge u a).readable (map-place met (leaf (an-entry filed-entry))).here ≡ dominated u a b
-  unfolding by-dominance filed-readable new-entry
-  witness-readable a = rw (map-here met (leaf (an-entry filed-entry)), leaf-here (an-entry filed-entry)) (readable-law u a (an-entry filed-entry))
+  witness_readable : (a : BoundedRole) → (store.judge u a).readable (map_place met (leaf (an_entry filed_entry))).here ≡ dominated u a b
+  unfolding by_dominance filed_readable new_entry
+  witness_readable a = rw (map_here met (leaf (an_entry filed_entry)), leaf_here (an_entry filed_entry)) (readable_law u a (an_entry filed_entry))
 
   -- the role's account may read it
-  witness-read : May-read u b (embed witness) (root ▹ bytes "x") (map-place met (leaf (an-entry filed-entry)))
-  unfolding by-dominance filed-kind filed-passes dominated
-  witness-read =
-      let j = by-dominance u b in
-      let k = witness-tie.kept in
+  witness_read : MayRead u b (embed witness) (root ▹ bytes "x") (map_place met (leaf (an_entry filed_entry)))
+  unfolding by_dominance filed_kind filed_passes dominated
+  witness_read =
+      let j = by_dominance u b in
+      let k = witness_tie.kept in
       let t = abstract.entries witness in
-      let e : enter j t.here ≡ done tt = rw (rooted-here an-entry top witness.entries) (enters j top directory-is-one refl) in
-      let w = walks-on j t root (bytes "x") (walk-root j t) e witness-entry in
-      let v = done-second (account-walk u b witness k (root ▹ bytes "x")) w in
-      record { walks = v.1 ∙ ap done v.2; reads = witness-readable b ∙ dominates-self u.pairs b.role b.role refl }
+      let e : enter j t.here ≡ done tt = rw (rooted_here an_entry top witness.entries) (enters j top directory_is_one refl) in
+      let w = walks_on j t root (bytes "x") (walk_root j t) e witness_entry in
+      let v = done_second (account_walk u b witness k (root ▹ bytes "x")) w in
+      record { walks = v.1 ∙ ap done v.2; reads = witness_readable b ∙ dominates_self u.pairs b.role b.role refl }
 
   -- its store is well-formed
-  witness-formed : is-setup u ≡ true → well-formed (state-of u (embed witness)) ≡ true
-  unfolding in-rep depth is_name name-byte every bytes is-content rep-node directory-of initial-abstract initial-store embed
-  witness-formed s =
-      let h = initial-abstract u in
-      let t = initial-tie u in
-      let i = parts (state-of u (initial-store u)) (initial-well-formed u s) in
-      let v = done-second (account-walk u b h t.kept root) (walk-root (by-dominance u b) (abstract.entries h)) in
-      let d = leaf rep-node in
-      let e : v.0 ≡ d = v.2 ∙ sym (stored-is-met no-nodes) ∙ stored-none in
-      let to : walk (store.judge u b) (initial-store u).tree (root ▹ rep) ≡ done d = ap (λ t. walk (store.judge u b) t.tree (root ▹ rep)) t.same ∙ v.1 ∙ ap done e in
-      rw (← witness-tie.same) (formed u s _ i.registry
-      (keep-put (store.judge u b) (initial-store u).tree (root ▹ rep) d (bytes "x") (leaf filed-node) i.tree to
-      (rw (leaf-here rep-node) directory-is-one) (rw (leaf-below rep-node) (get-nil (bytes "x"))) refl
-      (leaf-place filed-node (entry-fits File b [] refl λ _. refl)) (omega (arith, leaf-height filed-node)) (omega (arith, initial-few u s, leaf-size filed-node))))
+  witness_formed : is_setup u ≡ true → well_formed (state_of u (embed witness)) ≡ true
+  unfolding in_rep depth is_name name_byte every bytes is_content rep_node directory_of initial_abstract initial_store embed
+  witness_formed s =
+      let h = initial_abstract u in
+      let t = initial_tie u in
+      let i = parts (state_of u (initial_store u)) (initial_well_formed u s) in
+      let v = done_second (account_walk u b h t.kept root) (walk_root (by_dominance u b) (abstract.entries h)) in
+      let d = leaf rep_node in
+      let e : v.0 ≡ d = v.2 ∙ sym (stored_is_met no_nodes) ∙ stored_none in
+      let to : walk (store.judge u b) (initial_store u).tree (root ▹ rep) ≡ done d = ap (λ t. walk (store.judge u b) t.tree (root ▹ rep)) t.same ∙ v.1 ∙ ap done e in
+      rw (← witness_tie.same) (formed u s _ i.registry
+      (keep_put (store.judge u b) (initial_store u).tree (root ▹ rep) d (bytes "x") (leaf filed_node) i.tree to
+      (rw (leaf_here rep_node) directory_is_one) (rw (leaf_below rep_node) (get_nil (bytes "x"))) refl
+      (leaf_place filed_node (entry_fits File b [] refl λ _. refl)) (omega (arith, leaf_height filed_node)) (omega (arith, initial_few u s, leaf_size filed_node))))
 
 -- ---- dominance is reading
 
-module _ (u : Setup) (s : is-setup u ≡ true) (a b : Bounded-role) where
+module _ (u : Setup) (s : is_setup u ≡ true) (a b : BoundedRole) where
   -- the account of a role may read what those of the roles that it dominates may
-  dominance-reads : dominated u a b ≡ true → (h : Abstract) → Kept h → (p : Path) (d : Place Node)
-      → May-read u b (embed h) p d → May-read u a (embed h) p d
+  dominance_reads : dominated u a b ≡ true → (h : Abstract) → Kept h → (p : Path) (d : Place Node)
+      → MayRead u b (embed h) p d → MayRead u a (embed h) p d
   unfolding dominated
-  dominance-reads e = reads_more u u b a
-      (λ r i. dominates-trans u.pairs (setup-falls u s) a.role b.role r.role (role-bound b) (role-bound r) e i)
+  dominance_reads e = reads_more u u b a
+      (λ r i. dominates_trans u.pairs (setup_falls u s) a.role b.role r.role (role_bound b) (role_bound r) e i)
 
   -- a role whose account may read all that another's may dominates the other
-  reading-dominates : Reads-all u a b → dominated u a b ≡ true
-  reading-dominates all =
-      let d = map-place met (leaf (an-entry (filed-entry u b))) in
-      sym (witness-readable u b a) ∙ (all (witness u b) (witness-tie u b).kept (witness-formed u b s) (root ▹ bytes "x") d (witness-read u b)).reads
+  reading_dominates : ReadsAll u a b → dominated u a b ≡ true
+  reading_dominates all =
+      let d = map_place met (leaf (an_entry (filed_entry u b))) in
+      sym (witness_readable u b a) ∙ (all (witness u b) (witness_tie u b).kept (witness_formed u b s) (root ▹ bytes "x") d (witness_read u b)).reads
 
   -- so dominance is reading
-  pub dominance-is-reading : (dominated u a b ≡ true → Reads-all u a b) × (Reads-all u a b → dominated u a b ≡ true)
-  dominance-is-reading = (λ e h k _. dominance-reads e h k, reading-dominates)
+  pub dominance_is_reading : (dominated u a b ≡ true → ReadsAll u a b) × (ReadsAll u a b → dominated u a b ≡ true)
+  dominance_is_reading = (λ e h k _. dominance_reads e h k, reading_dominates)

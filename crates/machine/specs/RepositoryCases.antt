@@ -35,9 +35,9 @@ adds =
     "2,co,/rep/d/e,/u2/e" gives 0 ∷
     "2,read,/u2/e" shows "t" ∷ [])
 
-adds-answered : Answered adds
+adds_answered : Answered adds
 unfolding compute adds
-adds-answered = (refl, refl)
+adds_answered = (refl, refl)
 
 -- `co`: the person's part, as for `create`, before the account's: walk; not readable 5; too deep 19. What may not be read is
 -- skipped, and makes nothing too deep. A copy is 0600 or 0700; its group goes by its own parent.
@@ -87,9 +87,9 @@ checkouts =
     "0,co,/rep/d/a,/u2/a" gives 0 ∷
     "2,read,/u2/a" gives 5 ∷ [])
 
-checkouts-answered : Answered checkouts
+checkouts_answered : Answered checkouts
 unfolding compute checkouts
-checkouts-answered = (refl, refl)
+checkouts_answered = (refl, refl)
 
 -- `commit` of a file: walk; r 5; untagged 15; the account's walk; directory 7; r 5; w on its parent 5; stale 14. A tag
 -- follows its node; an entry added later starts at 1
@@ -143,9 +143,9 @@ tags =
     "1,login,1,ash" gives 0 ∷
     "1,commit,/u1/e" gives 5 ∷ [])
 
-tags-answered : Answered tags
+tags_answered : Answered tags
 unfolding compute tags
-tags-answered = (refl, refl)
+tags_answered = (refl, refl)
 
 -- `up`: as `commit`, with w for r, and no w in the repository. The file takes content and revision
 updates : List Case
@@ -186,9 +186,9 @@ updates =
     "1,login,1,ash" gives 0 ∷
     "1,up,/u1/b" gives 5 ∷ [])
 
-updates-answered : Answered updates
+updates_answered : Answered updates
 unfolding compute updates
-updates-answered = (refl, refl)
+updates_answered = (refl, refl)
 
 -- `del`: walk; not readable 5; w on parent 5; not empty 8
 deletions : List Case
@@ -208,6 +208,6 @@ deletions =
     "1,del,/rep/d" gives 0 ∷
     "1,co,/rep/d,/u1/c" gives 3 ∷ [])
 
-deletions-answered : Answered deletions
+deletions_answered : Answered deletions
 unfolding compute deletions
-deletions-answered = (refl, refl)
+deletions_answered = (refl, refl)

@@ -2,14 +2,14 @@
 use Rattle.std.specs.Prelude.{List, [], ◌∷◌, Bool, false, ℕ, leb}
 use Rattle.std.proofs.Math.Option.{Option, none, some}
 use Rattle.buffers.specs.Text.{Text}
-use Rattle.accounts.specs.Access.{is-root}
+use Rattle.accounts.specs.Access.{is_root}
 use Rattle.commands.specs.Command.{Line, line}
 use Rattle.setup.specs.Setup.{Setup}
 use Rattle.tree.specs.declared.Cause.TheVariants.{NoForm, ShortAnswer}
 use Rattle.tree.specs.Result.{Result, ◌>>=◌, ◌>>◌, require, present, Outcome}
 use Rattle.shell.specs.Replies.{Reply, reply, after}
-use Rattle.shell.specs.WholePaths.{whole-command}
-use Rattle.store.specs.State.{working-directory}
+use Rattle.shell.specs.WholePaths.{whole_command}
+use Rattle.store.specs.State.{working_directory}
 use Rattle.store.specs.Callers.{caller}
 use Rattle.machine.specs.Machine.{Machine, run}
 
@@ -19,8 +19,8 @@ pub record Call : Type 0 where
   pub room : ℕ
 
 -- an answer buffer holds every text a command gives
-unfoldable pub least-room : ℕ
-least-room = 4096
+unfoldable pub least_room : ℕ
+least_room = 4096
 
 -- the replies to a list of calls, and the state after it
 pub record Ran (S : Type 0) : Type 0 where
@@ -33,13 +33,13 @@ module _ {S A : Type 0} (M : Machine S A) (u : Setup) where
   perform s t = do
     l ← present (line t) NoForm
     c ← caller u l.caller
-    command ← whole-command (working-directory l.caller (M.registry s)) l.command
+    command ← whole_command (working_directory l.caller (M.registry s)) l.command
     run M u s c command
 
   -- and before these: answer buffer too short 20
   unfoldable pub step : S → Call → Result (Outcome S)
   step s call = do
-    require (leb least-room call.room) ShortAnswer
+    require (leb least_room call.room) ShortAnswer
     perform s call.line
 
   unfoldable pub runs : S → List Call → Ran S
@@ -50,9 +50,9 @@ module _ {S A : Type 0} (M : Machine S A) (u : Setup) where
       record { replies = reply o ∷ rest.replies; state = rest.state }
 
 -- a line is root's if it has a listed form and caller 0
-unfoldable pub of-root : Option Line → Bool
-of-root none = false
-of-root (some l) = is-root l.caller
+unfoldable pub of_root : Option Line → Bool
+of_root none = false
+of_root (some l) = is_root l.caller
 
 unfoldable pub root's : Call → Bool
-root's call = of-root (line call.line)
+root's call = of_root (line call.line)

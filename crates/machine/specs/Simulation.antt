@@ -5,14 +5,14 @@ use Rattle.syntax.specs.Path.{rep}
 use Rattle.tree.specs.Result.{Outcome}
 use Rattle.tree.specs.Forest.{get, leaf}
 use Rattle.store.specs.State.{Store}
-use Rattle.store.specs.Initial.{top-node, rep-node}
+use Rattle.store.specs.Initial.{top_node, rep_node}
 use Rattle.machine.specs.AbstractMachine.{Abstract}
 use Rattle.machine.specs.Embedding.{embed}
 
 -- what no command of a person changes
 pub record Kept (h : Abstract) : Type 0 where
-  pub top : h.workspace.here ≡ top-node
-  pub there : get rep h.workspace.below ≡ some (leaf rep-node)
+  pub top : h.workspace.here ≡ top_node
+  pub there : get rep h.workspace.below ≡ some (leaf rep_node)
 
 -- a store that holds what the abstract machine holds
 pub record Tie (s : Store) (h : Abstract) : Type 0 where

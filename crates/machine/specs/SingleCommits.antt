@@ -10,15 +10,15 @@ use Rattle.machine.specs.Machine.{run}
 use Rattle.machine.specs.StoreMachine.{store}
 use Rattle.machine.specs.Runs.{Ran}
 
-unfoldable pub single-commits : Setup → Caller → List Path → Store → Ran Store
-single-commits u c [] s = record { replies = []; state = s }
-single-commits u c (w ∷ ws) s =
+unfoldable pub single_commits : Setup → Caller → List Path → Store → Ran Store
+single_commits u c [] s = record { replies = []; state = s }
+single_commits u c (w ∷ ws) s =
     let o = run store u s c (entry (commit w)) in
-    let rest = single-commits u c ws (after s o) in
+    let rest = single_commits u c ws (after s o) in
     record { replies = reply o ∷ rest.replies; state = rest.state }
 
 -- how many were done
-unfoldable pub how-many-done : List Reply → ℕ
-how-many-done [] = 0
-how-many-done (ok text ∷ rest) = suc (how-many-done rest)
-how-many-done (refusal why ∷ rest) = how-many-done rest
+unfoldable pub how_many_done : List Reply → ℕ
+how_many_done [] = 0
+how_many_done (ok text ∷ rest) = suc (how_many_done rest)
+how_many_done (refusal why ∷ rest) = how_many_done rest

@@ -3,7 +3,7 @@
 -- shell are in `WithheldCases` of the crate shell.
 use Rattle.std.specs.Prelude.{refl, List, [], ◌∷◌, ◌++◌}
 use Rattle.shell.specs.Cases.{Case, ◌gives◌, ◌shows◌, all_done}
-use Rattle.machine.specs.Cases.{In-store, In-abstract, compute}
+use Rattle.machine.specs.Cases.{InStore, InAbstract, compute}
 
 -- ---- `login`: no right on anything, whether a session is there or not; `logout`: not even a session
 entering : List Case
@@ -13,26 +13,26 @@ entering =
     "1,login,0,oak" gives 0 ∷
     "1,login,1,ash" gives 0 ∷ [])
 
-entering-in-store : In-store entering
+entering_in_store : InStore entering
 unfolding compute entering
-entering-in-store = refl
+entering_in_store = refl
 
-entering-in-abstract : In-abstract entering
+entering_in_abstract : InAbstract entering
 unfolding compute entering
-entering-in-abstract = refl
+entering_in_abstract = refl
 
 leaving : List Case
 leaving =
     all_done "0,chown,/u1,2\n0,chmod,/u1,0000\n0,chmod,/,0000" ++ (
     "1,logout" gives 0 ∷ [])
 
-leaving-in-store : In-store leaving
+leaving_in_store : InStore leaving
 unfolding compute leaving
-leaving-in-store = refl
+leaving_in_store = refl
 
-leaving-in-abstract : In-abstract leaving
+leaving_in_abstract : InAbstract leaving
 unfolding compute leaving
-leaving-in-abstract = refl
+leaving_in_abstract = refl
 
 -- ---- from here on person 1's home is another's and shut, and the kept directory with it; there is x alone at `/`. Behind it `/d` is
 -- root's, and so is all that is not given away
@@ -44,13 +44,13 @@ moving =
     "1,cd,/d" gives 0 ∷
     "1,cd,e" gives 0 ∷ [])
 
-moving-in-store : In-store moving
+moving_in_store : InStore moving
 unfolding compute moving
-moving-in-store = refl
+moving_in_store = refl
 
-moving-in-abstract : In-abstract moving
+moving_in_abstract : InAbstract moving
 unfolding compute moving
-moving-in-abstract = refl
+moving_in_abstract = refl
 
 -- `add`: of the file r alone and of the directory r and x, whether tagged or not, and above them x alone; a role that the person has no
 -- grant for; of the entry's directory what the session's role has
@@ -64,13 +64,13 @@ adding =
     "1,add,/d/a,/rep/k/a,1" gives 0 ∷
     "1,add,/d/e,/rep/k/k,1" gives 0 ∷ [])
 
-adding-in-store : In-store adding
+adding_in_store : InStore adding
 unfolding compute adding
-adding-in-store = refl
+adding_in_store = refl
 
-adding-in-abstract : In-abstract adding
+adding_in_abstract : InAbstract adding
 unfolding compute adding
-adding-in-abstract = refl
+adding_in_abstract = refl
 
 -- `co`: of the directory neither r nor that it is the caller's; in the repository no w, and no right on what is not copied
 copying : List Case
@@ -81,13 +81,13 @@ copying =
     "1,co,/rep/k/a,/d/f" gives 0 ∷
     "1,read,/d/c" shows "a" ∷ []))
 
-copying-in-store : In-store copying
+copying_in_store : InStore copying
 unfolding compute copying
-copying-in-store = refl
+copying_in_store = refl
 
-copying-in-abstract : In-abstract copying
+copying_in_abstract : InAbstract copying
 unfolding compute copying
-copying-in-abstract = refl
+copying_in_abstract = refl
 
 -- `commit` of a file: of another's r alone, and above it x alone; the session's role is neither role 0 nor the one that filed it
 filing : List Case
@@ -97,28 +97,28 @@ filing =
     "1,commit,/d/a" gives 0 ∷
     "1,commit,/d/a" gives 0 ∷ []))
 
-filing-in-store : In-store filing
+filing_in_store : InStore filing
 unfolding compute filing
-filing-in-store = refl
+filing_in_store = refl
 
-filing-in-abstract : In-abstract filing
+filing_in_abstract : InAbstract filing
 unfolding compute filing
-filing-in-abstract = refl
+filing_in_abstract = refl
 
 -- `commit` of a directory: of another's r and x alone, and no tag
-filing-all : List Case
-filing-all =
+filing_all : List Case
+filing_all =
     all_done "1,login,0,oak\n0,mkdir,/d,0005\n0,create,/d/a,0400\n0,chown,/d/a,1\n0,mkdir,/e,0500\n0,chown,/e,1\n1,add,/e,/rep/k,1\n1,add,/d/a,/rep/k/a,1" ++ (
     all_done "0,chown,/d/a,0\n0,chmod,/d/a,0004\n0,chown,/u1,2\n0,chmod,/u1,0000\n0,chmod,/,0001\n1,login,1,ash" ++ (
     "1,commit,/d" shows "1" ∷ []))
 
-filing-all-in-store : In-store filing-all
-unfolding compute filing-all
-filing-all-in-store = refl
+filing_all_in_store : InStore filing_all
+unfolding compute filing_all
+filing_all_in_store = refl
 
-filing-all-in-abstract : In-abstract filing-all
-unfolding compute filing-all
-filing-all-in-abstract = refl
+filing_all_in_abstract : InAbstract filing_all
+unfolding compute filing_all
+filing_all_in_abstract = refl
 
 -- `up`: of another's file w alone, whether its tag is stale or not; in the repository no w
 updating : List Case
@@ -128,13 +128,13 @@ updating =
     "1,up,/d/a" gives 0 ∷
     "1,up,/d/a" gives 0 ∷ []))
 
-updating-in-store : In-store updating
+updating_in_store : InStore updating
 unfolding compute updating
-updating-in-store = refl
+updating_in_store = refl
 
-updating-in-abstract : In-abstract updating
+updating_in_abstract : InAbstract updating
 unfolding compute updating
-updating-in-abstract = refl
+updating_in_abstract = refl
 
 -- `del`: no right of the person's, no working copy, no w on the entry
 deleting : List Case
@@ -144,10 +144,10 @@ deleting =
     "1,del,/rep/k/a" gives 0 ∷
     "1,del,/rep/k/e" gives 0 ∷ []))
 
-deleting-in-store : In-store deleting
+deleting_in_store : InStore deleting
 unfolding compute deleting
-deleting-in-store = refl
+deleting_in_store = refl
 
-deleting-in-abstract : In-abstract deleting
+deleting_in_abstract : InAbstract deleting
 unfolding compute deleting
-deleting-in-abstract = refl
+deleting_in_abstract = refl

@@ -6,46 +6,46 @@ use Rattle.std.proofs.lemmas.Bool.{eqb-false}
 use Rattle.buffers.specs.Cases.{case}
 use Rattle.accounts.specs.declared.Caller.{Caller}
 use Rattle.syntax.specs.Path.{Path}
-use Rattle.commands.specs.Command.{Account-command, login, logout, cd, Command, shell, account, entry}
+use Rattle.commands.specs.Command.{AccountAction, login, logout, cd, Command, shell, account, entry}
 use Rattle.setup.specs.Setup.{Setup}
 use Rattle.tree.specs.declared.Cause.TheVariants.{Access, WrongKind, NoGrant}
 use Rattle.tree.specs.Result.{done, Outcome}
 use Rattle.tree.specs.Outcomes.{gives, Ensures}
-use Rattle.tree.specs.GivesLaws.{done-with, weaker, then-check, then-do}
-use Rattle.store.specs.State.{Registry, working-directory, set-directory, Store}
-use Rattle.store.specs.RegistryLaws.{session-keeps-working-directory, directory-of-another}
-use Rattle.machine.specs.Machine.{run-login, run-logout, run-cd, run-account, run}
+use Rattle.tree.specs.GivesLaws.{done_with, weaker, then_check, then_do}
+use Rattle.store.specs.State.{Registry, working_directory, set_directory, Store}
+use Rattle.store.specs.RegistryLaws.{session_keeps_working_directory, directory_of_another}
+use Rattle.machine.specs.Machine.{run_login, run_logout, run_cd, run_account, run}
 use Rattle.machine.specs.StoreMachine.{store}
-use Rattle.machine.specs.ActingLaws.{entry-registry}
-use Rattle.machine.specs.WorkingDirectory.{Moved-by-cd}
+use Rattle.machine.specs.ActingLaws.{entry_registry}
+use Rattle.machine.specs.WorkingDirectory.{MovedByCd}
 
 module _ (u : Setup) (s : Store) (c : Caller) where
   abbrev Moves : Command → Outcome Store → Type 0
-  Moves command o = Moved-by-cd c command s.registry o.state.registry
+  Moves command o = MovedByCd c command s.registry o.state.registry
 
   -- where the registry stays all directories do
-  stays : (command : Command) {after : Registry} → after ≡ s.registry → Moved-by-cd c command s.registry after
-  stays command e uid = inl (ap (working-directory uid) e)
+  stays : (command : Command) {after : Registry} → after ≡ s.registry → MovedByCd c command s.registry after
+  stays command e uid = inl (ap (working_directory uid) e)
 
   -- `cd` sets that of its caller
-  cd-sets : (p : Path) → Moved-by-cd c (account (cd p)) s.registry (set-directory c.account.uid p s.registry)
-  cd-sets p uid = case (eqb uid.0 c.account.uid.0)
+  cd_sets : (p : Path) → MovedByCd c (account (cd p)) s.registry (set_directory c.account.uid p s.registry)
+  cd_sets p uid = case (eqb uid.0 c.account.uid.0)
       (λ e. inr ((λ i. record { 0 = eqb-true uid.0 c.account.uid.0 e i }), record { to = p; named = refl; set = refl }))
-      (λ e. inl (directory-of-another s.registry c.account.uid p uid (eqb-false uid.0 c.account.uid.0 e)))
+      (λ e. inl (directory_of_another s.registry c.account.uid p uid (eqb-false uid.0 c.account.uid.0 e)))
 
-  account-moves : (command : Account-command) → Ensures (Moves (account command)) (run-account store u s c command)
-  unfolding run-account run-login run-logout run-cd
-  account-moves (login z password) = then-check NoGrant tt _ λ _. gives λ uid. inl (session-keeps-working-directory s.registry c.account.uid _ uid)
-  account-moves logout = gives λ uid. inl (session-keeps-working-directory s.registry c.account.uid _ uid)
-  account-moves (cd p) = then-do _ λ d _. then-check WrongKind tt _ λ _. then-check Access tt _ λ _. gives (cd-sets p)
+  account_moves : (command : AccountAction) → Ensures (Moves (account command)) (run_account store u s c command)
+  unfolding run_account run_login run_logout run_cd
+  account_moves (login z password) = then_check NoGrant tt _ λ _. gives λ uid. inl (session_keeps_working_directory s.registry c.account.uid _ uid)
+  account_moves logout = gives λ uid. inl (session_keeps_working_directory s.registry c.account.uid _ uid)
+  account_moves (cd p) = then_do _ λ d _. then_check WrongKind tt _ λ _. then_check Access tt _ λ _. gives (cd_sets p)
 
-  run-moves : (command : Command) → Ensures (Moves command) (run store u s c command)
+  run_moves : (command : Command) → Ensures (Moves command) (run store u s c command)
   unfolding run
-  run-moves (shell command) = then-do _ λ o _. gives (stays (shell command) refl)
-  run-moves (account command) = account-moves command
-  run-moves (entry command) = weaker (λ o. stays (entry command)) (entry-registry u s c command)
+  run_moves (shell command) = then_do _ λ o _. gives (stays (shell command) refl)
+  run_moves (account command) = account_moves command
+  run_moves (entry command) = weaker (λ o. stays (entry command)) (entry_registry u s c command)
 
 -- a done command leaves each account's working directory, or is a `cd` and the account its caller's
-pub only-cd-moves : (u : Setup) (s : Store) (c : Caller) (command : Command) (o : Outcome Store) → run store u s c command ≡ done o
-    → Moved-by-cd c command s.registry o.state.registry
-only-cd-moves u s c command o e = done-with (run-moves u s c command) e
+pub only_cd_moves : (u : Setup) (s : Store) (c : Caller) (command : Command) (o : Outcome Store) → run store u s c command ≡ done o
+    → MovedByCd c command s.registry o.state.registry
+only_cd_moves u s c command o e = done_with (run_moves u s c command) e

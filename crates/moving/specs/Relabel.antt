@@ -3,18 +3,18 @@ use Rattle.std.specs.Prelude.{List, ℕ, zero, suc, ◌+◌, ◌-◌, ◌*◌, �
 use Rattle.std.proofs.Math.Seq.{paste}
 use Rattle.buffers.specs.Text.{Text}
 use Rattle.buffers.specs.Fields.{padded}
-use Rattle.tree.specs.Layout.{row-width, name-offset, name-width}
+use Rattle.tree.specs.Layout.{row_width, name_offset, name_width}
 
 -- a depth that is counted from a new one instead of an old one
 unfoldable pub shifted : ℕ → ℕ → ℕ → ℕ
 shifted old new depth = (depth + 256 + new - old) % 256
 
 -- so counted in the m rows from index i on
-unfoldable pub depths-shifted : ℕ → ℕ → ℕ → ℕ → List ℕ → List ℕ
-depths-shifted old new i zero b = b
-depths-shifted old new i (suc m) b =
-    depths-shifted old new (suc i) m (set b (row-width * i) (shifted old new (get_or b (row-width * i) 0)))
+unfoldable pub depths_shifted : ℕ → ℕ → ℕ → ℕ → List ℕ → List ℕ
+depths_shifted old new i zero b = b
+depths_shifted old new i (suc m) b =
+    depths_shifted old new (suc i) m (set b (row_width * i) (shifted old new (get_or b (row_width * i) 0)))
 
 -- so in all n rows from that of a place on, which gets another name
 unfoldable pub relabelled : ℕ → ℕ → Text → List ℕ → List ℕ
-relabelled n depth name b = paste (depths-shifted (get_or b 0 0) depth 0 n b) name-offset (padded name-width name) name-width
+relabelled n depth name b = paste (depths_shifted (get_or b 0 0) depth 0 n b) name_offset (padded name_width name) name_width

@@ -1,7 +1,7 @@
 // The rows of a place under another name and at another depth.
 ghost use Rattle.std.specs.Prelude.{◌≡◌, ◌*◌, ◌≤◌, ◌<◌, length};
-ghost use Rattle.tree.specs.Layout.{row-width, name-width};
-ghost use Rattle.moving.specs.Relabel.{shifted, depths-shifted, relabelled};
+ghost use Rattle.tree.specs.Layout.{row_width, name_width};
+ghost use Rattle.moving.specs.Relabel.{shifted, depths_shifted, relabelled};
 
 use buffers::write_padded;
 use tree::{NAME, NAME_WIDTH, ROW};
@@ -16,8 +16,8 @@ fn shift(depth: u8, old: u8, new: u8) -> u8
 
 // Counts the depths of n rows from a new one instead of an old one.
 fn shift_depths(rows: &mut [u8], n: usize, old: u8, new: u8)
-    requires { row-width * n ≤ length rows.old }
-    ensures { rows.new ≡ depths-shifted old new 0 n rows.old }
+    requires { row_width * n ≤ length rows.old }
+    ensures { rows.new ≡ depths_shifted old new 0 n rows.old }
 {
     let mut i: usize = 0;
     while i < n {
@@ -30,8 +30,8 @@ fn shift_depths(rows: &mut [u8], n: usize, old: u8, new: u8)
 // Gives n rows that begin with that of a place another depth, and the place another name.
 pub fn relabel(rows: &mut [u8], n: usize, depth: u8, name: &[u8])
     requires n_nonzero { 0 < n }
-    requires n_in_bounds { row-width * n ≤ length rows.old }
-    requires name_len_bound { length name.now ≤ name-width }
+    requires n_in_bounds { row_width * n ≤ length rows.old }
+    requires name_len_bound { length name.now ≤ name_width }
     ensures { rows.new ≡ relabelled n depth name.now rows.old }
 {
     let old = rows[0];

@@ -3,13 +3,13 @@
 // arithmetic of its own.
 ghost use Rattle.std.specs.Prelude.{◌≡◌, ◌+◌, ◌*◌, ◌≤◌, ◌<◌, length, drop};
 ghost use Rattle.std.proofs.Math.Seq.{paste};
-ghost use Rattle.tree.specs.Layout.{row-width, row-start, most-rows, few-rows, some-rows, many-rows, half-rows};
-ghost use Rattle.tree.specs.RowScan.{end-of-subtree};
-ghost use Rattle.tree.specs.Encoding.{encode-tree};
-ghost use Rattle.tree.specs.RowAt.{row_count, all-rows};
+ghost use Rattle.tree.specs.Layout.{row_width, row_start, most_rows, few_rows, some_rows, many_rows, half_rows};
+ghost use Rattle.tree.specs.RowScan.{end_of_subtree};
+ghost use Rattle.tree.specs.Encoding.{encode_tree};
+ghost use Rattle.tree.specs.RowAt.{row_count, all_rows};
 ghost use Rattle.tree.specs.TreeBytes.{Stretch};
 ghost use Rattle.edits.specs.Changes.{rows_taken};
-ghost use Rattle.moving.specs.Moving.{Vacant, relabelled-for, filled, Movable, moved, held-after};
+ghost use Rattle.moving.specs.Moving.{Vacant, relabelled_for, filled, Movable, moved, buffer_after};
 
 use crate::relabel::relabel;
 use accounts::{Account, Groups, Uid};
@@ -32,9 +32,9 @@ const ALL_WIDTH: usize = ROW * MOST_ROWS;
 // Takes n rows out into a buffer.
 fn take_held(tree: &mut [u8], at: usize, n: usize, held: &mut [u8])
     requires stretch { Stretch tree.old at n }
-    requires n_in_bounds { row-width * n ≤ length held.old }
+    requires n_in_bounds { row_width * n ≤ length held.old }
     ensures tree_after { tree.new ≡ rows_taken tree.old at n }
-    ensures held_after { held.new ≡ paste held.old 0 (drop (row-start at) tree.old) (row-width * n) }
+    ensures held_after { held.new ≡ paste held.old 0 (drop (row_start at) tree.old) (row_width * n) }
 {
     write_many(held, 0, &tree[FIRST + ROW * at..], ROW * n);
     take_rows(tree, at, n);
@@ -45,10 +45,10 @@ fn take_held(tree: &mut [u8], at: usize, n: usize, held: &mut [u8])
 fn put_held(tree: &mut [u8], to: &[u8], n: usize, held: &mut [u8])
     requires vacant { Vacant tree.old to.now }
     requires n_nonzero { 0 < n }
-    requires n_bound { row_count tree.old + n ≤ most-rows }
-    requires n_in_bounds { row-width * n ≤ length held.old }
+    requires n_bound { row_count tree.old + n ≤ most_rows }
+    requires n_in_bounds { row_width * n ≤ length held.old }
     ensures tree_after { (v : Vacant tree.old to.now) → tree.new ≡ filled v n held.new }
-    ensures held_after { (v : Vacant tree.old to.now) → held.new ≡ relabelled-for v n held.old }
+    ensures held_after { (v : Vacant tree.old to.now) → held.new ≡ relabelled_for v n held.old }
 {
     let root = Account {
         uid: Uid(0),
@@ -66,10 +66,10 @@ fn put_held(tree: &mut [u8], to: &[u8], n: usize, held: &mut [u8])
 // Moves the place at a row, whose rows are n, by a buffer that holds them on the way.
 fn move_by(tree: &mut [u8], at: usize, n: usize, to: &[u8], held: &mut [u8])
     requires movable { Movable tree.old at to.now }
-    requires n_value { at + n ≡ end-of-subtree (all-rows tree.old) at }
-    requires n_in_bounds { row-width * n ≤ length held.old }
-    ensures tree_after { (m : Movable tree.old at to.now) → tree.new ≡ encode-tree (moved m) }
-    ensures held_after { (m : Movable tree.old at to.now) → held.new ≡ held-after m held.old }
+    requires n_value { at + n ≡ end_of_subtree (all_rows tree.old) at }
+    requires n_in_bounds { row_width * n ≤ length held.old }
+    ensures tree_after { (m : Movable tree.old at to.now) → tree.new ≡ encode_tree (moved m) }
+    ensures held_after { (m : Movable tree.old at to.now) → held.new ≡ buffer_after m held.old }
 {
     take_held(tree, at, n, held);
     put_held(tree, to, n, held);
@@ -78,9 +78,9 @@ fn move_by(tree: &mut [u8], at: usize, n: usize, to: &[u8], held: &mut [u8])
 // Moves the place at a row, whose rows are n, by an array for few rows.
 fn move_few(tree: &mut [u8], at: usize, n: usize, to: &[u8])
     requires movable { Movable tree.old at to.now }
-    requires n_value { at + n ≡ end-of-subtree (all-rows tree.old) at }
-    requires n_le_few_rows { n ≤ few-rows }
-    ensures { (m : Movable tree.old at to.now) → tree.new ≡ encode-tree (moved m) }
+    requires n_value { at + n ≡ end_of_subtree (all_rows tree.old) at }
+    requires n_le_few_rows { n ≤ few_rows }
+    ensures { (m : Movable tree.old at to.now) → tree.new ≡ encode_tree (moved m) }
 {
     let mut held = [0u8; FEW_WIDTH];
     move_by(tree, at, n, to, &mut held);
@@ -89,9 +89,9 @@ fn move_few(tree: &mut [u8], at: usize, n: usize, to: &[u8])
 // By one for more rows.
 fn move_some(tree: &mut [u8], at: usize, n: usize, to: &[u8])
     requires movable { Movable tree.old at to.now }
-    requires n_value { at + n ≡ end-of-subtree (all-rows tree.old) at }
-    requires n_le_some_rows { n ≤ some-rows }
-    ensures { (m : Movable tree.old at to.now) → tree.new ≡ encode-tree (moved m) }
+    requires n_value { at + n ≡ end_of_subtree (all_rows tree.old) at }
+    requires n_le_some_rows { n ≤ some_rows }
+    ensures { (m : Movable tree.old at to.now) → tree.new ≡ encode_tree (moved m) }
 {
     let mut held = [0u8; SOME_WIDTH];
     move_by(tree, at, n, to, &mut held);
@@ -100,9 +100,9 @@ fn move_some(tree: &mut [u8], at: usize, n: usize, to: &[u8])
 // By one for many rows.
 fn move_many(tree: &mut [u8], at: usize, n: usize, to: &[u8])
     requires movable { Movable tree.old at to.now }
-    requires n_value { at + n ≡ end-of-subtree (all-rows tree.old) at }
-    requires n_le_many_rows { n ≤ many-rows }
-    ensures { (m : Movable tree.old at to.now) → tree.new ≡ encode-tree (moved m) }
+    requires n_value { at + n ≡ end_of_subtree (all_rows tree.old) at }
+    requires n_le_many_rows { n ≤ many_rows }
+    ensures { (m : Movable tree.old at to.now) → tree.new ≡ encode_tree (moved m) }
 {
     let mut held = [0u8; MANY_WIDTH];
     move_by(tree, at, n, to, &mut held);
@@ -111,9 +111,9 @@ fn move_many(tree: &mut [u8], at: usize, n: usize, to: &[u8])
 // By one for half the rows of a tree.
 fn move_half(tree: &mut [u8], at: usize, n: usize, to: &[u8])
     requires movable { Movable tree.old at to.now }
-    requires n_value { at + n ≡ end-of-subtree (all-rows tree.old) at }
-    requires n_le_half_rows { n ≤ half-rows }
-    ensures { (m : Movable tree.old at to.now) → tree.new ≡ encode-tree (moved m) }
+    requires n_value { at + n ≡ end_of_subtree (all_rows tree.old) at }
+    requires n_le_half_rows { n ≤ half_rows }
+    ensures { (m : Movable tree.old at to.now) → tree.new ≡ encode_tree (moved m) }
 {
     let mut held = [0u8; HALF_WIDTH];
     move_by(tree, at, n, to, &mut held);
@@ -122,9 +122,9 @@ fn move_half(tree: &mut [u8], at: usize, n: usize, to: &[u8])
 // By one for as many rows as there is room for in a tree.
 fn move_all(tree: &mut [u8], at: usize, n: usize, to: &[u8])
     requires movable { Movable tree.old at to.now }
-    requires n_value { at + n ≡ end-of-subtree (all-rows tree.old) at }
-    requires n_le_most_rows { n ≤ most-rows }
-    ensures { (m : Movable tree.old at to.now) → tree.new ≡ encode-tree (moved m) }
+    requires n_value { at + n ≡ end_of_subtree (all_rows tree.old) at }
+    requires n_le_most_rows { n ≤ most_rows }
+    ensures { (m : Movable tree.old at to.now) → tree.new ≡ encode_tree (moved m) }
 {
     let mut held = [0u8; ALL_WIDTH];
     move_by(tree, at, n, to, &mut held);
@@ -133,7 +133,7 @@ fn move_all(tree: &mut [u8], at: usize, n: usize, to: &[u8])
 // Moves the place at a row with all below it to a path where nothing stands.
 pub fn move_place(tree: &mut [u8], at: usize, to: &[u8])
     requires { Movable tree.old at to.now }
-    ensures { (m : Movable tree.old at to.now) → tree.new ≡ encode-tree (moved m) }
+    ensures { (m : Movable tree.old at to.now) → tree.new ≡ encode_tree (moved m) }
 {
     let n = subtree_end(tree, at) - at;
     if n <= FEW_ROWS {

@@ -10,218 +10,218 @@ use Rattle.std.proofs.Math.ListN.{length}
 use Rattle.buffers.specs.Cases.{and_both}
 use Rattle.buffers.specs.Text.{Text, every}
 use Rattle.buffers.specs.Fields.{two_bytes, padded}
-use Rattle.buffers.specs.FieldsLaws.{length-padded, length-two-bytes}
+use Rattle.buffers.specs.FieldsLaws.{length_padded, length_two_bytes}
 use Rattle.accounts.specs.declared.Uid.{Uid}
 use Rattle.accounts.specs.declared.Gid.{Gid}
-use Rattle.syntax.specs.Path.{Path, last, depth, Entry-path, is-entry-path, entry-text}
-use Rattle.syntax.specs.PathLaws.{entry-text-fits}
-use Rattle.syntax.specs.FieldLaws.{content-fits}
-use Rattle.tree.specs.Layout.{owner-offset, group-offset, mode-offset, revision-offset, name-width, tag-offset, tag-width, tag-revision-offset, content-offset, content-width, whole-tag-width}
+use Rattle.syntax.specs.Path.{Path, last, depth, EntryPath, is_entry_path, entry_text}
+use Rattle.syntax.specs.PathLaws.{entry_text_fits}
+use Rattle.syntax.specs.FieldLaws.{content_fits}
+use Rattle.tree.specs.Layout.{owner_offset, group_offset, mode_offset, revision_offset, name_width, tag_offset, tag_width, tag_revision_offset, content_offset, content_width, whole_tag_width}
 use Rattle.tree.specs.Forest.{Place, update, place_at, alter}
-use Rattle.tree.specs.Node.{Tag, Node, set-owner, set-group, set-mode, set-revision, set-tag, set-content}
+use Rattle.tree.specs.Node.{Tag, Node, set_owner, set_group, set_mode, set_revision, set_tag, set_content}
 use Rattle.tree.specs.Rows.{Row, flatten}
-use Rattle.tree.specs.WellFormed.{is-tag, is-tree}
+use Rattle.tree.specs.WellFormed.{is_tag, is_tree}
 use Rattle.tree.specs.RowPlaces.{index_of}
 use Rattle.tree.specs.RowPlacesLaws.{around}
-use Rattle.tree.specs.RowChangesLaws.{alter-rows}
-use Rattle.tree.specs.Encoding.{kind-byte, tag-bytes, row-bytes, encode-rows, encode-tree, row-head, row-spare}
-use Rattle.tree.specs.RowBytesLaws.{before-content, length-tag-bytes, node-parts, length-row-head, row-parts}
-use Rattle.tree.specs.EncodingLaws.{fits, fits-parts}
+use Rattle.tree.specs.RowChangesLaws.{alter_rows}
+use Rattle.tree.specs.Encoding.{kind_byte, tag_bytes, row_bytes, encode_rows, encode_tree, row_head, row_spare}
+use Rattle.tree.specs.RowBytesLaws.{before_content, length_tag_bytes, node_parts, length_row_head, row_parts}
+use Rattle.tree.specs.EncodingLaws.{fits, fits_parts}
 use Rattle.tree.specs.TreeBytes.{At}
-use Rattle.edits.specs.Changes.{field-bytes, field_put}
-use Rattle.edits.specs.EncodedRowsLaws.{encode-tree-rows, table-field-at, table-field-put}
-use Rattle.edits.specs.EditLaws.{cut_fits, fitting-wide}
+use Rattle.edits.specs.Changes.{field_bytes, field_put}
+use Rattle.edits.specs.EncodedRowsLaws.{encode_tree_rows, table_field_at, table_field_put}
+use Rattle.edits.specs.EditLaws.{cut_fits, fitting_wide}
 
 -- the row of the place at a path, with a node for its own
-abbrev pub row-there : Path → Node → Row Node
-row-there p x = record { depth = depth p; name = last p; here = x }
+abbrev pub row_there : Path → Node → Row Node
+row_there p x = record { depth = depth p; name = last p; here = x }
 
-module _ (t : Place Node) (p : Path) (d : Place Node) (h : is-tree t ≡ true) (there : place_at t p ≡ some d) where
+module _ (t : Place Node) (p : Path) (d : Place Node) (h : is_tree t ≡ true) (there : place_at t p ≡ some d) where
   -- the row of the place fits
-  row_fits : fits (row-there p d.here) ≡ true
+  row_fits : fits (row_there p d.here) ≡ true
   unfolding every
   row_fits =
       let c = around t p d there in
       let rest = flatten (suc (depth p)) d.below ++ c.post in
-      let f = cut_fits t h c.pre (row-there p d.here ∷ rest) (alter-rows c (λ x. x)).0 in
-      (and_both (fits (row-there p d.here)) (every fits rest) f.1).0
+      let f = cut_fits t h c.pre (row_there p d.here ∷ rest) (alter_rows c (λ x. x)).0 in
+      (and_both (fits (row_there p d.here)) (every fits rest) f.1).0
 
-  module _ (k : ℕ) (P old Q : List ℕ) (l : length P ≡ k) (was : row-bytes (row-there p d.here) ≡ P ++ (old ++ Q)) where
+  module _ (k : ℕ) (P old Q : List ℕ) (l : length P ≡ k) (was : row_bytes (row_there p d.here) ≡ P ++ (old ++ Q)) where
     -- what stands in a field of the row
-    pub field-law : field-bytes (encode-tree t) (index_of t p) k (length old) ≡ old
-    field-law =
+    pub field_law : field_bytes (encode_tree t) (index_of t p) k (length old) ≡ old
+    field_law =
         let c = around t p d there in
         let rest = flatten (suc (depth p)) d.below ++ c.post in
-        let e = (alter-rows c (λ x. x)).0 in
-        let f = cut_fits t h c.pre (row-there p d.here ∷ rest) e in
-        ap (λ (b : List ℕ). field-bytes b (index_of t p) k (length old)) (encode-tree-rows t ∙ ap encode-rows e)
-        ∙ ap (λ (i : ℕ). field-bytes (encode-rows (c.pre ++ row-there p d.here ∷ rest)) i k (length old)) (sym c.index)
-        ∙ table-field-at c.pre rest P Q (fitting-wide c.pre f.0) k l (row-there p d.here) old was
+        let e = (alter_rows c (λ x. x)).0 in
+        let f = cut_fits t h c.pre (row_there p d.here ∷ rest) e in
+        ap (λ (b : List ℕ). field_bytes b (index_of t p) k (length old)) (encode_tree_rows t ∙ ap encode_rows e)
+        ∙ ap (λ (i : ℕ). field_bytes (encode_rows (c.pre ++ row_there p d.here ∷ rest)) i k (length old)) (sym c.index)
+        ∙ table_field_at c.pre rest P Q (fitting_wide c.pre f.0) k l (row_there p d.here) old was
 
     -- and the node whose row differs in that field alone
-    pub change-law : (g : Node → Node) (new : List ℕ) → length old ≡ length new → row-bytes (row-there p (g d.here)) ≡ P ++ (new ++ Q)
-        → field_put (encode-tree t) (index_of t p) k new ≡ encode-tree (update p (alter g) t)
-    change-law g new q is =
+    pub change_law : (g : Node → Node) (new : List ℕ) → length old ≡ length new → row_bytes (row_there p (g d.here)) ≡ P ++ (new ++ Q)
+        → field_put (encode_tree t) (index_of t p) k new ≡ encode_tree (update p (alter g) t)
+    change_law g new q is =
         let c = around t p d there in
         let rest = flatten (suc (depth p)) d.below ++ c.post in
-        let e = alter-rows c g in
-        let f = cut_fits t h c.pre (row-there p d.here ∷ rest) e.0 in
-        ap (λ (b : List ℕ). field_put b (index_of t p) k new) (encode-tree-rows t ∙ ap encode-rows e.0)
-        ∙ ap (λ (i : ℕ). field_put (encode-rows (c.pre ++ row-there p d.here ∷ rest)) i k new) (sym c.index)
-        ∙ table-field-put c.pre rest P Q (fitting-wide c.pre f.0) k l (row-there p d.here) old was (row-there p (g d.here)) new q is
-        ∙ sym (encode-tree-rows (update p (alter g) t) ∙ ap encode-rows e.1)
+        let e = alter_rows c g in
+        let f = cut_fits t h c.pre (row_there p d.here ∷ rest) e.0 in
+        ap (λ (b : List ℕ). field_put b (index_of t p) k new) (encode_tree_rows t ∙ ap encode_rows e.0)
+        ∙ ap (λ (i : ℕ). field_put (encode_rows (c.pre ++ row_there p d.here ∷ rest)) i k new) (sym c.index)
+        ∙ table_field_put c.pre rest P Q (fitting_wide c.pre f.0) k l (row_there p d.here) old was (row_there p (g d.here)) new q is
+        ∙ sym (encode_tree_rows (update p (alter g) t) ∙ ap encode_rows e.1)
 
-  owner-changed : (u : Uid) → field_put (encode-tree t) (index_of t p) owner-offset (u.0 ∷ []) ≡ encode-tree (update p (alter (set-owner u)) t)
-  unfolding row-bytes set-owner
-  owner-changed u =
+  owner_changed : (u : Uid) → field_put (encode_tree t) (index_of t p) owner_offset (u.0 ∷ []) ≡ encode_tree (update p (alter (set_owner u)) t)
+  unfolding row_bytes set_owner
+  owner_changed u =
       let x = d.here in
-      change-law 2 (depth p ∷ kind-byte x.kind ∷ []) (x.owner.0 ∷ []) _ refl refl (set-owner u) (u.0 ∷ []) refl refl
+      change_law 2 (depth p ∷ kind_byte x.kind ∷ []) (x.owner.0 ∷ []) _ refl refl (set_owner u) (u.0 ∷ []) refl refl
 
-  group-changed : (g : Gid) → field_put (encode-tree t) (index_of t p) group-offset (g.0 ∷ []) ≡ encode-tree (update p (alter (set-group g)) t)
-  unfolding row-bytes set-group
-  group-changed g =
+  group_changed : (g : Gid) → field_put (encode_tree t) (index_of t p) group_offset (g.0 ∷ []) ≡ encode_tree (update p (alter (set_group g)) t)
+  unfolding row_bytes set_group
+  group_changed g =
       let x = d.here in
-      change-law 3 (depth p ∷ kind-byte x.kind ∷ x.owner.0 ∷ []) (x.group.0 ∷ []) _ refl refl (set-group g) (g.0 ∷ []) refl refl
+      change_law 3 (depth p ∷ kind_byte x.kind ∷ x.owner.0 ∷ []) (x.group.0 ∷ []) _ refl refl (set_group g) (g.0 ∷ []) refl refl
 
-  mode-changed : (m : ℕ) → field_put (encode-tree t) (index_of t p) mode-offset (two_bytes m) ≡ encode-tree (update p (alter (set-mode m)) t)
-  unfolding row-bytes set-mode two_bytes
-  mode-changed m =
+  mode_changed : (m : ℕ) → field_put (encode_tree t) (index_of t p) mode_offset (two_bytes m) ≡ encode_tree (update p (alter (set_mode m)) t)
+  unfolding row_bytes set_mode two_bytes
+  mode_changed m =
       let x = d.here in
-      change-law 4 (depth p ∷ kind-byte x.kind ∷ x.owner.0 ∷ x.group.0 ∷ []) (two_bytes x.mode) _ refl refl (set-mode m) (two_bytes m) refl refl
+      change_law 4 (depth p ∷ kind_byte x.kind ∷ x.owner.0 ∷ x.group.0 ∷ []) (two_bytes x.mode) _ refl refl (set_mode m) (two_bytes m) refl refl
 
-  revision-changed : (v : ℕ) → field_put (encode-tree t) (index_of t p) revision-offset (two_bytes v) ≡ encode-tree (update p (alter (set-revision v)) t)
-  unfolding row-bytes set-revision two_bytes
-  revision-changed v =
+  revision_changed : (v : ℕ) → field_put (encode_tree t) (index_of t p) revision_offset (two_bytes v) ≡ encode_tree (update p (alter (set_revision v)) t)
+  unfolding row_bytes set_revision two_bytes
+  revision_changed v =
       let x = d.here in
-      let P : List ℕ = (depth p ∷ kind-byte x.kind ∷ x.owner.0 ∷ x.group.0 ∷ []) ++ two_bytes x.mode in
-      change-law 6 P (two_bytes x.revision) _ refl refl (set-revision v) (two_bytes v) refl refl
+      let P : List ℕ = (depth p ∷ kind_byte x.kind ∷ x.owner.0 ∷ x.group.0 ∷ []) ++ two_bytes x.mode in
+      change_law 6 P (two_bytes x.revision) _ refl refl (set_revision v) (two_bytes v) refl refl
 
 abbrev pub name_of : Row Node → List ℕ
-name_of r = padded name-width r.name
+name_of r = padded name_width r.name
 
 -- the parts of a row gathered around one of them
-regroup-four : (H N T B R : List ℕ) → H ++ (N ++ ((T ++ B) ++ R)) ≡ (H ++ (N ++ T)) ++ (B ++ R)
-regroup-four H N T B R = simp append_assoc
+regroup_four : (H N T B R : List ℕ) → H ++ (N ++ ((T ++ B) ++ R)) ≡ (H ++ (N ++ T)) ++ (B ++ R)
+regroup_four H N T B R = simp append_assoc
 
-module _ (t : Place Node) (p : Path) (d : Place Node) (h : is-tree t ≡ true) (there : place_at t p ≡ some d) where
-  length-name : length (name_of (row-there p d.here)) ≡ 8
-  length-name = length-padded name-width (last p) (fits-parts (row-there p d.here) (row_fits t p d h there)).1.0
+module _ (t : Place Node) (p : Path) (d : Place Node) (h : is_tree t ≡ true) (there : place_at t p ≡ some d) where
+  length_name : length (name_of (row_there p d.here)) ≡ 8
+  length_name = length_padded name_width (last p) (fits_parts (row_there p d.here) (row_fits t p d h there)).1.0
 
-  pub tag-fits-there : is-tag d.here.tag ≡ true
-  tag-fits-there = (node-parts d.here (fits-parts (row-there p d.here) (row_fits t p d h there)).0).0
+  pub tag_fits_there : is_tag d.here.tag ≡ true
+  tag_fits_there = (node_parts d.here (fits_parts (row_there p d.here) (row_fits t p d h there)).0).0
 
-  pub content-fits-there : length d.here.content ≤ content-width
-  content-fits-there =
-      let i = node-parts d.here (fits-parts (row-there p d.here) (row_fits t p d h there)).0 in
-      (content-fits d.here.content i.1).0
+  pub content_fits_there : length d.here.content ≤ content_width
+  content_fits_there =
+      let i = node_parts d.here (fits_parts (row_there p d.here) (row_fits t p d h there)).0 in
+      (content_fits d.here.content i.1).0
 
   -- how many bytes stand before the tag
-  pub length-before-tag : (x : Node) → length (row-head (row-there p x) ++ name_of (row-there p d.here)) ≡ tag-offset
-  length-before-tag x = length-append (row-head (row-there p x)) (name_of (row-there p d.here)) ∙ omega (arith, length-row-head (row-there p x), length-name)
+  pub length_before_tag : (x : Node) → length (row_head (row_there p x) ++ name_of (row_there p d.here)) ≡ tag_offset
+  length_before_tag x = length-append (row_head (row_there p x)) (name_of (row_there p d.here)) ∙ omega (arith, length_row_head (row_there p x), length_name)
 
   -- how many bytes stand before what follows the name and a stretch T
-  length_so_far : (x : Node) (T : List ℕ) (k : ℕ) → length T ≡ k → length (row-head (row-there p x) ++ (name_of (row-there p d.here) ++ T)) ≡ tag-offset + k
+  length_so_far : (x : Node) (T : List ℕ) (k : ℕ) → length T ≡ k → length (row_head (row_there p x) ++ (name_of (row_there p d.here) ++ T)) ≡ tag_offset + k
   length_so_far x T k l =
-      length-append (row-head (row-there p x)) (name_of (row-there p d.here) ++ T) ∙ omega (arith, length-row-head (row-there p x), length-append (name_of (row-there p d.here)) T, length-name)
+      length-append (row_head (row_there p x)) (name_of (row_there p d.here) ++ T) ∙ omega (arith, length_row_head (row_there p x), length-append (name_of (row_there p d.here)) T, length_name)
 
-  tag-changed : (e : Entry-path) (v : ℕ) → is-entry-path e ≡ true
-      → field_put (encode-tree t) (index_of t p) tag-offset (padded tag-width (entry-text e) ++ two_bytes v)
-      ≡ encode-tree (update p (alter (set-tag (record { path = e; revision = v }))) t)
-  unfolding set-tag tag-bytes two_bytes
-  tag-changed e v a =
+  tag_changed : (e : EntryPath) (v : ℕ) → is_entry_path e ≡ true
+      → field_put (encode_tree t) (index_of t p) tag_offset (padded tag_width (entry_text e) ++ two_bytes v)
+      ≡ encode_tree (update p (alter (set_tag (record { path = e; revision = v }))) t)
+  unfolding set_tag tag_bytes two_bytes
+  tag_changed e v a =
       let x = d.here in
-      let P = row-head (row-there p x) ++ name_of (row-there p d.here) in
-      let Q = padded content-width x.content ++ row-spare in
-      let T = padded tag-width (entry-text e) in
+      let P = row_head (row_there p x) ++ name_of (row_there p d.here) in
+      let Q = padded content_width x.content ++ row_spare in
+      let T = padded tag_width (entry_text e) in
       let g : Tag = record { path = e; revision = v } in
-      let lT = length-padded tag-width (entry-text e) (entry-text-fits e a).0 in
-      let q : length (tag-bytes x.tag) ≡ length (T ++ two_bytes v) =
-      length-tag-bytes x.tag tag-fits-there ∙ sym (length-append T (two_bytes v) ∙ omega (arith, lT)) in
-      change-law t p d h there tag-offset P (tag-bytes x.tag) Q (length-before-tag x) (row-parts (row-there p x)) (set-tag g) (T ++ two_bytes v) q (row-parts (row-there p (set-tag g x)))
+      let lT = length_padded tag_width (entry_text e) (entry_text_fits e a).0 in
+      let q : length (tag_bytes x.tag) ≡ length (T ++ two_bytes v) =
+      length_tag_bytes x.tag tag_fits_there ∙ sym (length-append T (two_bytes v) ∙ omega (arith, lT)) in
+      change_law t p d h there tag_offset P (tag_bytes x.tag) Q (length_before_tag x) (row_parts (row_there p x)) (set_tag g) (T ++ two_bytes v) q (row_parts (row_there p (set_tag g x)))
 
   -- the tag keeps its path and gets another revision
-  tag-revision-changed : (g : Tag) (v : ℕ) → d.here.tag ≡ some g
-      → field_put (encode-tree t) (index_of t p) tag-revision-offset (two_bytes v) ≡ encode-tree (update p (alter (set-tag (record { path = g.path; revision = v }))) t)
-  unfolding set-tag tag-bytes is-tag
-  tag-revision-changed g v e =
+  tag_revision_changed : (g : Tag) (v : ℕ) → d.here.tag ≡ some g
+      → field_put (encode_tree t) (index_of t p) tag_revision_offset (two_bytes v) ≡ encode_tree (update p (alter (set_tag (record { path = g.path; revision = v }))) t)
+  unfolding set_tag tag_bytes is_tag
+  tag_revision_changed g v e =
       let x = d.here in
-      let T = padded tag-width (entry-text g.path) in
-      let Q = padded content-width x.content ++ row-spare in
+      let T = padded tag_width (entry_text g.path) in
+      let Q = padded content_width x.content ++ row_spare in
       let new : Tag = record { path = g.path; revision = v } in
-      let fit : is-tag (some g) ≡ true = ap is-tag (sym e) ∙ tag-fits-there in
-      let path = (and_both (is-entry-path g.path) _ fit).0 in
-      let lT = length-padded tag-width (entry-text g.path) (entry-text-fits g.path path).0 in
-      let was : row-bytes (row-there p x) ≡ (row-head (row-there p x) ++ (name_of (row-there p d.here) ++ T)) ++ (two_bytes g.revision ++ Q) =
-      row-parts (row-there p x) ∙ ap (λ (o : Option Tag). row-head (row-there p x) ++ (name_of (row-there p d.here) ++ (tag-bytes o ++ Q))) e
-      ∙ regroup-four (row-head (row-there p x)) (name_of (row-there p d.here)) T (two_bytes g.revision) Q in
-      change-law t p d h there tag-revision-offset (row-head (row-there p x) ++ (name_of (row-there p d.here) ++ T)) (two_bytes g.revision) Q (length_so_far x T tag-width lT) was (set-tag new) (two_bytes v)
-      (length-two-bytes g.revision ∙ sym (length-two-bytes v))
-      (row-parts (row-there p (set-tag new x)) ∙ regroup-four (row-head (row-there p x)) (name_of (row-there p d.here)) T (two_bytes v) Q)
+      let fit : is_tag (some g) ≡ true = ap is_tag (sym e) ∙ tag_fits_there in
+      let path = (and_both (is_entry_path g.path) _ fit).0 in
+      let lT = length_padded tag_width (entry_text g.path) (entry_text_fits g.path path).0 in
+      let was : row_bytes (row_there p x) ≡ (row_head (row_there p x) ++ (name_of (row_there p d.here) ++ T)) ++ (two_bytes g.revision ++ Q) =
+      row_parts (row_there p x) ∙ ap (λ (o : Option Tag). row_head (row_there p x) ++ (name_of (row_there p d.here) ++ (tag_bytes o ++ Q))) e
+      ∙ regroup_four (row_head (row_there p x)) (name_of (row_there p d.here)) T (two_bytes g.revision) Q in
+      change_law t p d h there tag_revision_offset (row_head (row_there p x) ++ (name_of (row_there p d.here) ++ T)) (two_bytes g.revision) Q (length_so_far x T tag_width lT) was (set_tag new) (two_bytes v)
+      (length_two_bytes g.revision ∙ sym (length_two_bytes v))
+      (row_parts (row_there p (set_tag new x)) ∙ regroup_four (row_head (row_there p x)) (name_of (row_there p d.here)) T (two_bytes v) Q)
 
   -- the content, where it stands
-  content-parts : (x : Node) → row-bytes (row-there p x) ≡ (row-head (row-there p x) ++ (name_of (row-there p d.here) ++ tag-bytes x.tag)) ++ (padded content-width x.content ++ row-spare)
-  content-parts x = row-parts (row-there p x) ∙ before-content (row-head (row-there p x)) (name_of (row-there p d.here)) (tag-bytes x.tag) (padded content-width x.content ++ row-spare)
+  content_parts : (x : Node) → row_bytes (row_there p x) ≡ (row_head (row_there p x) ++ (name_of (row_there p d.here) ++ tag_bytes x.tag)) ++ (padded content_width x.content ++ row_spare)
+  content_parts x = row_parts (row_there p x) ∙ before_content (row_head (row_there p x)) (name_of (row_there p d.here)) (tag_bytes x.tag) (padded content_width x.content ++ row_spare)
 
-  length-before-content : length (row-head (row-there p d.here) ++ (name_of (row-there p d.here) ++ tag-bytes d.here.tag)) ≡ content-offset
-  length-before-content = length_so_far d.here (tag-bytes d.here.tag) whole-tag-width (length-tag-bytes d.here.tag tag-fits-there)
+  length_before_content : length (row_head (row_there p d.here) ++ (name_of (row_there p d.here) ++ tag_bytes d.here.tag)) ≡ content_offset
+  length_before_content = length_so_far d.here (tag_bytes d.here.tag) whole_tag_width (length_tag_bytes d.here.tag tag_fits_there)
 
-  length-content : length (padded content-width d.here.content) ≡ content-width
-  length-content = length-padded content-width d.here.content content-fits-there
+  length_content : length (padded content_width d.here.content) ≡ content_width
+  length_content = length_padded content_width d.here.content content_fits_there
 
-  content-changed : (c : Text) → length c ≤ content-width
-      → field_put (encode-tree t) (index_of t p) content-offset (padded content-width c) ≡ encode-tree (update p (alter (set-content c)) t)
-  unfolding set-content
-  content-changed c l =
+  content_changed : (c : Text) → length c ≤ content_width
+      → field_put (encode_tree t) (index_of t p) content_offset (padded content_width c) ≡ encode_tree (update p (alter (set_content c)) t)
+  unfolding set_content
+  content_changed c l =
       let x = d.here in
-      change-law t p d h there content-offset (row-head (row-there p x) ++ (name_of (row-there p d.here) ++ tag-bytes x.tag)) (padded content-width x.content) row-spare length-before-content (content-parts x)
-      (set-content c) (padded content-width c) (length-content ∙ sym (length-padded content-width c l)) (content-parts (set-content c x))
+      change_law t p d h there content_offset (row_head (row_there p x) ++ (name_of (row_there p d.here) ++ tag_bytes x.tag)) (padded content_width x.content) row_spare length_before_content (content_parts x)
+      (set_content c) (padded content_width c) (length_content ∙ sym (length_padded content_width c l)) (content_parts (set_content c x))
 
-  content-read : field-bytes (encode-tree t) (index_of t p) content-offset content-width ≡ padded content-width d.here.content
-  content-read =
+  content_read : field_bytes (encode_tree t) (index_of t p) content_offset content_width ≡ padded content_width d.here.content
+  content_read =
       let x = d.here in
-      ap (field-bytes (encode-tree t) (index_of t p) content-offset) (sym length-content)
-      ∙ field-law t p d h there content-offset (row-head (row-there p x) ++ (name_of (row-there p d.here) ++ tag-bytes x.tag)) (padded content-width x.content) row-spare length-before-content (content-parts x)
+      ap (field_bytes (encode_tree t) (index_of t p) content_offset) (sym length_content)
+      ∙ field_law t p d h there content_offset (row_head (row_there p x) ++ (name_of (row_there p d.here) ++ tag_bytes x.tag)) (padded content_width x.content) row_spare length_before_content (content_parts x)
 
 -- ---- at the row of a place
 
 -- what is read in the tree's own bytes at the path's index is read in b at i
-pub read-there : {b : List ℕ} {t : Place Node} {p : Path} {i : ℕ} {d : Place Node} → At b t p i d
-    → (k n : ℕ) (s : List ℕ) → field-bytes (encode-tree t) (index_of t p) k n ≡ s → field-bytes b i k n ≡ s
-read-there {b} {t} {p} {i} a k n s e = ap (λ (c : List ℕ). field-bytes c i k n) a.tree.bytes ∙ ap (λ (j : ℕ). field-bytes (encode-tree t) j k n) a.row ∙ e
+pub read_there : {b : List ℕ} {t : Place Node} {p : Path} {i : ℕ} {d : Place Node} → At b t p i d
+    → (k n : ℕ) (s : List ℕ) → field_bytes (encode_tree t) (index_of t p) k n ≡ s → field_bytes b i k n ≡ s
+read_there {b} {t} {p} {i} a k n s e = ap (λ (c : List ℕ). field_bytes c i k n) a.tree.bytes ∙ ap (λ (j : ℕ). field_bytes (encode_tree t) j k n) a.row ∙ e
 
 module _ {b : List ℕ} {t : Place Node} {p : Path} {i : ℕ} {d : Place Node} (a : At b t p i d) where
   -- and what is written there
-  pub there-too : (k : ℕ) (s : List ℕ) (g : Node → Node) → field_put (encode-tree t) (index_of t p) k s ≡ encode-tree (update p (alter g) t)
-      → field_put b i k s ≡ encode-tree (update p (alter g) t)
-  there-too k s g e = ap (λ (c : List ℕ). field_put c i k s) a.tree.bytes ∙ ap (λ (j : ℕ). field_put (encode-tree t) j k s) a.row ∙ e
+  pub there_too : (k : ℕ) (s : List ℕ) (g : Node → Node) → field_put (encode_tree t) (index_of t p) k s ≡ encode_tree (update p (alter g) t)
+      → field_put b i k s ≡ encode_tree (update p (alter g) t)
+  there_too k s g e = ap (λ (c : List ℕ). field_put c i k s) a.tree.bytes ∙ ap (λ (j : ℕ). field_put (encode_tree t) j k s) a.row ∙ e
 
-  pub owner-law : (u : Uid) → field_put b i owner-offset (u.0 ∷ []) ≡ encode-tree (update p (alter (set-owner u)) t)
-  owner-law u = there-too owner-offset (u.0 ∷ []) (set-owner u) (owner-changed t p d a.tree.whole a.there u)
+  pub owner_law : (u : Uid) → field_put b i owner_offset (u.0 ∷ []) ≡ encode_tree (update p (alter (set_owner u)) t)
+  owner_law u = there_too owner_offset (u.0 ∷ []) (set_owner u) (owner_changed t p d a.tree.whole a.there u)
 
-  pub group-law : (g : Gid) → field_put b i group-offset (g.0 ∷ []) ≡ encode-tree (update p (alter (set-group g)) t)
-  group-law g = there-too group-offset (g.0 ∷ []) (set-group g) (group-changed t p d a.tree.whole a.there g)
+  pub group_law : (g : Gid) → field_put b i group_offset (g.0 ∷ []) ≡ encode_tree (update p (alter (set_group g)) t)
+  group_law g = there_too group_offset (g.0 ∷ []) (set_group g) (group_changed t p d a.tree.whole a.there g)
 
-  pub mode-law : (m : ℕ) → field_put b i mode-offset (two_bytes m) ≡ encode-tree (update p (alter (set-mode m)) t)
-  mode-law m = there-too mode-offset (two_bytes m) (set-mode m) (mode-changed t p d a.tree.whole a.there m)
+  pub mode_law : (m : ℕ) → field_put b i mode_offset (two_bytes m) ≡ encode_tree (update p (alter (set_mode m)) t)
+  mode_law m = there_too mode_offset (two_bytes m) (set_mode m) (mode_changed t p d a.tree.whole a.there m)
 
-  pub revision-law : (v : ℕ) → field_put b i revision-offset (two_bytes v) ≡ encode-tree (update p (alter (set-revision v)) t)
-  revision-law v = there-too revision-offset (two_bytes v) (set-revision v) (revision-changed t p d a.tree.whole a.there v)
+  pub revision_law : (v : ℕ) → field_put b i revision_offset (two_bytes v) ≡ encode_tree (update p (alter (set_revision v)) t)
+  revision_law v = there_too revision_offset (two_bytes v) (set_revision v) (revision_changed t p d a.tree.whole a.there v)
 
-  pub tag-law : (e : Entry-path) (v : ℕ) → is-entry-path e ≡ true → field_put b i tag-offset (padded tag-width (entry-text e) ++ two_bytes v)
-      ≡ encode-tree (update p (alter (set-tag (record { path = e; revision = v }))) t)
-  tag-law e v h = there-too tag-offset (padded tag-width (entry-text e) ++ two_bytes v) (set-tag (record { path = e; revision = v })) (tag-changed t p d a.tree.whole a.there e v h)
+  pub tag_law : (e : EntryPath) (v : ℕ) → is_entry_path e ≡ true → field_put b i tag_offset (padded tag_width (entry_text e) ++ two_bytes v)
+      ≡ encode_tree (update p (alter (set_tag (record { path = e; revision = v }))) t)
+  tag_law e v h = there_too tag_offset (padded tag_width (entry_text e) ++ two_bytes v) (set_tag (record { path = e; revision = v })) (tag_changed t p d a.tree.whole a.there e v h)
 
   -- the tag keeps its path and gets another revision
-  pub tag-revision-law : (g : Tag) (v : ℕ) → d.here.tag ≡ some g → field_put b i tag-revision-offset (two_bytes v)
-      ≡ encode-tree (update p (alter (set-tag (record { path = g.path; revision = v }))) t)
-  tag-revision-law g v e = there-too tag-revision-offset (two_bytes v) (set-tag (record { path = g.path; revision = v })) (tag-revision-changed t p d a.tree.whole a.there g v e)
+  pub tag_revision_law : (g : Tag) (v : ℕ) → d.here.tag ≡ some g → field_put b i tag_revision_offset (two_bytes v)
+      ≡ encode_tree (update p (alter (set_tag (record { path = g.path; revision = v }))) t)
+  tag_revision_law g v e = there_too tag_revision_offset (two_bytes v) (set_tag (record { path = g.path; revision = v })) (tag_revision_changed t p d a.tree.whole a.there g v e)
 
-  pub content-law : (c : Text) → length c ≤ content-width → field_put b i content-offset (padded content-width c) ≡ encode-tree (update p (alter (set-content c)) t)
-  content-law c l = there-too content-offset (padded content-width c) (set-content c) (content-changed t p d a.tree.whole a.there c l)
+  pub content_law : (c : Text) → length c ≤ content_width → field_put b i content_offset (padded content_width c) ≡ encode_tree (update p (alter (set_content c)) t)
+  content_law c l = there_too content_offset (padded content_width c) (set_content c) (content_changed t p d a.tree.whole a.there c l)
 
   -- the content of another place
-  pub copy-content-law : {q : Path} {j : ℕ} {f : Place Node} → At b t q j f
-      → field_put b i content-offset (field-bytes b j content-offset content-width) ≡ encode-tree (update p (alter (set-content f.here.content)) t)
-  copy-content-law {q} {j} {f} from =
-      let read = read-there from content-offset content-width (padded content-width f.here.content) (content-read t q f from.tree.whole from.there) in
-      ap (field_put b i content-offset) read ∙ content-law f.here.content (content-fits-there t q f from.tree.whole from.there)
+  pub copy_content_law : {q : Path} {j : ℕ} {f : Place Node} → At b t q j f
+      → field_put b i content_offset (field_bytes b j content_offset content_width) ≡ encode_tree (update p (alter (set_content f.here.content)) t)
+  copy_content_law {q} {j} {f} from =
+      let read = read_there from content_offset content_width (padded content_width f.here.content) (content_read t q f from.tree.whole from.there) in
+      ap (field_put b i content_offset) read ∙ content_law f.here.content (content_fits_there t q f from.tree.whole from.there)

@@ -1,14 +1,14 @@
 -- All of a node but its name copied to another row, in bytes.
 use Rattle.std.specs.Prelude.{List, ℕ, ◌-◌}
-use Rattle.tree.specs.Layout.{kind-offset, name-offset, behind-name-width, tag-offset}
-use Rattle.edits.specs.Changes.{field-bytes, field_put}
+use Rattle.tree.specs.Layout.{kind_offset, name_offset, behind_name_width, tag_offset}
+use Rattle.edits.specs.Changes.{field_bytes, field_put}
 
 -- the attributes of a node stand between the depth and the name of its row
-abbrev pub attributes-width : ℕ
-attributes-width = name-offset - kind-offset
+abbrev pub attributes_width : ℕ
+attributes_width = name_offset - kind_offset
 
 -- the attributes of one row copied to another, and then all that stands behind its name
-unfoldable pub node-copied : List ℕ → ℕ → ℕ → List ℕ
-node-copied b from to =
-    let b₁ = field_put b to kind-offset (field-bytes b from kind-offset attributes-width) in
-    field_put b₁ to tag-offset (field-bytes b₁ from tag-offset behind-name-width)
+unfoldable pub node_copied : List ℕ → ℕ → ℕ → List ℕ
+node_copied b from to =
+    let b₁ = field_put b to kind_offset (field_bytes b from kind_offset attributes_width) in
+    field_put b₁ to tag_offset (field_bytes b₁ from tag_offset behind_name_width)

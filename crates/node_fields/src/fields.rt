@@ -1,11 +1,11 @@
 // The fields of a row written.
 ghost use Rattle.std.specs.Prelude.{◌≡◌, [], ◌∷◌, ◌+◌, ◌≤◌, ◌<◌, length};
 ghost use Rattle.buffers.specs.Fields.{two_bytes, padded};
-ghost use Rattle.tree.specs.Layout.{row-width, owner-offset, group-offset, mode-offset, revision-offset, tag-offset, tag-width, tag-revision-offset, content-offset, content-width};
-ghost use Rattle.tree.specs.RowAt.{tag-text-at};
-ghost use Rattle.tree.specs.TreeBytes.{Has-row};
-ghost use Rattle.edits.specs.Changes.{field-bytes, field_put, content-field, tag-field, tag_below};
-ghost use Rattle.node_fields.specs.NodeCopy.{node-copied};
+ghost use Rattle.tree.specs.Layout.{row_width, owner_offset, group_offset, mode_offset, revision_offset, tag_offset, tag_width, tag_revision_offset, content_offset, content_width};
+ghost use Rattle.tree.specs.RowAt.{tag_text_at};
+ghost use Rattle.tree.specs.TreeBytes.{HasRow};
+ghost use Rattle.edits.specs.Changes.{field_bytes, field_put, content_field, tag_field, tag_below};
+ghost use Rattle.node_fields.specs.NodeCopy.{node_copied};
 
 use accounts::{Gid, Uid};
 use buffers::{clear, move_bytes, write, write_number, write_padded};
@@ -15,38 +15,38 @@ use tree::{
 };
 
 pub fn set_owner(tree: &mut [u8], i: usize, owner: Uid)
-    requires { Has-row tree.old i }
-    ensures { tree.new ≡ field_put tree.old i owner-offset (owner.0 ∷ []) }
+    requires { HasRow tree.old i }
+    ensures { tree.new ≡ field_put tree.old i owner_offset (owner.0 ∷ []) }
 {
     tree[FIRST + ROW * i + OWNER] = owner.0;
 }
 
 pub fn set_group(tree: &mut [u8], i: usize, group: Gid)
-    requires { Has-row tree.old i }
-    ensures { tree.new ≡ field_put tree.old i group-offset (group.0 ∷ []) }
+    requires { HasRow tree.old i }
+    ensures { tree.new ≡ field_put tree.old i group_offset (group.0 ∷ []) }
 {
     tree[FIRST + ROW * i + GROUP] = group.0;
 }
 
 pub fn set_mode(tree: &mut [u8], i: usize, mode: u16)
-    requires { Has-row tree.old i }
-    ensures { tree.new ≡ field_put tree.old i mode-offset (two_bytes mode) }
+    requires { HasRow tree.old i }
+    ensures { tree.new ≡ field_put tree.old i mode_offset (two_bytes mode) }
 {
     write_number(tree, FIRST + ROW * i + MODE, mode);
 }
 
 pub fn set_revision(tree: &mut [u8], i: usize, revision: u16)
-    requires { Has-row tree.old i }
-    ensures { tree.new ≡ field_put tree.old i revision-offset (two_bytes revision) }
+    requires { HasRow tree.old i }
+    ensures { tree.new ≡ field_put tree.old i revision_offset (two_bytes revision) }
 {
     write_number(tree, FIRST + ROW * i + REVISION, revision);
 }
 
 // The tag: its path as text, and its revision.
 pub fn set_tag(tree: &mut [u8], i: usize, path: &[u8], revision: u16)
-    requires has_row { Has-row tree.old i }
-    requires path_len_bound { length path.now ≤ tag-width }
-    ensures { tree.new ≡ field_put tree.old i tag-offset (tag-field path.now revision) }
+    requires has_row { HasRow tree.old i }
+    requires path_len_bound { length path.now ≤ tag_width }
+    ensures { tree.new ≡ field_put tree.old i tag_offset (tag_field path.now revision) }
 {
     let at = FIRST + ROW * i;
     write_padded(tree, at + TAG, TAG_WIDTH, path);
@@ -59,10 +59,10 @@ const BEHIND_SLASH: usize = 17;
 // The tag of a child: the path of the tag at a row before, a slash and a name. The whole field is cleared first: a fixed width is faster
 // than what the name leaves of it.
 pub fn set_tag_below(tree: &mut [u8], i: usize, above: usize, name: &[u8], revision: u16)
-    requires has_row { Has-row tree.old i }
+    requires has_row { HasRow tree.old i }
     requires above_lt_i { above < i }
-    requires name_len_bound { length (tag-text-at tree.old above) + length name.now < tag-width }
-    ensures { tree.new ≡ field_put tree.old i tag-offset (tag_below tree.old above name.now revision) }
+    requires name_len_bound { length (tag_text_at tree.old above) + length name.now < tag_width }
+    ensures { tree.new ≡ field_put tree.old i tag_offset (tag_below tree.old above name.now revision) }
 {
     let at = FIRST + ROW * i;
     let n = tag_path_at(tree, above).len();
@@ -74,26 +74,26 @@ pub fn set_tag_below(tree: &mut [u8], i: usize, above: usize, name: &[u8], revis
 }
 
 pub fn set_tag_revision(tree: &mut [u8], i: usize, revision: u16)
-    requires { Has-row tree.old i }
-    ensures { tree.new ≡ field_put tree.old i tag-revision-offset (two_bytes revision) }
+    requires { HasRow tree.old i }
+    ensures { tree.new ≡ field_put tree.old i tag_revision_offset (two_bytes revision) }
 {
     write_number(tree, FIRST + ROW * i + TAG_REVISION, revision);
 }
 
 pub fn set_content(tree: &mut [u8], i: usize, content: &[u8])
-    requires has_row { Has-row tree.old i }
-    requires content_len_bound { length content.now ≤ content-width }
-    ensures { tree.new ≡ field_put tree.old i content-offset (padded content-width content.now) }
+    requires has_row { HasRow tree.old i }
+    requires content_len_bound { length content.now ≤ content_width }
+    ensures { tree.new ≡ field_put tree.old i content_offset (padded content_width content.now) }
 {
     write_padded(tree, FIRST + ROW * i + CONTENT, CONTENT_WIDTH, content);
 }
 
 // A part of one row, n bytes from an offset on, to another.
 fn copy_part(tree: &mut [u8], from: usize, to: usize, at: usize, n: usize)
-    requires has_row { Has-row tree.old from }
-    requires has_row_2 { Has-row tree.old to }
-    requires n_bound { at + n ≤ row-width }
-    ensures { tree.new ≡ field_put tree.old to at (field-bytes tree.old from at n) }
+    requires has_row { HasRow tree.old from }
+    requires has_row_2 { HasRow tree.old to }
+    requires n_bound { at + n ≤ row_width }
+    ensures { tree.new ≡ field_put tree.old to at (field_bytes tree.old from at n) }
 {
     let source = FIRST + ROW * from + at;
     let target = FIRST + ROW * to + at;
@@ -102,9 +102,9 @@ fn copy_part(tree: &mut [u8], from: usize, to: usize, at: usize, n: usize)
 
 // The content of one row to another.
 pub fn copy_content(tree: &mut [u8], from: usize, to: usize)
-    requires has_row { Has-row tree.old from }
-    requires has_row_2 { Has-row tree.old to }
-    ensures { tree.new ≡ field_put tree.old to content-offset (content-field tree.old from) }
+    requires has_row { HasRow tree.old from }
+    requires has_row_2 { HasRow tree.old to }
+    ensures { tree.new ≡ field_put tree.old to content_offset (content_field tree.old from) }
 {
     copy_part(tree, from, to, CONTENT, CONTENT_WIDTH);
 }
@@ -114,9 +114,9 @@ const ATTRIBUTES: usize = NAME - KIND;
 
 // All of one row but its depth and its name to another.
 pub fn copy_node(tree: &mut [u8], from: usize, to: usize)
-    requires has_row { Has-row tree.old from }
-    requires has_row_2 { Has-row tree.old to }
-    ensures { tree.new ≡ node-copied tree.old from to }
+    requires has_row { HasRow tree.old from }
+    requires has_row_2 { HasRow tree.old to }
+    ensures { tree.new ≡ node_copied tree.old from to }
 {
     copy_part(tree, from, to, KIND, ATTRIBUTES);
     copy_part(tree, from, to, TAG, BEHIND_NAME);

@@ -9,199 +9,199 @@ use Rattle.buffers.specs.Text.{Text}
 use Rattle.accounts.specs.declared.Account.{Account}
 use Rattle.accounts.specs.declared.Caller.{Caller}
 use Rattle.accounts.specs.declared.Right.TheVariants.{W}
-use Rattle.syntax.specs.Path.{Path, path, parent, last, is-top, reserved}
-use Rattle.syntax.specs.PathLaws.{not-reserved}
-use Rattle.syntax.specs.PathTextLaws.{reserved-by-text}
+use Rattle.syntax.specs.Path.{Path, path, parent, last, is_top, reserved}
+use Rattle.syntax.specs.PathLaws.{not_reserved}
+use Rattle.syntax.specs.PathTextLaws.{reserved_by_text}
 use Rattle.tree.specs.declared.Kind.{Kind}
 use Rattle.tree.specs.declared.Cause.{Cause}
 use Rattle.tree.specs.declared.Cause.TheVariants.{Access, WrongKind, NotEmpty, Reserved, Full}
 use Rattle.tree.specs.Result.{Result, refused, done, ◌>>=◌}
-use Rattle.tree.specs.ResultLaws.{bind_done, refused-before, done-then, refused-then, done-bind, refused-bind, require-true, require-false, then-bind, bind-bind}
+use Rattle.tree.specs.ResultLaws.{bind_done, refused_before, done_then, refused_then, done_bind, refused_bind, require_true, require_false, then_bind, bind_bind}
 use Rattle.tree.specs.Outcomes.{gives, Ensures}
-use Rattle.tree.specs.GivesLaws.{done-with, then-check, then-do}
-use Rattle.tree.specs.Forest.{Place, is-empty, update, put, drop, leaf}
-use Rattle.tree.specs.Node.{same_kind, Node, allows, new-node}
-use Rattle.tree.specs.Walk.{by-modes, walk, room}
-use Rattle.tree.specs.RoomLaws.{walked-above}
+use Rattle.tree.specs.GivesLaws.{done_with, then_check, then_do}
+use Rattle.tree.specs.Forest.{Place, is_empty, update, put, drop, leaf}
+use Rattle.tree.specs.Node.{same_kind, Node, allows, new_node}
+use Rattle.tree.specs.Walk.{by_modes, walk, room}
+use Rattle.tree.specs.RoomLaws.{walked_above}
 use Rattle.tree.specs.UpdateLaws.{walked_at}
 use Rattle.tree.specs.WellFormed.{nodes}
-use Rattle.tree.specs.WellFormedLaws.{most-nodes-is}
-use Rattle.tree.specs.RowAt.{row_at, all-rows}
+use Rattle.tree.specs.WellFormedLaws.{most_nodes_is}
+use Rattle.tree.specs.RowAt.{row_at, all_rows}
 use Rattle.tree.specs.TreeBytes.{Encodes}
 use Rattle.tree.specs.TreeBytesLaws.{at_here}
 use Rattle.walks.specs.declared.Walked.{Walked}
 use Rattle.walks.specs.declared.Walked.TheVariants.{To, Refused}
-use Rattle.walks.specs.RowBelow.{has-children-in}
-use Rattle.walks.specs.RowBelowLaws.{at-has-children}
+use Rattle.walks.specs.RowBelow.{has_children_in}
+use Rattle.walks.specs.RowBelowLaws.{at_has_children}
 use Rattle.walks.specs.RowWalk.{Spot, spot, outcome}
-use Rattle.walks.specs.RowWalkLaws.{outcome-at, outcome-refused}
-use Rattle.walks.specs.WalkBytes.{Came, spot-from}
-use Rattle.walks.specs.WalkBytesLaws.{came-to, came-spot}
+use Rattle.walks.specs.RowWalkLaws.{outcome_at, outcome_refused}
+use Rattle.walks.specs.WalkBytes.{Came, spot_from}
+use Rattle.walks.specs.WalkBytesLaws.{came_to, came_spot}
 use Rattle.gaps.specs.declared.Room.{Room}
 use Rattle.gaps.specs.declared.Room.TheVariants
-use Rattle.gaps.specs.Gaps.{gap_of, gap_from, gap-told}
-use Rattle.gaps.specs.GapsLaws.{told-refused, told-gap, Standing, room-to}
-use Rattle.shell.specs.Steps.{fit, run-create, run-rm}
-use Rattle.nodes.specs.NodeChecks.{text-reserved, may-create, may-remove, row-removal}
+use Rattle.gaps.specs.Gaps.{gap_of, gap_from, gap_told}
+use Rattle.gaps.specs.GapsLaws.{told_refused, told_gap, Standing, room_to}
+use Rattle.shell.specs.Steps.{fit, run_create, run_rm}
+use Rattle.nodes.specs.NodeChecks.{text_reserved, may_create, may_remove, row_removal}
 
 -- ---- what the text of a path tells of it
 
-pub reserved-told : (s : Text) {r : Bool} → r ≡ text-reserved s → (p : Path) → path s ≡ some p → r ≡ reserved p
-unfolding text-reserved
-reserved-told s e p reads = e ∙ sym (reserved-by-text s p reads)
+pub reserved_told : (s : Text) {r : Bool} → r ≡ text_reserved s → (p : Path) → path s ≡ some p → r ≡ reserved p
+unfolding text_reserved
+reserved_told s e p reads = e ∙ sym (reserved_by_text s p reads)
 
 -- ---- the steps are the checks, and then the change
 
 module _ (c : Caller) (t : Place Node) where
-  create-steps : (kind : Kind) (p : Path) (mode : ℕ) → run-create c 0 t kind p mode
-      ≡ (may-create c.account t p >>= λ d. done (record { text = none; state = update (parent p) (put (last p) (leaf (new-node c d.here kind mode))) t }))
-  unfolding run-create may-create fit
-  create-steps kind p mode = simp (bind-bind, then-bind, done-bind, add-zero)
+  create_steps : (kind : Kind) (p : Path) (mode : ℕ) → run_create c 0 t kind p mode
+      ≡ (may_create c.account t p >>= λ d. done (record { text = none; state = update (parent p) (put (last p) (leaf (new_node c d.here kind mode))) t }))
+  unfolding run_create may_create fit
+  create_steps kind p mode = simp (bind_bind, then_bind, done_bind, add-zero)
 
-  rm-steps : (kind : Kind) (p : Path) → run-rm c 0 t kind p
-      ≡ (may-remove c.account t kind p >>= λ d. done (record { text = none; state = update (parent p) (drop (last p)) t }))
-  unfolding run-rm may-remove
-  rm-steps kind p = simp (bind-bind, then-bind, done-bind)
+  rm_steps : (kind : Kind) (p : Path) → run_rm c 0 t kind p
+      ≡ (may_remove c.account t kind p >>= λ d. done (record { text = none; state = update (parent p) (drop (last p)) t }))
+  unfolding run_rm may_remove
+  rm_steps kind p = simp (bind_bind, then_bind, done_bind)
 
   -- refused where they are
-  pub create-refused : (kind : Kind) (p : Path) (mode : ℕ) {k : Cause} → may-create c.account t p ≡ refused k → run-create c 0 t kind p mode ≡ refused k
-  create-refused kind p mode e = create-steps kind p mode ∙ rw (e, refused-bind)
+  pub create_refused : (kind : Kind) (p : Path) (mode : ℕ) {k : Cause} → may_create c.account t p ≡ refused k → run_create c 0 t kind p mode ≡ refused k
+  create_refused kind p mode e = create_steps kind p mode ∙ rw (e, refused_bind)
 
-  pub rm-refused : (kind : Kind) (p : Path) {k : Cause} → may-remove c.account t kind p ≡ refused k → run-rm c 0 t kind p ≡ refused k
-  rm-refused kind p e = rm-steps kind p ∙ rw (e, refused-bind)
+  pub rm_refused : (kind : Kind) (p : Path) {k : Cause} → may_remove c.account t kind p ≡ refused k → run_rm c 0 t kind p ≡ refused k
+  rm_refused kind p e = rm_steps kind p ∙ rw (e, refused_bind)
 
   -- and done where they have passed
-  pub create-done : (kind : Kind) (p : Path) (mode : ℕ) {d : Place Node} → may-create c.account t p ≡ done d
-      → run-create c 0 t kind p mode ≡ done (record { text = none; state = update (parent p) (put (last p) (leaf (new-node c d.here kind mode))) t })
-  create-done kind p mode e = create-steps kind p mode ∙ rw (e, done-bind)
+  pub create_done : (kind : Kind) (p : Path) (mode : ℕ) {d : Place Node} → may_create c.account t p ≡ done d
+      → run_create c 0 t kind p mode ≡ done (record { text = none; state = update (parent p) (put (last p) (leaf (new_node c d.here kind mode))) t })
+  create_done kind p mode e = create_steps kind p mode ∙ rw (e, done_bind)
 
-  pub rm-done : (kind : Kind) (p : Path) {d : Place Node} → may-remove c.account t kind p ≡ done d
-      → run-rm c 0 t kind p ≡ done (record { text = none; state = update (parent p) (drop (last p)) t })
-  rm-done kind p e = rm-steps kind p ∙ rw (e, done-bind)
+  pub rm_done : (kind : Kind) (p : Path) {d : Place Node} → may_remove c.account t kind p ≡ done d
+      → run_rm c 0 t kind p ≡ done (record { text = none; state = update (parent p) (drop (last p)) t })
+  rm_done kind p e = rm_steps kind p ∙ rw (e, done_bind)
 
 module _ (a : Account) (t : Place Node) where
   -- ---- `create`, `mkdir`
 
   module _ (p : Path) where
     -- no room
-    pub making-stops : {k : Cause} → room (by-modes a) t p ≡ refused k → may-create a t p ≡ refused k
-    unfolding may-create
-    making-stops e = rw (e, refused-bind)
+    pub making_stops : {k : Cause} → room (by_modes a) t p ≡ refused k → may_create a t p ≡ refused k
+    unfolding may_create
+    making_stops e = rw (e, refused_bind)
 
-    module _ {d : Place Node} (found : room (by-modes a) t p ≡ done d) where
+    module _ {d : Place Node} (found : room (by_modes a) t p ≡ done d) where
       -- 256 nodes
-      pub making-full : 256 ≤ nodes t → may-create a t p ≡ refused Full
-      unfolding may-create
-      making-full h = rw (found, done-bind, most-nodes-is, lt-leb (nodes t + 1) 256 (omega arith), require-false, refused-then)
+      pub making_full : 256 ≤ nodes t → may_create a t p ≡ refused Full
+      unfolding may_create
+      making_full h = rw (found, done_bind, most_nodes_is, lt-leb (nodes t + 1) 256 (omega arith), require_false, refused_then)
 
       -- fewer
-      pub making-done : nodes t < 256 → may-create a t p ≡ done d
-      unfolding may-create
-      making-done h = rw (found, done-bind, most-nodes-is, le-leb (nodes t + 1) 256 (omega arith), require-true, done-then)
+      pub making_done : nodes t < 256 → may_create a t p ≡ done d
+      unfolding may_create
+      making_done h = rw (found, done_bind, most_nodes_is, le-leb (nodes t + 1) 256 (omega arith), require_true, done_then)
 
-    making-ensures : Ensures (λ d. (room (by-modes a) t p ≡ done d) × (nodes t + 1 ≤ 256)) (may-create a t p)
-    unfolding may-create
-    making-ensures =
-        then-do _ λ d e.
-        then-check Full tt _ λ f.
-        gives (e, leb-true (nodes t + 1) 256 (rw most-nodes-is at f))
+    making_ensures : Ensures (λ d. (room (by_modes a) t p ≡ done d) × (nodes t + 1 ≤ 256)) (may_create a t p)
+    unfolding may_create
+    making_ensures =
+        then_do _ λ d e.
+        then_check Full tt _ λ f.
+        gives (e, leb-true (nodes t + 1) 256 (rw most_nodes_is at f))
 
     -- what has passed
-    pub making-passed : {d : Place Node} → may-create a t p ≡ done d → (room (by-modes a) t p ≡ done d) × (nodes t + 1 ≤ 256)
-    making-passed e = done-with making-ensures e
+    pub making_passed : {d : Place Node} → may_create a t p ≡ done d → (room (by_modes a) t p ≡ done d) × (nodes t + 1 ≤ 256)
+    making_passed e = done_with making_ensures e
 
   -- ---- `rm`, `rmdir`
 
   module _ (kind : Kind) (p : Path) where
     -- 9
-    pub removing-reserved : reserved p ≡ true → may-remove a t kind p ≡ refused Reserved
-    unfolding may-remove
-    removing-reserved h = rw (h, require-false, refused-then)
+    pub removing_reserved : reserved p ≡ true → may_remove a t kind p ≡ refused Reserved
+    unfolding may_remove
+    removing_reserved h = rw (h, require_false, refused_then)
 
     module _ (h : reserved p ≡ false) where
       -- the walk is refused
-      pub removing-stops : {k : Cause} → walk (by-modes a) t p ≡ refused k → may-remove a t kind p ≡ refused k
-      unfolding may-remove
-      removing-stops e = rw (h, require-true, done-then, e, refused-bind)
+      pub removing_stops : {k : Cause} → walk (by_modes a) t p ≡ refused k → may_remove a t kind p ≡ refused k
+      unfolding may_remove
+      removing_stops e = rw (h, require_true, done_then, e, refused_bind)
 
       -- or came to a place: the checks at its row
-      pub removing-there : {b : List ℕ} {row above : ℕ} (w : Came b t p (walk (by-modes a) t p) row above)
-          → row-removal a kind (row_at b row).here (row_at b above).here (has-children-in (all-rows b) row) (spot row above) ≡ spot-from t p (may-remove a t kind p)
-      unfolding may-remove row-removal
-      removing-there w =
-          let up = walked-above (by-modes a) t p w.walked w.over-at.there in
-          rw (at_here w.at, at_here w.over-at, at-has-children w.at, not-not (is-empty w.place.below), came-spot w, h, require-true, done-then, w.walked, done-bind, up, done-bind)
-          (simp (then-bind, done-bind))
+      pub removing_there : {b : List ℕ} {row above : ℕ} (w : Came b t p (walk (by_modes a) t p) row above)
+          → row_removal a kind (row_at b row).here (row_at b above).here (has_children_in (all_rows b) row) (spot row above) ≡ spot_from t p (may_remove a t kind p)
+      unfolding may_remove row_removal
+      removing_there w =
+          let up = walked_above (by_modes a) t p w.walked w.over_at.there in
+          rw (at_here w.at, at_here w.over_at, at_has_children w.at, not-not (is_empty w.place.below), came_spot w, h, require_true, done_then, w.walked, done_bind, up, done_bind)
+          (simp (then_bind, done_bind))
 
-    removing-ensures : Ensures (λ d. (is-top p ≡ false) × ((walk (by-modes a) t p ≡ done d) × (is-empty d.below ≡ true))) (may-remove a t kind p)
-    unfolding may-remove
-    removing-ensures =
-        then-check Reserved tt _ λ h.
-        then-do _ λ d e.
-        then-check WrongKind tt _ λ _.
-        then-do _ λ _ _.
-        then-check Access tt _ λ _.
-        then-check NotEmpty tt _ λ z.
-        gives (not-reserved p (not-true (reserved p) h), (e, z))
+    removing_ensures : Ensures (λ d. (is_top p ≡ false) × ((walk (by_modes a) t p ≡ done d) × (is_empty d.below ≡ true))) (may_remove a t kind p)
+    unfolding may_remove
+    removing_ensures =
+        then_check Reserved tt _ λ h.
+        then_do _ λ d e.
+        then_check WrongKind tt _ λ _.
+        then_do _ λ _ _.
+        then_check Access tt _ λ _.
+        then_check NotEmpty tt _ λ z.
+        gives (not_reserved p (not-true (reserved p) h), (e, z))
 
     -- what has passed
-    pub removing-passed : {d : Place Node} → may-remove a t kind p ≡ done d → (is-top p ≡ false) × ((walk (by-modes a) t p ≡ done d) × (is-empty d.below ≡ true))
-    removing-passed e = done-with removing-ensures e
+    pub removing_passed : {d : Place Node} → may_remove a t kind p ≡ done d → (is_top p ≡ false) × ((walk (by_modes a) t p ≡ done d) × (is_empty d.below ≡ true))
+    removing_passed e = done_with removing_ensures e
 
 -- ---- the checks of `rm` and `rmdir` at a row
 
 module _ (a : Account) (kind : Kind) (n above : Node) (full : Bool) (there : Spot) where
   -- 7
-  pub removal-kind : same_kind n.kind kind ≡ false → row-removal a kind n above full there ≡ refused WrongKind
-  unfolding row-removal
-  removal-kind i = rw (i, require-false, refused-then)
+  pub removal_kind : same_kind n.kind kind ≡ false → row_removal a kind n above full there ≡ refused WrongKind
+  unfolding row_removal
+  removal_kind i = rw (i, require_false, refused_then)
 
   module _ (same : same_kind n.kind kind ≡ true) where
     -- 5
-    pub removal-shut : allows a W above ≡ false → row-removal a kind n above full there ≡ refused Access
-    unfolding row-removal
-    removal-shut i = rw (same, require-true, done-then, i, require-false, refused-then)
+    pub removal_shut : allows a W above ≡ false → row_removal a kind n above full there ≡ refused Access
+    unfolding row_removal
+    removal_shut i = rw (same, require_true, done_then, i, require_false, refused_then)
 
     module _ (may : allows a W above ≡ true) where
       -- 8
-      pub removal-full : full ≡ true → row-removal a kind n above full there ≡ refused NotEmpty
-      unfolding row-removal
-      removal-full i = rw (same, require-true, done-then, may, require-true, done-then, i, require-false, refused-then)
+      pub removal_full : full ≡ true → row_removal a kind n above full there ≡ refused NotEmpty
+      unfolding row_removal
+      removal_full i = rw (same, require_true, done_then, may, require_true, done_then, i, require_false, refused_then)
 
       -- none of these
-      pub removal-done : full ≡ false → row-removal a kind n above full there ≡ done there
-      unfolding row-removal
-      removal-done i = rw (same, require-true, done-then, may, require-true, done-then, i, require-true, done-then)
+      pub removal_done : full ≡ false → row_removal a kind n above full there ≡ done there
+      unfolding row_removal
+      removal_done i = rw (same, require_true, done_then, may, require_true, done_then, i, require_true, done_then)
 
 -- ---- what the code tells
 
 -- a refusal
-pub refusal-told : {w : Result Spot} {k : Cause} → w ≡ refused k → outcome (Refused k) ≡ w
-refusal-told {k = k} e = outcome-refused k ∙ sym e
+pub refusal_told : {w : Result Spot} {k : Cause} → w ≡ refused k → outcome (Refused k) ≡ w
+refusal_told {k = k} e = outcome_refused k ∙ sym e
 
 -- and at the place that a path leads to
-pub refusal-told-at : (t : Place Node) (p : Path) (w : Result (Place Node)) {k : Cause} → w ≡ refused k → outcome (Refused k) ≡ spot-from t p w
-refusal-told-at t p w {k} e = outcome-refused k ∙ sym (rw (e, refused-bind))
+pub refusal_told_at : (t : Place Node) (p : Path) (w : Result (Place Node)) {k : Cause} → w ≡ refused k → outcome (Refused k) ≡ spot_from t p w
+refusal_told_at t p w {k} e = outcome_refused k ∙ sym (rw (e, refused_bind))
 
 -- checks that have passed
-pub spot-told : (row above : ℕ) {w : Result Spot} → w ≡ done (spot row above) → outcome (To row above) ≡ w
-spot-told row above e = outcome-at row above ∙ sym e
+pub spot_told : (row above : ℕ) {w : Result Spot} → w ≡ done (spot row above) → outcome (To row above) ≡ w
+spot_told row above e = outcome_at row above ∙ sym e
 
 module _ {b : List ℕ} {t : Place Node} (tree : Encodes b t) (a : Account) where
   -- where the code found what may be removed
-  pub removing-came : (kind : Kind) (p : Path) {r : Walked} → outcome r ≡ spot-from t p (may-remove a t kind p) → {row above : ℕ} → r ≡ To row above
-      → Came b t p (may-remove a t kind p) row above
-  removing-came kind p same e = came-to tree (may-remove a t kind p) p same (λ d w. walked_at t (by-modes a) p d (removing-passed a t kind p w).1.0) e
+  pub removing_came : (kind : Kind) (p : Path) {r : Walked} → outcome r ≡ spot_from t p (may_remove a t kind p) → {row above : ℕ} → r ≡ To row above
+      → Came b t p (may_remove a t kind p) row above
+  removing_came kind p same e = came_to tree (may_remove a t kind p) p same (λ d w. walked_at t (by_modes a) p d (removing_passed a t kind p w).1.0) e
 
   -- where a node may be made, by the code's answer
-  module _ (p : Path) {r : Room} (same : gap-told r ≡ gap_from t p (may-create a t p)) where
-    pub making-stands : {row at k : ℕ} → r ≡ TheVariants.At row at k → (g : Standing b t p a row at k) × ((may-create a t p ≡ done g.directory) × (nodes t + 1 ≤ 256))
-    making-stands {row} {at} {k} e =
-        let i = bind_done (may-create a t p) (λ d. done (gap_of t p d)) (sym same ∙ ap gap-told e ∙ told-gap row at k) in
-        let z = making-passed a t p i.1 in
-        let g = room-to tree a p (same ∙ ap (gap_from t p) (i.1 ∙ sym z.0)) e in
+  module _ (p : Path) {r : Room} (same : gap_told r ≡ gap_from t p (may_create a t p)) where
+    pub making_stands : {row at k : ℕ} → r ≡ TheVariants.At row at k → (g : Standing b t p a row at k) × ((may_create a t p ≡ done g.directory) × (nodes t + 1 ≤ 256))
+    making_stands {row} {at} {k} e =
+        let i = bind_done (may_create a t p) (λ d. done (gap_of t p d)) (sym same ∙ ap gap_told e ∙ told_gap row at k) in
+        let z = making_passed a t p i.1 in
+        let g = room_to tree a p (same ∙ ap (gap_from t p) (i.1 ∙ sym z.0)) e in
         (g, (i.1 ∙ sym z.0 ∙ g.found, z.1))
 
     -- or why none may
-    pub making-not : {k : Cause} → r ≡ TheVariants.Refused k → may-create a t p ≡ refused k
-    making-not {k} e = refused-before (may-create a t p) (gap_of t p) (sym same ∙ ap gap-told e ∙ told-refused k)
+    pub making_not : {k : Cause} → r ≡ TheVariants.Refused k → may_create a t p ≡ refused k
+    making_not {k} e = refused_before (may_create a t p) (gap_of t p) (sym same ∙ ap gap_told e ∙ told_refused k)

@@ -1,10 +1,10 @@
 // `create` and `mkdir`.
 ghost use Rattle.std.specs.Prelude.{◌≡◌};
-ghost use Rattle.tree.specs.TreeBytes.{Whole, Path-text, Whichever};
-ghost use Rattle.gaps.specs.Gaps.{gap_from, gap-told};
-ghost use Rattle.shell.specs.Steps.{run-create};
-ghost use Rattle.shell.specs.CommandBytes.{Follows-at};
-ghost use Rattle.nodes.specs.NodeChecks.{may-create};
+ghost use Rattle.tree.specs.TreeBytes.{Whole, PathText, Whichever};
+ghost use Rattle.gaps.specs.Gaps.{gap_from, gap_told};
+ghost use Rattle.shell.specs.Steps.{run_create};
+ghost use Rattle.shell.specs.CommandBytes.{FollowsAt};
+ghost use Rattle.nodes.specs.NodeChecks.{may_create};
 
 use accounts::{Account, Caller};
 use edits::{Fresh, put_child};
@@ -15,8 +15,8 @@ use tree::{Cause, Kind, MOST_ROWS, count};
 // Whether a node may be made, and where: room at the path, and fewer than 256 nodes.
 fn may_create(tree: &[u8], account: Account, path: &[u8]) -> Room
     requires whole { Whole tree.now }
-    requires path_text { Path-text path.now }
-    ensures { Whichever tree.now path.now (λ t p. gap-told result ≡ gap_from t p (may-create account t p)) }
+    requires path_text { PathText path.now }
+    ensures { Whichever tree.now path.now (λ t p. gap_told result ≡ gap_from t p (may_create account t p)) }
 {
     match room_for(tree, account, path) {
         Room::Refused(cause) => Room::Refused(cause),
@@ -32,8 +32,8 @@ fn may_create(tree: &[u8], account: Account, path: &[u8]) -> Room
 // Makes an empty file or a directory, the caller's.
 pub fn create(tree: &mut [u8], caller: Caller, kind: Kind, path: &[u8], mode: u16) -> Answer
     requires whole { Whole tree.old }
-    requires path_text { Path-text path.now }
-    ensures { Follows-at (λ t p. run-create caller 0 t kind p mode) tree.old path.now result tree.new }
+    requires path_text { PathText path.now }
+    ensures { FollowsAt (λ t p. run_create caller 0 t kind p mode) tree.old path.now result tree.new }
 {
     let account = caller.account;
     match may_create(tree, account, path) {

@@ -2,12 +2,12 @@
 ghost use Rattle.std.specs.Prelude.{◌≡◌, ◌&&◌, ◌+◌};
 ghost use Rattle.accounts.specs.declared.Right.TheVariants.{W};
 ghost use Rattle.tree.specs.Node.{allows};
-ghost use Rattle.tree.specs.RowAt.{row_at, all-rows};
-ghost use Rattle.tree.specs.TreeBytes.{Has-row, Used, Whole, Path-text};
-ghost use Rattle.walks.specs.RowBelow.{height-in};
-ghost use Rattle.shell.specs.Steps.{run-mv};
-ghost use Rattle.nodes.specs.NodeChecks.{Whichever-two, Follows-at-two};
-ghost use Rattle.nodes.specs.MoveChecks.{may-move, judged, move-from, row-onto, row-into};
+ghost use Rattle.tree.specs.RowAt.{row_at, all_rows};
+ghost use Rattle.tree.specs.TreeBytes.{HasRow, Used, Whole, PathText};
+ghost use Rattle.walks.specs.RowBelow.{height_in};
+ghost use Rattle.shell.specs.Steps.{run_mv};
+ghost use Rattle.nodes.specs.NodeChecks.{WhicheverTwo, FollowsAtTwo};
+ghost use Rattle.nodes.specs.MoveChecks.{may_move, judged, move_from, row_onto, row_into};
 
 use crate::Move;
 use crate::paths::{is_reserved, is_within};
@@ -24,8 +24,8 @@ use walks::{Walked, height_below, may_at, parent_walk, walk};
 
 // Whether an account may write in both of two directories.
 fn may_write_both(tree: &[u8], account: Account, one: usize, other: usize) -> bool
-    requires has_row { Has-row tree.now one }
-    requires has_row_2 { Has-row tree.now other }
+    requires has_row { HasRow tree.now one }
+    requires has_row_2 { HasRow tree.now other }
     ensures { result ≡ (allows account W (row_at tree.now one).here && allows account W (row_at tree.now other).here) }
 {
     if !may_at(tree, one, account, Right::W) {
@@ -36,9 +36,9 @@ fn may_write_both(tree: &[u8], account: Account, one: usize, other: usize) -> bo
 
 // Onto what stands there: only a file replaces, and only a file is replaced.
 fn judge_onto(tree: &[u8], row: usize, target: usize, writable: bool, itself: bool) -> Move
-    requires has_row { Has-row tree.now row }
-    requires has_row_2 { Has-row tree.now target }
-    ensures { result ≡ judged (row-onto (row_at tree.now row).here.kind (row_at tree.now target).here.kind writable itself row target) }
+    requires has_row { HasRow tree.now row }
+    requires has_row_2 { HasRow tree.now target }
+    ensures { result ≡ judged (row_onto (row_at tree.now row).here.kind (row_at tree.now target).here.kind writable itself row target) }
 {
     match kind_at(tree, target) {
         Kind::Directory => Move::Refused(Cause::Exists),
@@ -60,8 +60,8 @@ fn judge_onto(tree: &[u8], row: usize, target: usize, writable: bool, itself: bo
 // Into a directory where nothing of the name stands: not into itself, and not too deep.
 fn judge_into(tree: &[u8], row: usize, directory: usize, writable: bool, inside: bool) -> Move
     requires used { Used tree.now row }
-    requires has_row { Has-row tree.now directory }
-    ensures { result ≡ judged (row-into writable inside ((row_at tree.now directory).depth + 1 + height-in (all-rows tree.now) row) row) }
+    requires has_row { HasRow tree.now directory }
+    ensures { result ≡ judged (row_into writable inside ((row_at tree.now directory).depth + 1 + height_in (all_rows tree.now) row) row) }
 {
     if !writable {
         return Move::Refused(Cause::Access);
@@ -78,9 +78,9 @@ fn judge_into(tree: &[u8], row: usize, directory: usize, writable: bool, inside:
 // Whether the node at a path may be moved to another, and how.
 fn may_move(tree: &[u8], account: Account, from: &[u8], to: &[u8]) -> Move
     requires whole { Whole tree.now }
-    requires path_text { Path-text from.now }
-    requires path_text_2 { Path-text to.now }
-    ensures { Whichever-two tree.now from.now to.now (λ t p q. result ≡ judged (move-from t p q (may-move account t p q))) }
+    requires path_text { PathText from.now }
+    requires path_text_2 { PathText to.now }
+    ensures { WhicheverTwo tree.now from.now to.now (λ t p q. result ≡ judged (move_from t p q (may_move account t p q))) }
 {
     if is_reserved(from) {
         return Move::Refused(Cause::Reserved);
@@ -111,9 +111,9 @@ fn may_move(tree: &[u8], account: Account, from: &[u8], to: &[u8]) -> Move
 // Moves a node with all below it; onto a file it takes that file's place, with its own tag.
 pub fn mv(tree: &mut [u8], caller: Caller, from: &[u8], to: &[u8]) -> Answer
     requires whole { Whole tree.old }
-    requires path_text { Path-text from.now }
-    requires path_text_2 { Path-text to.now }
-    ensures { Follows-at-two (run-mv caller 0) tree.old from.now to.now result tree.new }
+    requires path_text { PathText from.now }
+    requires path_text_2 { PathText to.now }
+    ensures { FollowsAtTwo (run_mv caller 0) tree.old from.now to.now result tree.new }
 {
     let account = caller.account;
     match may_move(tree, account, from, to) {

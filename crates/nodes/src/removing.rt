@@ -2,12 +2,12 @@
 ghost use Rattle.std.specs.Prelude.{◌≡◌};
 ghost use Rattle.tree.specs.Node.{same_kind};
 ghost use Rattle.tree.specs.RowAt.{row_at};
-ghost use Rattle.tree.specs.TreeBytes.{Has-row, Used, Whole, Path-text, Whichever};
+ghost use Rattle.tree.specs.TreeBytes.{HasRow, Used, Whole, PathText, Whichever};
 ghost use Rattle.walks.specs.RowWalk.{outcome};
-ghost use Rattle.shell.specs.Steps.{run-rm};
-ghost use Rattle.shell.specs.CommandBytes.{Follows-at};
-ghost use Rattle.walks.specs.WalkBytes.{spot-from};
-ghost use Rattle.nodes.specs.NodeChecks.{may-remove, Judged-removal};
+ghost use Rattle.shell.specs.Steps.{run_rm};
+ghost use Rattle.shell.specs.CommandBytes.{FollowsAt};
+ghost use Rattle.walks.specs.WalkBytes.{spot_from};
+ghost use Rattle.nodes.specs.NodeChecks.{may_remove, JudgedRemoval};
 
 use crate::paths::is_reserved;
 use accounts::{Account, Caller, Right};
@@ -18,7 +18,7 @@ use walks::{Walked, has_children, may_at, walk};
 
 // Whether a row is one of a kind.
 fn is_of_kind(tree: &[u8], row: usize, kind: Kind) -> bool
-    requires { Has-row tree.now row }
+    requires { HasRow tree.now row }
     ensures { result ≡ same_kind (row_at tree.now row).here.kind kind }
 {
     match kind {
@@ -36,8 +36,8 @@ fn is_of_kind(tree: &[u8], row: usize, kind: Kind) -> bool
 // Whether the node of a row may be removed from the directory above: the kind, w there, and that nothing lies below.
 fn may_remove_row(tree: &[u8], account: Account, kind: Kind, row: usize, above: usize) -> Walked
     requires used { Used tree.now row }
-    requires has_row { Has-row tree.now above }
-    ensures { Judged-removal tree.now account kind row above result }
+    requires has_row { HasRow tree.now above }
+    ensures { JudgedRemoval tree.now account kind row above result }
 {
     if !is_of_kind(tree, row, kind) {
         return Walked::Refused(Cause::WrongKind);
@@ -54,8 +54,8 @@ fn may_remove_row(tree: &[u8], account: Account, kind: Kind, row: usize, above: 
 // Whether the node at a path may be removed, and where it is.
 fn may_remove(tree: &[u8], account: Account, kind: Kind, path: &[u8]) -> Walked
     requires whole { Whole tree.now }
-    requires path_text { Path-text path.now }
-    ensures { Whichever tree.now path.now (λ t p. outcome result ≡ spot-from t p (may-remove account t kind p)) }
+    requires path_text { PathText path.now }
+    ensures { Whichever tree.now path.now (λ t p. outcome result ≡ spot_from t p (may_remove account t kind p)) }
 {
     if is_reserved(path) {
         return Walked::Refused(Cause::Reserved);
@@ -69,8 +69,8 @@ fn may_remove(tree: &[u8], account: Account, kind: Kind, path: &[u8]) -> Walked
 // Takes a file, or a directory without children, out.
 pub fn rm(tree: &mut [u8], caller: Caller, kind: Kind, path: &[u8]) -> Answer
     requires whole { Whole tree.old }
-    requires path_text { Path-text path.now }
-    ensures { Follows-at (λ t p. run-rm caller 0 t kind p) tree.old path.now result tree.new }
+    requires path_text { PathText path.now }
+    ensures { FollowsAt (λ t p. run_rm caller 0 t kind p) tree.old path.now result tree.new }
 {
     let account = caller.account;
     match may_remove(tree, account, kind, path) {

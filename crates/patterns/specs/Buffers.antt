@@ -1,22 +1,22 @@
 -- The program's buffers, and what its functions ask of them.
 use Rattle.std.specs.Prelude.{◌≡◌, List, ℕ, ◌≤◌, ◌<◌, ℤ, pos, length}
 use Rattle.buffers.specs.Text.{Text}
-use Rattle.setups.specs.LineRead.{Begun-store}
-use Rattle.printing.specs.Printed.{in-front}
+use Rattle.setups.specs.LineRead.{BegunStore}
+use Rattle.printing.specs.Printed.{in_front}
 use Rattle.calls.specs.Calls.{Called}
 use Rattle.agenda.specs.declared.Phase.{Phase}
 use Rattle.agenda.specs.declared.Phase.TheVariants.{Setup, Lines, Listing}
 use Rattle.agenda.specs.declared.Place.{Place}
 use Rattle.agenda.specs.declared.Call.{Call}
-use Rattle.agenda.specs.Agenda.{Place-held, report-text}
+use Rattle.agenda.specs.Agenda.{PlaceHeld, report_text}
 use Rattle.agenda.specs.Conversation.{made}
 
 -- where reports go, and what is said of a failure
-abbrev pub standard-output : ℤ
-standard-output = pos 1
+abbrev pub standard_output : ℤ
+standard_output = pos 1
 
-abbrev pub standard-error : ℤ
-standard-error = pos 2
+abbrev pub standard_error : ℤ
+standard_error = pos 2
 
 -- what standard input is read into, the store, the library's answers, and what is printed
 pub record Buffers : Type 0 where
@@ -30,28 +30,28 @@ lent w b a o = record { window = w; store = b; answer = a; out = o }
 
 -- ---- changed
 
-abbrev pub with-window : Buffers → List ℕ → Buffers
-with-window s w = lent w s.store s.answer s.out
+abbrev pub with_window : Buffers → List ℕ → Buffers
+with_window s w = lent w s.store s.answer s.out
 
-abbrev pub with-store : Buffers → List ℕ → Buffers
-with-store s b = lent s.window b s.answer s.out
+abbrev pub with_store : Buffers → List ℕ → Buffers
+with_store s b = lent s.window b s.answer s.out
 
 -- a report stands in front of the fourth, to be printed
-abbrev pub with-report : Buffers → Text → Buffers
-with-report s x = lent s.window s.store s.answer (in-front x s.out)
+abbrev pub with_report : Buffers → Text → Buffers
+with_report s x = lent s.window s.store s.answer (in_front x s.out)
 
 -- what a call of the library comes to, and the buffers when its report has been made
 abbrev pub called : Buffers → Call → Called
 called s c = made s.window s.store s.answer c
 
 abbrev pub with_call : Buffers → Call → Buffers
-with_call s c = let m = called s c in with-report (lent s.window m.store m.answer s.out) (report-text c m.tells m.answer)
+with_call s c = let m = called s c in with_report (lent s.window m.store m.answer s.out) (report_text c m.tells m.answer)
 
 -- ---- what is asked of them
 
 -- in the setup the store holds what has been read of it
 abbrev pub Ready : Phase → List ℕ → Type 0
-Ready (Setup kind lines) b = Begun-store b × (kind ≤ 3)
+Ready (Setup kind lines) b = BegunStore b × (kind ≤ 3)
 Ready Lines b = Unit {0}
 Ready (Listing n) b = Unit {0}
 
@@ -73,7 +73,7 @@ Reporting o = length o ≡ 4128
 
 -- where a turn begins
 pub record Held (at : Place) (s : Buffers) : Type 0 where
-  pub placed : Place-held at (length s.window)
+  pub placed : PlaceHeld at (length s.window)
   pub answering : Answering s.answer
   pub reporting : Reporting s.out
   pub ready : Ready at.phase s.store

@@ -2,36 +2,36 @@
 use Rattle.std.specs.Prelude.{◌≡◌, List, [], ◌++◌, true, ℕ, suc, ◌-◌}
 use Rattle.buffers.specs.Text.{Text}
 use Rattle.syntax.specs.Parts.{part}
-use Rattle.setup.specs.SetupStep.{Line-answer, leads-on, ends_it, is-wrong, setup-step}
-use Rattle.store.specs.SetupHeader.{reading-in}
+use Rattle.setup.specs.SetupStep.{LineAnswer, leads_on, ends_it, is_wrong, setup_step}
+use Rattle.store.specs.SetupHeader.{reading_in}
 use Rattle.agenda.specs.declared.Place.{Place}
 use Rattle.agenda.specs.declared.Next.{Next}
 use Rattle.agenda.specs.declared.Next.TheVariants as next
-use Rattle.agenda.specs.Agenda.{next_of, refusal, report-text}
+use Rattle.agenda.specs.Agenda.{next_of, refusal, report_text}
 use Rattle.patterns.specs.Buffers.{Buffers, called}
 use Rattle.patterns.specs.Turns.{Serves, spent, ended, failed, goes}
 
 -- what is printed for a setup line, behind so many
-unfoldable pub line-report : ℕ → Line-answer → Text
-line-report lines (leads-on d) = []
-line-report lines ends_it = []
-line-report lines is-wrong = refusal (suc lines)
+unfoldable pub line_report : ℕ → LineAnswer → Text
+line_report lines (leads_on d) = []
+line_report lines ends_it = []
+line_report lines is_wrong = refusal (suc lines)
 
 -- what a turn prints
-unfoldable pub turn-report : Place → Buffers → Next → Text
-turn-report at s (next.Call c then) = let m = called s c in report-text c m.tells m.answer
-turn-report at s (next.On then) = []
-turn-report at s next.Read = []
-turn-report at s next.Over = []
-turn-report at s (next.Line e kind lines) = line-report lines (setup-step (part s.window at.from e) (reading-in kind s.store))
-turn-report at s (next.Wrong lines) = refusal (suc lines)
+unfoldable pub turn_report : Place → Buffers → Next → Text
+turn_report at s (next.Call c then) = let m = called s c in report_text c m.tells m.answer
+turn_report at s (next.On then) = []
+turn_report at s next.Read = []
+turn_report at s next.Over = []
+turn_report at s (next.Line e kind lines) = line_report lines (setup_step (part s.window at.from e) (reading_in kind s.store))
+turn_report at s (next.Wrong lines) = refusal (suc lines)
 
 -- what all turns print
 unfoldable pub reports : {n : ℕ} {at : Place} {s s' : Buffers} → Serves n at s s' → Text
 reports spent = []
-reports {at = at} {s = s} (ended t) = turn-report at s (next_of s.window at)
-reports {at = at} {s = s} (failed t) = turn-report at s (next_of s.window at)
-reports {at = at} {s = s} (goes t x) = turn-report at s (next_of s.window at) ++ reports x
+reports {at = at} {s = s} (ended t) = turn_report at s (next_of s.window at)
+reports {at = at} {s = s} (failed t) = turn_report at s (next_of s.window at)
+reports {at = at} {s = s} (goes t x) = turn_report at s (next_of s.window at) ++ reports x
 
 -- what a turn takes of the input u that is ahead, where u₁ is left: a read the bytes that it leaves in the window, none only at the input's end
 pub record Took (at then : Place) (w₁ : List ℕ) (u u₁ : Text) : Type 0 where

@@ -4,17 +4,17 @@ mod usage;
 
 ghost use Rattle.std.specs.Prelude.{◌≡◌, false, ◌≤◌, ◌<◌, suc, length, take};
 ghost use Rattle.syntax.specs.Parts.{part};
-ghost use Rattle.setup.specs.Setup.{no-setup};
-ghost use Rattle.setup.specs.SetupStep.{setup-step};
-ghost use Rattle.store.specs.SetupHeader.{reading-in, headed};
-ghost use Rattle.setups.specs.LineRead.{Begun-store, line-call};
+ghost use Rattle.setup.specs.Setup.{no_setup};
+ghost use Rattle.setup.specs.SetupStep.{setup_step};
+ghost use Rattle.store.specs.SetupHeader.{reading_in, headed};
+ghost use Rattle.setups.specs.LineRead.{BegunStore, line_call};
 ghost use Rattle.shell.specs.Replies.{told};
-ghost use Rattle.library.specs.CallBytes.{called-as};
-ghost use Rattle.printing.specs.Printed.{in-front};
-ghost use Rattle.agenda.specs.Agenda.{Place-held, Call-held, report-text, refusal};
-ghost use Rattle.agenda.specs.Conversation.{made, first-place};
-ghost use Rattle.patterns.specs.Buffers.{standard-output, lent, Answering, Reporting, Held, Wide};
-ghost use Rattle.patterns.specs.Turns.{Reads, Reported, Makes, Line-made, Turns, most-turns, Serves};
+ghost use Rattle.library.specs.CallBytes.{called_as};
+ghost use Rattle.printing.specs.Printed.{in_front};
+ghost use Rattle.agenda.specs.Agenda.{PlaceHeld, CallHeld, report_text, refusal};
+ghost use Rattle.agenda.specs.Conversation.{made, first_place};
+ghost use Rattle.patterns.specs.Buffers.{standard_output, lent, Answering, Reporting, Held, Wide};
+ghost use Rattle.patterns.specs.Turns.{Reads, Reported, Makes, LineMade, Turns, most_turns, Serves};
 
 use agenda::steps::next;
 use agenda::{
@@ -28,9 +28,9 @@ use shell::Answer;
 
 // Prints the first n bytes of a buffer, which are what is printed for a call, and answers whether all was printed; if not it says why.
 fn print(to: i32, out: &[u8], n: usize, call: Call, r: Answer, answer: &[u8]) -> bool
-    requires to_value { to ≡ standard-output }
+    requires to_value { to ≡ standard_output }
     requires n_in_bounds { n ≤ length out.now }
-    requires out_value { take n out.now ≡ report-text call (told r) answer.now }
+    requires out_value { take n out.now ≡ report_text call (told r) answer.now }
 {
     if io::write_all(to, &out[..n]) {
         return true;
@@ -41,7 +41,7 @@ fn print(to: i32, out: &[u8], n: usize, call: Call, r: Answer, answer: &[u8]) ->
 
 // Moves what is left to the front of the window and reads once behind it; says why where that fails.
 fn read_on(window: &mut [u8], at: Place) -> Step
-    requires { Place-held at (length window.old) }
+    requires { PlaceHeld at (length window.old) }
     ensures { Reads result at window.old window.new }
 {
     let from = at.from;
@@ -56,8 +56,8 @@ fn read_on(window: &mut [u8], at: Place) -> Step
 
 // Makes a call of the library.
 fn answer_to(store: &mut [u8], window: &[u8], call: Call, answer: &mut [u8]) -> Answer
-    requires { Call-held call (length window.now) }
-    ensures { called-as result store.new answer.new ≡ made window.now store.old answer.old call }
+    requires { CallHeld call (length window.now) }
+    ensures { called_as result store.new answer.new ≡ made window.now store.old answer.old call }
 {
     match call {
         Call::Run { from, end } => library::run(store, &window[from..end], answer),
@@ -74,7 +74,7 @@ fn make_call(
     answer: &mut [u8],
     out: &mut [u8],
 ) -> Step
-    requires call_held { Call-held call (length window.now) }
+    requires call_held { CallHeld call (length window.now) }
     requires answering { Answering answer.old }
     requires reporting { Reporting out.old }
     ensures { Makes result call then (lent window.now store.old answer.old out.old)
@@ -92,7 +92,7 @@ fn refused(at: Place, lines: usize, answer: &[u8], out: &mut [u8]) -> Step
     requires answering { Answering answer.now }
     requires reporting { Reporting out.old }
     ensures reported { Reported result false at }
-    ensures out_after { out.new ≡ in-front (refusal (suc lines)) out.old }
+    ensures out_after { out.new ≡ in_front (refusal (suc lines)) out.old }
 {
     let n = refuse(lines + 1, answer, out);
     // A refusal is what is printed for a line that is answered so.
@@ -113,15 +113,15 @@ fn read_setup(
     answer: &[u8],
     out: &mut [u8],
 ) -> Step
-    requires place_held { Place-held at (length window.now) }
+    requires place_held { PlaceHeld at (length window.now) }
     requires answering { Answering answer.now }
     requires reporting { Reporting out.old }
-    requires begun_store { Begun-store store.old }
+    requires begun_store { BegunStore store.old }
     requires kind_bound { kind ≤ 3 }
     requires lines_bound { lines < 18446744073709551615 }
     requires from_le_end { at.from ≤ end }
     requires end_lt_to { end < at.to }
-    ensures { Line-made result at end lines (line-call store.old (setup-step (part window.now at.from end) (reading-in kind store.old)))
+    ensures { LineMade result at end lines (line_call store.old (setup_step (part window.now at.from end) (reading_in kind store.old)))
         (lent window.now store.old answer.now out.old)
         (lent window.now store.new answer.now out.new) }
 {
@@ -155,7 +155,7 @@ fn turn(store: &mut [u8], window: &mut [u8], at: Place, answer: &mut [u8], out: 
 // turns than any run uses.
 fn serve(store: &mut [u8], window: &mut [u8], answer: &mut [u8], out: &mut [u8])
     requires { Wide (lent window.old store.old answer.old out.old) }
-    ensures { Serves most-turns first-place (lent window.old (headed no-setup store.old) answer.old out.old)
+    ensures { Serves most_turns first_place (lent window.old (headed no_setup store.old) answer.old out.old)
         (lent window.new store.new answer.new out.new) }
 {
     begin_store(store);

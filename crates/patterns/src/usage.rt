@@ -1,10 +1,10 @@
 // What the program says of itself.
 ghost use Rattle.std.specs.Prelude.{◌≡◌};
-ghost use Rattle.patterns.specs.Buffers.{standard-output, standard-error};
+ghost use Rattle.patterns.specs.Buffers.{standard_output, standard_error};
 
 // Prints what the program reads and prints, or says why that cannot be printed.
 pub fn help(to: i32)
-    requires { to ≡ standard-output }
+    requires { to ≡ standard_output }
 {
     let text = b"usage: patterns < INPUT
 Reads from standard input the lines of a setup, the last of them `end`, and then command lines.
@@ -20,7 +20,7 @@ docs/MANUAL.md describes the lines.
 
 // Says that the arguments are none that the program takes.
 pub fn wrong(to: i32)
-    requires { to ≡ standard-error }
+    requires { to ≡ standard_error }
 {
     io::write_all(to, b"patterns: no argument is taken but --help alone\n");
 }

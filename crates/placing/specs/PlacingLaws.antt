@@ -8,71 +8,71 @@ use Prim.Native.Nat.{ℕ, suc, ◌+◌, ◌≤◌, ◌<◌}
 use Rattle.std.proofs.Math.ListN as L
 use borrow.Author.Tests.{le-leb, lt-leb}
 use Rattle.accounts.specs.declared.Caller.{Caller}
-use Rattle.syntax.specs.Path.{Path, parent, last, depth, most-names}
+use Rattle.syntax.specs.Path.{Path, parent, last, depth, most_names}
 use Rattle.tree.specs.declared.Cause.{Cause}
 use Rattle.tree.specs.declared.Cause.TheVariants.{Full, TooDeep}
 use Rattle.tree.specs.Result.{Result, refused, done, Outcome}
-use Rattle.tree.specs.ResultLaws.{done-then, refused-then, require-true, require-false}
+use Rattle.tree.specs.ResultLaws.{done_then, refused_then, require_true, require_false}
 use Rattle.tree.specs.Forest.{Place, update, put, size, height}
 use Rattle.tree.specs.Node.{Node}
 use Rattle.tree.specs.WellFormed.{nodes}
-use Rattle.tree.specs.WellFormedLaws.{most-nodes-is}
-use Rattle.edits.specs.Changes.{rows-put}
+use Rattle.tree.specs.WellFormedLaws.{most_nodes_is}
+use Rattle.edits.specs.Changes.{rows_put}
 use Rattle.shell.specs.declared.Answer.TheVariants.{Done}
 use Rattle.shell.specs.Steps.{fit}
-use Rattle.shell.specs.CommandBytes.{Follows-silently}
-use Rattle.shell.specs.CommandBytesLaws.{silence-follows}
+use Rattle.shell.specs.CommandBytes.{FollowsSilently}
+use Rattle.shell.specs.CommandBytesLaws.{silence_follows}
 use Rattle.placing.specs.declared.Copies.{Copies}
 use Rattle.placing.specs.declared.Copies.TheVariants as answers
-use Rattle.placing.specs.Placing.{place-copies, Ready-for, Prepared}
+use Rattle.placing.specs.Placing.{place_copies, ReadyFor, Prepared}
 
 -- ---- the copies judged
 
 module _ (c : Caller) (t : Place Node) (d : Path) (x : Place Node) where
   -- some copy lies too deep
-  pub place-too-deep : 6 < depth d + height x.below → place-copies c t d x ≡ refused TooDeep
-  unfolding place-copies most-names
-  place-too-deep h = rw (lt-leb (depth d + height x.below) 6 h, require-false, refused-then)
+  pub place_too_deep : 6 < depth d + height x.below → place_copies c t d x ≡ refused TooDeep
+  unfolding place_copies most_names
+  place_too_deep h = rw (lt-leb (depth d + height x.below) 6 h, require_false, refused_then)
 
   module _ (low : depth d + height x.below ≤ 6) where
     -- there are too many
-    pub place-too-many : 256 < nodes t + suc (size x.below) → place-copies c t d x ≡ refused Full
-    unfolding place-copies most-names fit
-    place-too-many h =
-        rw (le-leb (depth d + height x.below) 6 low, require-true, done-then)
-        (rw (most-nodes-is, lt-leb (nodes t + 0 + suc (size x.below)) 256 (omega (arith, h)), require-false, refused-then))
+    pub place_too_many : 256 < nodes t + suc (size x.below) → place_copies c t d x ≡ refused Full
+    unfolding place_copies most_names fit
+    place_too_many h =
+        rw (le-leb (depth d + height x.below) 6 low, require_true, done_then)
+        (rw (most_nodes_is, lt-leb (nodes t + 0 + suc (size x.below)) 256 (omega (arith, h)), require_false, refused_then))
 
     -- they are put in
-    pub place-done : nodes t + suc (size x.below) ≤ 256 → place-copies c t d x ≡ done (record { text = none; state = update (parent d) (put (last d) x) t })
-    unfolding place-copies most-names fit
-    place-done h =
-        rw (le-leb (depth d + height x.below) 6 low, require-true, done-then)
-        (rw (most-nodes-is, le-leb (nodes t + 0 + suc (size x.below)) 256 (omega (arith, h)), require-true, done-then))
+    pub place_done : nodes t + suc (size x.below) ≤ 256 → place_copies c t d x ≡ done (record { text = none; state = update (parent d) (put (last d) x) t })
+    unfolding place_copies most_names fit
+    place_done h =
+        rw (le-leb (depth d + height x.below) 6 low, require_true, done_then)
+        (rw (most_nodes_is, le-leb (nodes t + 0 + suc (size x.below)) 256 (omega (arith, h)), require_true, done_then))
 
 -- ---- copies that are ready
 
 module _ {steps : Result (Outcome (Place Node))} (b z : List ℕ) (at : ℕ) where
   -- copies are answered
-  pub prepared-ready : {n : ℕ} → Ready-for steps b z at n → Prepared steps b z at (answers.Ready n)
+  pub prepared_ready : {n : ℕ} → ReadyFor steps b z at n → Prepared steps b z at (answers.Ready n)
   unfolding Prepared
-  prepared-ready h = h
+  prepared_ready h = h
 
   -- or a refusal
-  pub prepared-not : {k : Cause} → steps ≡ refused k → Prepared steps b z at (answers.Refused k)
+  pub prepared_not : {k : Cause} → steps ≡ refused k → Prepared steps b z at (answers.Refused k)
   unfolding Prepared
-  prepared-not h = h
+  prepared_not h = h
 
   module _ {r : Copies} (p : Prepared steps b z at r) where
     -- what was answered, then
-    pub ready_of : {n : ℕ} → r ≡ answers.Ready n → Ready-for steps b z at n
+    pub ready_of : {n : ℕ} → r ≡ answers.Ready n → ReadyFor steps b z at n
     unfolding Prepared
     ready_of e = rw e at p
 
-    pub refused-of : {k : Cause} → r ≡ answers.Refused k → steps ≡ refused k
+    pub refused_of : {k : Cause} → r ≡ answers.Refused k → steps ≡ refused k
     unfolding Prepared
-    refused-of e = rw e at p
+    refused_of e = rw e at p
 
 -- copies that are ready, put in, follow the steps
-pub ready-follows : {steps : Result (Outcome (Place Node))} {b z : List ℕ} {at n : ℕ} (b' : List ℕ) → Ready-for steps b z at n → b' ≡ rows-put b at n (L.drop 2 z)
-    → Follows-silently steps b Done b'
-ready-follows {b = b} b' h e = silence-follows b b' h.come (e ∙ h.make)
+pub ready_follows : {steps : Result (Outcome (Place Node))} {b z : List ℕ} {at n : ℕ} (b' : List ℕ) → ReadyFor steps b z at n → b' ≡ rows_put b at n (L.drop 2 z)
+    → FollowsSilently steps b Done b'
+ready_follows {b = b} b' h e = silence_follows b b' h.come (e ∙ h.make)

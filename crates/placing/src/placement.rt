@@ -1,12 +1,12 @@
 // What is left of `co` behind its first checks: the copies are made in a buffer and judged there, and then put in. So they
 // are of the tree "as it stood before the command", and 19 and 10 are decided before anything changes. The buffer has room
-// for as many rows as the entry has with all below it (`subtree-rows`), since there are no more copies.
+// for as many rows as the entry has with all below it (`subtree_rows`), since there are no more copies.
 ghost use Rattle.std.specs.Prelude.{◌≡◌, ◌≤◌, length, drop};
-ghost use Rattle.tree.specs.Layout.{row-start};
+ghost use Rattle.tree.specs.Layout.{row_start};
 ghost use Rattle.tree.specs.TreeBytes.{Insertable};
-ghost use Rattle.edits.specs.Changes.{rows-put};
-ghost use Rattle.copying.specs.CopyRows.{subtree-rows};
-ghost use Rattle.placing.specs.Placing.{Checkout, steps-left, Prepared, Checked-out, Copies-laid};
+ghost use Rattle.edits.specs.Changes.{rows_put};
+ghost use Rattle.copying.specs.CopyRows.{subtree_rows};
+ghost use Rattle.placing.specs.Placing.{Checkout, steps_left, Prepared, CheckedOut, CopiesLaid};
 
 use crate::{Copies, Site};
 use copying::{Copier, copy_entry, deepest_copy};
@@ -26,10 +26,10 @@ fn copies_for(
     out: &mut [u8],
 ) -> Copies
     requires checkout { Checkout who tree.now entry.now to.now site }
-    requires filed_in_bounds { row-start (subtree-rows tree.now site.filed) ≤ length out.old }
+    requires filed_in_bounds { row_start (subtree_rows tree.now site.filed) ≤ length out.old }
     ensures prepared { (j : Checkout who tree.now entry.now to.now site)
-        → Prepared (steps-left j) tree.now out.new site.at result }
-    ensures copies_laid { Copies-laid who tree.now entry.now to.now site out.old out.new }
+        → Prepared (steps_left j) tree.now out.new site.at result }
+    ensures copies_laid { CopiesLaid who tree.now entry.now to.now site out.old out.new }
 {
     let filed = site.filed;
     let row = site.row;
@@ -49,8 +49,8 @@ fn copies_for(
 // Puts the n rows that stand behind the first two bytes of a buffer in before the row at an index.
 fn put_copies(tree: &mut [u8], at: usize, n: usize, out: &[u8])
     requires insertable { Insertable tree.old at n }
-    requires n_in_bounds { row-start n ≤ length out.now }
-    ensures { tree.new ≡ rows-put tree.old at n (drop 2 out.now) }
+    requires n_in_bounds { row_start n ≤ length out.now }
+    ensures { tree.new ≡ rows_put tree.old at n (drop 2 out.now) }
 {
     put_rows(tree, at, n, &out[FIRST..]);
 }
@@ -65,9 +65,9 @@ pub fn place_copies(
     out: &mut [u8],
 ) -> Answer
     requires checkout { Checkout who tree.old entry.now to.now site }
-    requires filed_in_bounds { row-start (subtree-rows tree.old site.filed) ≤ length out.old }
-    ensures checked_out { Checked-out who tree.old entry.now to.now site result tree.new }
-    ensures copies_laid { Copies-laid who tree.old entry.now to.now site out.old out.new }
+    requires filed_in_bounds { row_start (subtree_rows tree.old site.filed) ≤ length out.old }
+    ensures checked_out { CheckedOut who tree.old entry.now to.now site result tree.new }
+    ensures copies_laid { CopiesLaid who tree.old entry.now to.now site out.old out.new }
 {
     match copies_for(tree, who, site, entry, to, out) {
         Copies::Ready(n) => {

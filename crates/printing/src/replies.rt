@@ -2,12 +2,12 @@
 ghost use Rattle.std.specs.Prelude.{◌≡◌, [], ◌∷◌, ◌++◌, ◌+◌, ◌≤◌, eqb, length, take};
 ghost use Rattle.buffers.specs.Over.{Wrote};
 ghost use Rattle.syntax.specs.Pieces.{bytes, newline};
-ghost use Rattle.syntax.specs.Number.{decimal-text};
+ghost use Rattle.syntax.specs.Number.{decimal_text};
 ghost use Rattle.tree.specs.declared.Cause.TheVariants.{Missing};
 ghost use Rattle.tree.specs.Causes.{number as number_of};
 ghost use Rattle.shell.specs.Replies.{told};
-ghost use Rattle.listing.specs.RowListing.{Wrote-most};
-ghost use Rattle.calls.specs.Program.{text-told, call_line};
+ghost use Rattle.listing.specs.RowListing.{WroteMost};
+ghost use Rattle.calls.specs.Program.{text_told, call_line};
 ghost use Rattle.printing.specs.Printed.{Printed};
 
 use buffers::write;
@@ -66,7 +66,7 @@ fn write_word(out: &mut [u8], at: usize, word: &[u8]) -> usize
 // Writes the first bytes of the answer buffer, all where it has no more.
 fn write_first(out: &mut [u8], at: usize, answer: &[u8], n: usize) -> usize
     requires { at + length answer.now ≤ length out.old }
-    ensures { Wrote-most (length answer.now) (take n answer.now) out.old at out.new result }
+    ensures { WroteMost (length answer.now) (take n answer.now) out.old at out.new result }
 {
     if n < answer.len() {
         write(out, at, answer, n);
@@ -78,7 +78,7 @@ fn write_first(out: &mut [u8], at: usize, answer: &[u8], n: usize) -> usize
 // Writes `ok,text`.
 fn write_ok(out: &mut [u8], answer: &[u8], n: usize) -> usize
     requires { length answer.now + 32 ≤ length out.old }
-    ensures { Wrote-most (length answer.now + 3) (bytes "ok," ++ take n answer.now) out.old 0 out.new result }
+    ensures { WroteMost (length answer.now + 3) (bytes "ok," ++ take n answer.now) out.old 0 out.new result }
 {
     let at = write_word(out, 0, b"ok,");
     write_first(out, at, answer, n)
@@ -87,7 +87,7 @@ fn write_ok(out: &mut [u8], answer: &[u8], n: usize) -> usize
 // Writes a number behind a word.
 fn write_no(out: &mut [u8], word: &[u8], n: usize) -> usize
     requires { length word.now + 20 ≤ length out.old }
-    ensures { Wrote-most (length word.now + 20) (word.now ++ decimal-text n) out.old 0 out.new result }
+    ensures { WroteMost (length word.now + 20) (word.now ++ decimal_text n) out.old 0 out.new result }
 {
     let at = write_word(out, 0, word);
     write_decimal(out, at, n)
@@ -96,7 +96,7 @@ fn write_no(out: &mut [u8], word: &[u8], n: usize) -> usize
 // Writes `ok`, `ok,text`, `no,number` or `no,17,line`.
 fn write_answer(out: &mut [u8], r: Answer, answer: &[u8]) -> usize
     requires { length answer.now + 32 ≤ length out.old }
-    ensures { Wrote-most (length answer.now + 31) (call_line (told r) answer.now) out.old 0 out.new result }
+    ensures { WroteMost (length answer.now + 31) (call_line (told r) answer.now) out.old 0 out.new result }
 {
     match r {
         Answer::Done => write_word(out, 0, b"ok"),
@@ -129,7 +129,7 @@ fn write_text(n: usize, answer: &[u8], out: &mut [u8]) -> usize
 // Writes the line of the listing that an answer tells, its text alone, and tells its length.
 pub fn write_listed(r: Answer, answer: &[u8], out: &mut [u8]) -> usize
     requires { length answer.now + 32 ≤ length out.old }
-    ensures { Printed (text-told (told r).values answer.now ++ (newline ∷ [])) out.old out.new result }
+    ensures { Printed (text_told (told r).values answer.now ++ (newline ∷ [])) out.old out.new result }
 {
     match r {
         Answer::Done => write_text(0, answer, out),

@@ -7,75 +7,75 @@ use Rattle.accounts.specs.declared.Account.{Account}
 use Rattle.accounts.specs.declared.Caller.{Caller}
 use Rattle.accounts.specs.declared.Role.{Role}
 use Rattle.accounts.specs.declared.Session.TheVariants.{Nobody, As}
-use Rattle.accounts.specs.Dominance.{Bounded-role}
-use Rattle.accounts.specs.Closure.{rows_of, row-account}
-use Rattle.commands.specs.Command.{Entry-command, add, co, commit, up, del}
+use Rattle.accounts.specs.Dominance.{BoundedRole}
+use Rattle.accounts.specs.Closure.{rows_of, row_account}
+use Rattle.commands.specs.Command.{EntryAction, add, co, commit, up, del}
 use Rattle.tree.specs.declared.Cause.TheVariants.{NoSession}
 use Rattle.tree.specs.Result.{refused, done}
-use Rattle.tree.specs.ResultLaws.{present-of, present-none, refused-bind}
+use Rattle.tree.specs.ResultLaws.{present_of, present_none, refused_bind}
 use Rattle.shell.specs.declared.Answer.TheVariants.{Refused}
 use Rattle.store.specs.State.{State}
-use Rattle.header.specs.HeaderBytes.{session-held}
-use Rattle.header.specs.SessionBytesLaws.{role-is}
-use Rattle.header.specs.PairRowsLaws.{rows-tell-account}
-use Rattle.machine.specs.Machine.{session, run-add, run-co, run-commit, run_up, run-del, run-entry}
+use Rattle.header.specs.HeaderBytes.{session_held}
+use Rattle.header.specs.SessionBytesLaws.{role_is}
+use Rattle.header.specs.PairRowsLaws.{rows_tell_account}
+use Rattle.machine.specs.Machine.{session, run_add, run_co, run_commit, run_up, run_del, run_entry}
 use Rattle.machine.specs.StoreMachine.{store}
-use Rattle.shell.specs.CommandBytes.{Carries-silently}
-use Rattle.shell.specs.CommandBytesLaws.{refusal-follows}
+use Rattle.shell.specs.CommandBytes.{CarriesSilently}
+use Rattle.shell.specs.CommandBytesLaws.{refusal_follows}
 use Rattle.machine.specs.Acting.{Acting}
-use Rattle.stored_header.specs.Stored.{Stored, bytes-with}
+use Rattle.stored_header.specs.Stored.{Stored, bytes_with}
 
 -- no session is held where none is, and a role's where it is
-held_none : (o : Option Bounded-role) → Nobody ≡ session-held o → o ≡ none
-unfolding session-held
+held_none : (o : Option BoundedRole) → Nobody ≡ session_held o → o ≡ none
+unfolding session_held
 held_none none e = refl
 held_none (some z) e = contra {b = true} refl (cc)
 
-pub held-some : (r : Role) (o : Option Bounded-role) → As r ≡ session-held o → (z : Bounded-role) × (o ≡ some z) × (z.role ≡ r)
-unfolding session-held
-held-some r none e = contra {b = true} refl (cc)
-held-some r (some z) e = (z, refl, cc)
+pub held_some : (r : Role) (o : Option BoundedRole) → As r ≡ session_held o → (z : BoundedRole) × (o ≡ some z) × (z.role ≡ r)
+unfolding session_held
+held_some r none e = contra {b = true} refl (cc)
+held_some r (some z) e = (z, refl, cc)
 
 module _ {b : List ℕ} {s : State} (h : Stored b s) (c : Caller) where
   -- the caller's session
-  abbrev held : Option Bounded-role
+  abbrev held : Option BoundedRole
   held = get_or s.store.registry.sessions c.account.uid.0 none
 
-  no-session : held ≡ none → session store s.setup s.store c ≡ refused NoSession
+  no_session : held ≡ none → session store s.setup s.store c ≡ refused NoSession
   unfolding session
-  no-session e = rw e (present-none NoSession)
+  no_session e = rw e (present_none NoSession)
 
-  pub some-session : (z : Bounded-role) → held ≡ some z → session store s.setup s.store c ≡ done z
+  pub some_session : (z : BoundedRole) → held ≡ some z → session store s.setup s.store c ≡ done z
   unfolding session
-  some-session z e = rw e (present-of z NoSession)
+  some_session z e = rw e (present_of z NoSession)
 
   -- without one such a command is refused by 12
-  refused-without : held ≡ none → (k : Entry-command) → run-entry store s.setup s.store c k ≡ refused NoSession
-  unfolding run-entry run-add run-co run-commit run_up run-del
-  refused-without e (add w p z) = rw (no-session e) (refused-bind NoSession _)
-  refused-without e (co p d) = rw (no-session e) (refused-bind NoSession _)
-  refused-without e (commit w) = rw (no-session e) (refused-bind NoSession _)
-  refused-without e (up w) = rw (no-session e) (refused-bind NoSession _)
-  refused-without e (del p) = rw (no-session e) (refused-bind NoSession _)
+  refused_without : held ≡ none → (k : EntryAction) → run_entry store s.setup s.store c k ≡ refused NoSession
+  unfolding run_entry run_add run_co run_commit run_up run_del
+  refused_without e (add w p z) = rw (no_session e) (refused_bind NoSession _)
+  refused_without e (co p d) = rw (no_session e) (refused_bind NoSession _)
+  refused_without e (commit w) = rw (no_session e) (refused_bind NoSession _)
+  refused_without e (up w) = rw (no_session e) (refused_bind NoSession _)
+  refused_without e (del p) = rw (no_session e) (refused_bind NoSession _)
 
-  pub nobody-carries : (k : Entry-command) → Nobody ≡ session-held held
-      → Carries-silently (bytes-with s.setup) (run-entry store s.setup s.store c k) b (Refused NoSession) b
-  nobody-carries k e = refusal-follows b (refused-without (held_none held e) k)
+  pub nobody_carries : (k : EntryAction) → Nobody ≡ session_held held
+      → CarriesSilently (bytes_with s.setup) (run_entry store s.setup s.store c k) b (Refused NoSession) b
+  nobody_carries k e = refusal_follows b (refused_without (held_none held e) k)
 
   -- in one of a role it acts for the account that the rows tell of the role
-  module _ {role : Role} {rows : List ℕ} {account : Account} (kept : As role ≡ session-held held) (same : rows ≡ rows_of s.setup.pairs)
-      (told : account ≡ row-account rows role) where
-    abbrev of-role : (z : Bounded-role) × (held ≡ some z) × (z.role ≡ role)
-    of-role = held-some role held kept
+  module _ {role : Role} {rows : List ℕ} {account : Account} (kept : As role ≡ session_held held) (same : rows ≡ rows_of s.setup.pairs)
+      (told : account ≡ row_account rows role) where
+    abbrev of_role : (z : BoundedRole) × (held ≡ some z) × (z.role ≡ role)
+    of_role = held_some role held kept
 
     abbrev pub acting : Acting c account
     acting = record {
       setup = s.setup;
       state = s.store;
-      role = of-role.0;
-      session = some-session of-role.0 of-role.1;
-      served = told ∙ ap (row-account rows) (sym of-role.2) ∙ rows-tell-account s.setup.pairs rows same of-role.0;
+      role = of_role.0;
+      session = some_session of_role.0 of_role.1;
+      served = told ∙ ap (row_account rows) (sym of_role.2) ∙ rows_tell_account s.setup.pairs rows same of_role.0;
     }
 
-    pub acting-as : As role ≡ session-held (some acting.role)
-    acting-as = role-is role of-role.0 of-role.2
+    pub acting_as : As role ≡ session_held (some acting.role)
+    acting_as = role_is role of_role.0 of_role.2

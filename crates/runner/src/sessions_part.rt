@@ -1,8 +1,8 @@
 // The commands on entries, in a session, on a store's bytes.
 ghost use Rattle.std.specs.Prelude.{◌≤◌, ◌<◌, length};
-ghost use Rattle.commands.specs.Meaning.{Some-entry-command};
-ghost use Rattle.stored_header.specs.Stored.{Some-store};
-ghost use Rattle.runner.specs.Runner.{Held-role, Session-done};
+ghost use Rattle.commands.specs.Meaning.{SomeEntryCommand};
+ghost use Rattle.stored_header.specs.Stored.{SomeStore};
+ghost use Rattle.runner.specs.Runner.{HeldRole, SessionDone};
 
 use accounts::{Caller, Role, Session};
 use commands::EntryCommand;
@@ -20,12 +20,12 @@ fn as_role(
     command: EntryCommand,
     answer: &mut [u8],
 ) -> Answer
-    requires some_store { Some-store store.old }
-    requires some_entry_command { Some-entry-command line.now command }
+    requires some_store { SomeStore store.old }
+    requires some_entry_command { SomeEntryCommand line.now command }
     requires in_bounds { 4096 ≤ length answer.old }
     requires role_bound { role.0 < 8 }
-    requires held_role { Held-role caller role store.old }
-    ensures { Session-done caller line.now command
+    requires held_role { HeldRole caller role store.old }
+    ensures { SessionDone caller line.now command
         store.old answer.old result store.new answer.new }
 {
     let dominance = dominance_in(store);
@@ -44,11 +44,11 @@ pub fn in_session(
     command: EntryCommand,
     answer: &mut [u8],
 ) -> Answer
-    requires some_store { Some-store store.old }
-    requires some_entry_command { Some-entry-command line.now command }
+    requires some_store { SomeStore store.old }
+    requires some_entry_command { SomeEntryCommand line.now command }
     requires in_bounds { 4096 ≤ length answer.old }
     requires uid_bound { caller.account.uid.0 < 16 }
-    ensures { Session-done caller line.now command
+    ensures { SessionDone caller line.now command
         store.old answer.old result store.new answer.new }
 {
     let account = caller.account;

@@ -1,8 +1,8 @@
 // Any command on a store's bytes.
 ghost use Rattle.std.specs.Prelude.{◌≤◌, ◌<◌, length};
-ghost use Rattle.commands.specs.Meaning.{Some-shell-command, Some-command};
-ghost use Rattle.stored_header.specs.Stored.{Some-store};
-ghost use Rattle.runner.specs.Runner.{Store-shell-done, Command-done};
+ghost use Rattle.commands.specs.Meaning.{SomeShellCommand, SomeCommand};
+ghost use Rattle.stored_header.specs.Stored.{SomeStore};
+ghost use Rattle.runner.specs.Runner.{StoreShellDone, CommandDone};
 
 use crate::sessions_part::in_session;
 use accounts::Caller;
@@ -20,10 +20,10 @@ fn in_shell(
     command: ShellCommand,
     answer: &mut [u8],
 ) -> Answer
-    requires some_store { Some-store store.old }
-    requires some_shell_command { Some-shell-command line.now command }
+    requires some_store { SomeStore store.old }
+    requires some_shell_command { SomeShellCommand line.now command }
     requires in_bounds { 4096 ≤ length answer.old }
-    ensures { Store-shell-done caller line.now command
+    ensures { StoreShellDone caller line.now command
         store.old answer.old result store.new answer.new }
 {
     shell_command(&mut store[HEADER..], caller, line, command, answer)
@@ -37,11 +37,11 @@ pub fn run_command(
     command: Command,
     answer: &mut [u8],
 ) -> Answer
-    requires some_store { Some-store store.old }
-    requires some_command { Some-command line.now command }
+    requires some_store { SomeStore store.old }
+    requires some_command { SomeCommand line.now command }
     requires in_bounds { 4096 ≤ length answer.old }
     requires uid_bound { caller.account.uid.0 < 16 }
-    ensures { Command-done caller line.now command
+    ensures { CommandDone caller line.now command
         store.old answer.old result store.new answer.new }
 {
     match command {

@@ -4,13 +4,13 @@ use Rattle.syntax.specs.Path.{Name}
 use Rattle.tree.specs.declared.Child.{Child}
 use Rattle.tree.specs.declared.Child.TheVariants.{Found, Missing}
 use Rattle.tree.specs.declared.Search.{Search}
-use Rattle.tree.specs.Layout.{most-rows, tree-width}
-use Rattle.tree.specs.RowAt.{row_count, all-rows}
-use Rattle.tree.specs.Search.{search-in}
+use Rattle.tree.specs.Layout.{most_rows, tree_width}
+use Rattle.tree.specs.RowAt.{row_count, all_rows}
+use Rattle.tree.specs.Search.{search_in}
 
 -- whether bytes are as many as a tree's, with no more rows than there is room for, and one of these at the index
-unfoldable pub is-used : List ℕ → ℕ → Bool
-is-used b at = eqb (length b) tree-width && (leb (row_count b) most-rows && ltb at (row_count b))
+unfoldable pub is_used : List ℕ → ℕ → Bool
+is_used b at = eqb (length b) tree_width && (leb (row_count b) most_rows && ltb at (row_count b))
 
 -- the number that the call answers, and what the two lent numbers hold then: the place and the steps
 pub record Told : Type 0 where
@@ -19,19 +19,19 @@ pub record Told : Type 0 where
   pub steps : ℕ
 
 -- 0 where the child was found, 1 where it is missing
-unfoldable pub number-told : Child → ℕ
-number-told (Found i) = 0
-number-told (Missing i) = 1
+unfoldable pub number_told : Child → ℕ
+number_told (Found i) = 0
+number_told (Missing i) = 1
 
 -- its row, or where it would stand
-unfoldable pub place-told : Child → ℕ
-place-told (Found i) = i
-place-told (Missing i) = i
+unfoldable pub place_told : Child → ℕ
+place_told (Found i) = i
+place_told (Missing i) = i
 
-unfoldable pub search-told : Search → Told
-search-told s = record { number = number-told s.child; place = place-told s.child; steps = s.steps }
+unfoldable pub search_told : Search → Told
+search_told s = record { number = number_told s.child; place = place_told s.child; steps = s.steps }
 
 -- of bytes without that row the answer is 2, and the lent numbers stay
-unfoldable pub search-call : List ℕ → ℕ → Name → ℕ → ℕ → Told
-search-call b at n place steps =
-    cond (is-used b at) (search-told (search-in (all-rows b) at n)) (record { number = 2; place = place; steps = steps })
+unfoldable pub search_call : List ℕ → ℕ → Name → ℕ → ℕ → Told
+search_call b at n place steps =
+    cond (is_used b at) (search_told (search_in (all_rows b) at n)) (record { number = 2; place = place; steps = steps })

@@ -1,7 +1,7 @@
 // The search for a child as a call, for the tests to link: they hold its steps to a count of their own. It is no call of the
 // library, and no header declares it.
 ghost use Rattle.std.specs.Prelude.{◌≡◌};
-ghost use Rattle.search_export.specs.SearchCall.{is-used, number-told, place-told, search-call};
+ghost use Rattle.search_export.specs.SearchCall.{is_used, number_told, place_told, search_call};
 
 use tree::{Child, MOST_ROWS, TREE, count, search_child};
 
@@ -14,7 +14,7 @@ const NO_ROW: u32 = 2;
 
 // Whether bytes are as many as a tree's, with no more rows than there is room for, and one of these at an index.
 fn has_row(tree: &[u8], at: usize) -> bool
-    ensures { result ≡ is-used tree.now at }
+    ensures { result ≡ is_used tree.now at }
 {
     if tree.len() != TREE {
         return false;
@@ -28,7 +28,7 @@ fn has_row(tree: &[u8], at: usize) -> bool
 
 // Whether the child was found, as a number.
 fn number_of(child: Child) -> u32
-    ensures { result ≡ number-told child }
+    ensures { result ≡ number_told child }
 {
     match child {
         Child::Found(_) => FOUND,
@@ -38,7 +38,7 @@ fn number_of(child: Child) -> u32
 
 // Its row, or where it would stand.
 fn place_of(child: Child) -> u64
-    ensures { result ≡ place-told child }
+    ensures { result ≡ place_told child }
 {
     match child {
         Child::Found(i) => i as u64,
@@ -55,9 +55,9 @@ pub extern "C" fn tree_search(
     place: &mut u64,
     steps: &mut u64,
 ) -> u32
-    ensures value { result ≡ (search-call tree.now at name.now place.old steps.old).number }
-    ensures place_after { place.new ≡ (search-call tree.now at name.now place.old steps.old).place }
-    ensures steps_after { steps.new ≡ (search-call tree.now at name.now place.old steps.old).steps }
+    ensures value { result ≡ (search_call tree.now at name.now place.old steps.old).number }
+    ensures place_after { place.new ≡ (search_call tree.now at name.now place.old steps.old).place }
+    ensures steps_after { steps.new ≡ (search_call tree.now at name.now place.old steps.old).steps }
 {
     if !has_row(tree, at) {
         return NO_ROW;

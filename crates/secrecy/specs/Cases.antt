@@ -8,27 +8,27 @@ use Rattle.std.proofs.Common.{sym, ◌∙◌, ap, arith}
 use Rattle.std.proofs.Math.Option.{Option, none, some}
 use Prim.Native.String.{String}
 use Rattle.buffers.specs.Text.{Text, every}
-use Rattle.accounts.specs.Dominance.{Bounded-role}
+use Rattle.accounts.specs.Dominance.{BoundedRole}
 use Rattle.syntax.specs.Pieces.{bytes}
 use Rattle.syntax.specs.Number.{octal}
-use Rattle.syntax.specs.Path.{Name, root, ◌▹◌, Entry-path, rep, entry-location, in-rep}
-use Rattle.setup.specs.Setup.{Setup, Setup-answer, accepted, wrong-line, setup, no-setup}
+use Rattle.syntax.specs.Path.{Name, root, ◌▹◌, EntryPath, rep, entry_location, in_rep}
+use Rattle.setup.specs.Setup.{Setup, SetupAnswer, accepted, wrong_line, setup, no_setup}
 use Rattle.tree.specs.declared.Kind.{Kind}
 use Rattle.tree.specs.declared.Kind.TheVariants.{File, Directory}
 use Rattle.tree.specs.Forest.{Forest, nil, node, place_at}
-use Rattle.tree.specs.Node.{is-directory, Tag, Node}
+use Rattle.tree.specs.Node.{is_directory, Tag, Node}
 use Rattle.shell.specs.Cases.{Case, ◌gives◌, ◌shows◌, all_done}
-use Rattle.store.specs.State.{Store, state-of}
-use Rattle.store.specs.Initial.{top-node, rep-node, initial-registry, initial-store}
+use Rattle.store.specs.State.{Store, state_of}
+use Rattle.store.specs.Initial.{top_node, rep_node, initial_registry, initial_store}
 use Rattle.store.specs.StoreBytes.{encode}
-use Rattle.machine.specs.StoreMachine.{entry-node, store}
-use Rattle.machine.specs.Runs.{Call, runs, of-root, root's}
-use Rattle.machine.specs.Observed.{without-root, Reached-without-root}
-use Rattle.machine.specs.EntryChanges.{node_of, Filed-as}
-use Rattle.machine.specs.MachineKeepingLaws.{reached-decodes}
+use Rattle.machine.specs.StoreMachine.{entry_node, store}
+use Rattle.machine.specs.Runs.{Call, runs, of_root, root's}
+use Rattle.machine.specs.Observed.{without_root, ReachedWithoutRoot}
+use Rattle.machine.specs.EntryChanges.{node_of, FiledAs}
+use Rattle.machine.specs.MachineKeepingLaws.{reached_decodes}
 use Rattle.machine.specs.Cases.{calls, replied, compute}
-use Rattle.secrecy.specs.Redacted.{is-secret, redacted-node, redacted, Differ-only-in, is-senior, without-seniors, admits-senior, is-junior's, by-junior, by-juniors}
-use Rattle.secrecy.specs.SecrecyTheorems.{junior-learns-nothing}
+use Rattle.secrecy.specs.Redacted.{is_secret, redacted_node, redacted, DifferOnlyIn, is_senior, without_seniors, admits_senior, is_junior's, by_junior, by_juniors}
+use Rattle.secrecy.specs.SecrecyTheorems.{junior_learns_nothing}
 
 -- ---- two stores
 
@@ -36,17 +36,17 @@ use Rattle.secrecy.specs.SecrecyTheorems.{junior-learns-nothing}
 text : Text
 text = bytes "p,1,1\np,2,2\nr,0,1\nr,0,2\nl,1,0,oak\nl,2,1,elm\nend\n"
 
-taken-from : Setup-answer → Setup
-taken-from (accepted u) = u
-taken-from (wrong-line n) = no-setup
+taken_from : SetupAnswer → Setup
+taken_from (accepted u) = u
+taken_from (wrong_line n) = no_setup
 
 u : Setup
-u = taken-from (setup text)
+u = taken_from (setup text)
 
-r : Bounded-role
+r : BoundedRole
 r = record { role = record { 0 = 2 }; bound = refl }
 
-r₁ : Bounded-role
+r₁ : BoundedRole
 r₁ = record { role = record { 0 = 1 }; bound = refl }
 
 filed : List Case
@@ -63,45 +63,45 @@ again : List Call
 again = calls 4096 (filed ++ (all_done "1,write,/u1/a,52 53\n1,commit,/u1/a" ++ left))
 
 s : Store
-s = (runs store u (initial-store u) once).state
+s = (runs store u (initial_store u) once).state
 
 s' : Store
-s' = (runs store u (initial-store u) again).state
+s' = (runs store u (initial_store u) again).state
 
 unfoldable secrets : Unit {0}
-unfolding compute is-secret redacted-node redacted is-senior without-seniors admits-senior is-junior's by-junior by-juniors every of-root root's without-root place_at node_of entry-location in-rep text taken-from u r filed left once again s s'
+unfolding compute is_secret redacted_node redacted is_senior without_seniors admits_senior is_junior's by_junior by_juniors every of_root root's without_root place_at node_of entry_location in_rep text taken_from u r filed left once again s s'
 secrets = tt
 
-reached : Reached-without-root u s
+reached : ReachedWithoutRoot u s
 unfolding secrets
 reached = record { reached = record { text = text; taken = refl; calls = once; state = refl }; rootless = refl }
 
-reached' : Reached-without-root u s'
+reached' : ReachedWithoutRoot u s'
 unfolding secrets
 reached' = record { reached = record { text = text; taken = refl; calls = again; state = refl }; rootless = refl }
 
 -- the entry has another revision and another content
-entry-a : Entry-path
-entry-a = record { folder = root ▹ bytes "d"; name = bytes "a" }
+entry_a : EntryPath
+entry_a = record { folder = root ▹ bytes "d"; name = bytes "a" }
 
-differ : Filed-as s entry-a File r 2 (bytes "51") × Filed-as s' entry-a File r 3 (bytes "52 53")
-unfolding secrets entry-a
+differ : FiledAs s entry_a File r 2 (bytes "51") × FiledAs s' entry_a File r 3 (bytes "52 53")
+unfolding secrets entry_a
 differ = (refl, refl)
 
-revision-of : Option Node → ℕ
-revision-of none = 0
-revision-of (some n) = n.revision
+revision_of : Option Node → ℕ
+revision_of none = 0
+revision_of (some n) = n.revision
 
-two-stores : s ≡ s' → ⊥
-unfolding revision-of entry-node
-two-stores e =
-    let unequal : ◌≡◌ {A = ℕ} 2 3 = ap revision-of (sym differ.0 ∙ ap (λ x. node_of x entry-a) e ∙ differ.1) in
+two_stores : s ≡ s' → ⊥
+unfolding revision_of entry_node
+two_stores e =
+    let unequal : ◌≡◌ {A = ℕ} 2 3 = ap revision_of (sym differ.0 ∙ ap (λ x. node_of x entry_a) e ∙ differ.1) in
     omega (arith, unequal)
 
 -- a working file or directory of person 1's
 working : Kind → ℕ → Name → ℕ → Text → Node
 working kind mode n revision content =
-    let tag : Tag = record { path = record { folder = cond (is-directory kind) root (root ▹ bytes "d"); name = n }; revision = revision } in
+    let tag : Tag = record { path = record { folder = cond (is_directory kind) root (root ▹ bytes "d"); name = n }; revision = revision } in
     record { kind = kind; owner = record { 0 = 1 }; group = record { 0 = 1 }; mode = mode; revision = 0; tag = some tag; content = content }
 
 home : ℕ → Node
@@ -109,7 +109,7 @@ home v = record { kind = Directory; owner = record { 0 = v }; group = record { 0
 
 -- what both are once redacted
 entries : Forest Node
-entries = node (bytes "a") (entry-node File r 0 []) nil (node (bytes "b") (entry-node File r₁ 1 []) nil nil)
+entries = node (bytes "a") (entry_node File r 0 []) nil (node (bytes "b") (entry_node File r₁ 1 []) nil nil)
 
 files : Forest Node
 files =
@@ -120,27 +120,27 @@ files =
 both : Store
 both = record {
   tree = record {
-    here = top-node;
-    below = node rep rep-node (node (bytes "d") (entry-node Directory r₁ 1 []) entries nil) (node (bytes "u1") (home 1) files (node (bytes "u2") (home 2) nil nil));
+    here = top_node;
+    below = node rep rep_node (node (bytes "d") (entry_node Directory r₁ 1 []) entries nil) (node (bytes "u1") (home 1) files (node (bytes "u2") (home 2) nil nil));
   };
-  registry = initial-registry u;
+  registry = initial_registry u;
 }
 
 -- and nothing else
-first-redacted : redacted r s ≡ both
+first_redacted : redacted r s ≡ both
 unfolding secrets working home entries files both r₁
-first-redacted = refl
+first_redacted = refl
 
-second-redacted : redacted r s' ≡ both
+second_redacted : redacted r s' ≡ both
 unfolding secrets working home entries files both r₁
-second-redacted = refl
+second_redacted = refl
 
 same : redacted r s ≡ redacted r s'
-same = first-redacted ∙ sym second-redacted
+same = first_redacted ∙ sym second_redacted
 
-no-senior : without-seniors u r s.registry.sessions ≡ true
+no_senior : without_seniors u r s.registry.sessions ≡ true
 unfolding secrets
-no-senior = refl
+no_senior = refl
 
 -- ---- a junior's list
 
@@ -167,9 +167,9 @@ junior =
     "2,commit,/" shows "1" ∷
     "2,nothing" gives 1 ∷ []
 
-by-junior-alone : by-juniors u r (calls 4096 junior) ≡ true
+by_junior_alone : by_juniors u r (calls 4096 junior) ≡ true
 unfolding secrets junior
-by-junior-alone = refl
+by_junior_alone = refl
 
 -- so it is answered in the first store
 answers : replied junior (runs store u s (calls 4096 junior)).replies ≡ junior
@@ -178,7 +178,7 @@ answers = refl
 
 -- and by the theorem in the second
 learns_nothing : (runs store u s (calls 4096 junior)).replies ≡ (runs store u s' (calls 4096 junior)).replies
-learns_nothing = (junior-learns-nothing u r s s' reached reached' same no-senior (calls 4096 junior) by-junior-alone).0
+learns_nothing = (junior_learns_nothing u r s s' reached reached' same no_senior (calls 4096 junior) by_junior_alone).0
 
 answers' : replied junior (runs store u s' (calls 4096 junior)).replies ≡ junior
 answers' = ap (replied junior) (sym learns_nothing) ∙ answers
@@ -191,18 +191,18 @@ senior count shown =
     "1,up,/u1/c" gives 0 ∷
     "1,read,/u1/c" shows shown ∷ []
 
-senior-learns : (replied (senior "2" "51") (runs store u s (calls 4096 (senior "2" "51"))).replies ≡ senior "2" "51")
+senior_learns : (replied (senior "2" "51") (runs store u s (calls 4096 (senior "2" "51"))).replies ≡ senior "2" "51")
     × (replied (senior "1" "52 53") (runs store u s' (calls 4096 (senior "1" "52 53"))).replies ≡ senior "1" "52 53")
 unfolding secrets senior
-senior-learns = (refl, refl)
+senior_learns = (refl, refl)
 
 -- ---- on bytes
 
-bytes-differ : Differ-only-in u r (encode (state-of u s)) (encode (state-of u s'))
-bytes-differ = record {
+bytes_differ : DifferOnlyIn u r (encode (state_of u s)) (encode (state_of u s'))
+bytes_differ = record {
   first = s;
   second = s';
-  read_first = reached-decodes u s reached.reached;
-  read-second = reached-decodes u s' reached'.reached;
+  read_first = reached_decodes u s reached.reached;
+  read_second = reached_decodes u s' reached'.reached;
   same = same;
 }

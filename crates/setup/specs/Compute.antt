@@ -1,7 +1,7 @@
 -- For computed examples only: whoever unfolds `compute` unfolds every definition of this crate, and of `lines`, that a run goes through.
-use Rattle.lines.specs.Compute.{compute as compute-lines}
-use Rattle.setup.specs.Setup.{accounts, most-pairs, most-grants, person, with-person, with_pair, with-grant, joining, accept, no-setup, stops, continue, read-lines, setup}
+use Rattle.lines.specs.Compute.{compute as compute_lines}
+use Rattle.setup.specs.Setup.{accounts, most_pairs, most_grants, person, with_person, with_pair, with_grant, joining, accept, no_setup, stops, continue, read_lines, setup}
 
 unfoldable pub compute : Unit {0}
-unfolding compute-lines accounts most-pairs most-grants person with-person with_pair with-grant joining accept no-setup stops continue read-lines setup
+unfolding compute_lines accounts most_pairs most_grants person with_person with_pair with_grant joining accept no_setup stops continue read_lines setup
 compute = tt

@@ -1,11 +1,11 @@
 // The first working directories, written into a header: a person's home, `/` for any other account.
 ghost use Rattle.std.specs.Prelude.{◌≡◌, map, ◌≤◌, ◌<◌, length};
 ghost use Rattle.std.proofs.Math.Seq.{paste};
-ghost use Rattle.buffers.specs.Fields.{all-bytes};
-ghost use Rattle.store.specs.HeaderLayout.{directories-offset, directory-width, directories-width, directory-start, spare-offset};
-ghost use Rattle.store.specs.Initial.{first-directory, first-directories};
-ghost use Rattle.store.specs.InitialRows.{slot-value};
-ghost use Rattle.store.specs.StoreBytes.{directory-bytes};
+ghost use Rattle.buffers.specs.Fields.{all_bytes};
+ghost use Rattle.store.specs.HeaderLayout.{directories_offset, directory_width, directories_width, directory_start, spare_offset};
+ghost use Rattle.store.specs.Initial.{first_directory, first_directories};
+ghost use Rattle.store.specs.InitialRows.{slot_value};
+ghost use Rattle.store.specs.StoreBytes.{directory_bytes};
 
 use buffers::write_padded;
 use store::{DIRECTORIES, DIRECTORY, Person};
@@ -13,8 +13,8 @@ use store::{DIRECTORIES, DIRECTORY, Person};
 // Writes the first working directory of an account.
 fn write_directory(header: &mut [u8], k: usize, person: Person)
     requires k_bound { k < 16 }
-    requires spare_offset_in_bounds { spare-offset ≤ length header.old }
-    ensures { header.new ≡ paste header.old (directory-start k) (directory-bytes (first-directory (record { 0 = k }) (slot-value person))) directory-width }
+    requires spare_offset_in_bounds { spare_offset ≤ length header.old }
+    ensures { header.new ≡ paste header.old (directory_start k) (directory_bytes (first_directory (record { 0 = k }) (slot_value person))) directory_width }
 {
     let at = DIRECTORIES + DIRECTORY * k;
     let group = person.primary;
@@ -34,8 +34,8 @@ fn write_directory(header: &mut [u8], k: usize, person: Person)
 
 // Writes those of all accounts, whatever stood there.
 pub fn write_directories(header: &mut [u8], persons: [Person; 16])
-    requires { spare-offset ≤ length header.old }
-    ensures { header.new ≡ paste header.old directories-offset (all-bytes directory-bytes (first-directories 0 (map slot-value persons))) directories-width }
+    requires { spare_offset ≤ length header.old }
+    ensures { header.new ≡ paste header.old directories_offset (all_bytes directory_bytes (first_directories 0 (map slot_value persons))) directories_width }
 {
     let mut k: usize = 0;
     while k < 16 {

@@ -1,13 +1,13 @@
 // One line of a setup text, read into the header of the store that the setup makes.
 ghost use Rattle.std.specs.Prelude.{◌≡◌, ◌||◌, ◌≤◌, ◌<◌, length};
-ghost use Rattle.accounts.specs.Access.{is-root};
+ghost use Rattle.accounts.specs.Access.{is_root};
 ghost use Rattle.syntax.specs.Form.{is_some};
-ghost use Rattle.lines.specs.SetupLines.{p-line, g-line, r-line, l-line};
+ghost use Rattle.lines.specs.SetupLines.{p_line, g_line, r_line, l_line};
 ghost use Rattle.setup.specs.Setup.{person, accept};
-ghost use Rattle.setup.specs.SetupStep.{fitting, setup-step};
-ghost use Rattle.store.specs.HeaderLayout.{password-width};
-ghost use Rattle.store.specs.StoreBytes.{setup-of};
-ghost use Rattle.store.specs.SetupHeader.{reading-in};
+ghost use Rattle.setup.specs.SetupStep.{fitting, setup_step};
+ghost use Rattle.store.specs.HeaderLayout.{password_width};
+ghost use Rattle.store.specs.StoreBytes.{setup_of};
+ghost use Rattle.store.specs.SetupHeader.{reading_in};
 ghost use Rattle.setups.specs.LineRead.{Begun, read_as, after_line};
 
 use crate::LineRead;
@@ -24,7 +24,7 @@ fn name_person(header: &mut [u8], kind: u8, uid: Uid, gid: Gid) -> LineRead
     requires uid_bound { uid.0 < 16 }
     requires gid_nonzero { 0 < gid.0 }
     requires gid_bound { gid.0 < 16 }
-    ensures { read_as result header.new ≡ after_line header.old (fitting (accept (p-line uid gid) (reading-in kind header.old))) }
+    ensures { read_as result header.new ≡ after_line header.old (fitting (accept (p_line uid gid) (reading_in kind header.old))) }
 {
     if 0 < kind {
         return LineRead::Wrong;
@@ -47,7 +47,7 @@ fn join_group(header: &mut [u8], kind: u8, uid: Uid, gid: Gid) -> LineRead
     requires uid_bound { uid.0 < 16 }
     requires gid_nonzero { 0 < gid.0 }
     requires gid_bound { gid.0 < 16 }
-    ensures { read_as result header.new ≡ after_line header.old (fitting (accept (g-line uid gid) (reading-in kind header.old))) }
+    ensures { read_as result header.new ≡ after_line header.old (fitting (accept (g_line uid gid) (reading_in kind header.old))) }
 {
     if 1 < kind {
         return LineRead::Wrong;
@@ -65,7 +65,7 @@ fn join_group(header: &mut [u8], kind: u8, uid: Uid, gid: Gid) -> LineRead
 // A role pair behind the others.
 fn add_pair(header: &mut [u8], kind: u8, senior: Role, junior: Role) -> LineRead
     requires { Begun header.old }
-    ensures { read_as result header.new ≡ after_line header.old (fitting (accept (r-line senior junior) (reading-in kind header.old))) }
+    ensures { read_as result header.new ≡ after_line header.old (fitting (accept (r_line senior junior) (reading_in kind header.old))) }
 {
     if 2 < kind {
         return LineRead::Wrong;
@@ -90,7 +90,7 @@ fn add_pair(header: &mut [u8], kind: u8, senior: Role, junior: Role) -> LineRead
 fn is_known(header: &[u8], uid: Uid) -> bool
     requires begun { Begun header.now }
     requires uid_bound { uid.0 < 16 }
-    ensures { result ≡ (is-root uid || is_some (person (setup-of header.now) uid)) }
+    ensures { result ≡ (is_root uid || is_some (person (setup_of header.now) uid)) }
 {
     if uid.0 == 0 {
         return true;
@@ -104,8 +104,8 @@ fn add_grant(header: &mut [u8], kind: u8, uid: Uid, role: Role, password: &[u8])
     requires begun { Begun header.old }
     requires kind_bound { kind ≤ 3 }
     requires uid_bound { uid.0 < 16 }
-    requires password_len_bound { length password.now ≤ password-width }
-    ensures { read_as result header.new ≡ after_line header.old (fitting (accept (l-line uid role password.now) (reading-in kind header.old))) }
+    requires password_len_bound { length password.now ≤ password_width }
+    ensures { read_as result header.new ≡ after_line header.old (fitting (accept (l_line uid role password.now) (reading_in kind header.old))) }
 {
     if !is_known(header, uid) {
         return LineRead::Wrong;
@@ -123,7 +123,7 @@ fn add_grant(header: &mut [u8], kind: u8, uid: Uid, role: Role, password: &[u8])
 pub fn read_line(header: &mut [u8], kind: u8, line: &[u8]) -> LineRead
     requires begun { Begun header.old }
     requires kind_bound { kind ≤ 3 }
-    ensures { read_as result header.new ≡ after_line header.old (setup-step line.now (reading-in kind header.old)) }
+    ensures { read_as result header.new ≡ after_line header.old (setup_step line.now (reading_in kind header.old)) }
 {
     let n = line.len();
     if word_is(line, Span { start: 0, end: n }, b"end") {

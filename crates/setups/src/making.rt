@@ -1,10 +1,10 @@
 // A whole setup text: read line by line into a header, and made a store.
 ghost use Rattle.std.specs.Prelude.{◌≡◌, length};
-ghost use Rattle.setup.specs.Setup.{wrong-line, no-setup, setup};
-ghost use Rattle.store.specs.HeaderLayout.{Wide-header};
-ghost use Rattle.store.specs.StoreBytes.{store-width};
-ghost use Rattle.store.specs.SetupHeader.{setup-header};
-ghost use Rattle.setups.specs.Making.{text-as, header_made, store-made};
+ghost use Rattle.setup.specs.Setup.{wrong_line, no_setup, setup};
+ghost use Rattle.store.specs.HeaderLayout.{WideHeader};
+ghost use Rattle.store.specs.StoreBytes.{store_width};
+ghost use Rattle.store.specs.SetupHeader.{setup_header};
+ghost use Rattle.setups.specs.Making.{text_as, header_made, store_made};
 
 use crate::line::read_line;
 use crate::opening::open_store;
@@ -15,8 +15,8 @@ use syntax::piece_end;
 
 // A wrong line: the header holds nothing again.
 fn refuse(header: &mut [u8], number: usize) -> TextRead
-    requires { Wide-header header.old }
-    ensures { text-as result header.new ≡ header_made (wrong-line number) }
+    requires { WideHeader header.old }
+    ensures { text_as result header.new ≡ header_made (wrong_line number) }
 {
     clear(header, 0, HEADER);
     TextRead::Wrong(number)
@@ -24,8 +24,8 @@ fn refuse(header: &mut [u8], number: usize) -> TextRead
 
 // Reads a setup text into a header of nothing.
 fn read_header(header: &mut [u8], text: &[u8]) -> TextRead
-    requires { header.old ≡ setup-header no-setup }
-    ensures { text-as result header.new ≡ header_made (setup text.now) }
+    requires { header.old ≡ setup_header no_setup }
+    ensures { text_as result header.new ≡ header_made (setup text.now) }
 {
     let mut kind: u8 = 0;
     let mut at: usize = 0;
@@ -54,8 +54,8 @@ fn read_header(header: &mut [u8], text: &[u8]) -> TextRead
 
 // Makes the store of a setup text, whatever stood there; a wrong text leaves it.
 pub fn make_store(store: &mut [u8], text: &[u8]) -> TextRead
-    requires { length store.old ≡ store-width }
-    ensures { text-as result store.new ≡ store-made store.old (setup text.now) }
+    requires { length store.old ≡ store_width }
+    ensures { text_as result store.new ≡ store_made store.old (setup text.now) }
 {
     let mut header = [0u8; HEADER];
     match read_header(&mut header, text) {

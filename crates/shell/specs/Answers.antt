@@ -4,7 +4,7 @@ use Rattle.std.proofs.Math.Option.{Option, some}
 use Rattle.buffers.specs.Text.{Text}
 use Rattle.tree.specs.declared.Cause.{Cause}
 use Rattle.tree.specs.declared.Cause.TheVariants.{NoForm, UnknownCaller, Missing, NotDirectory, Access, Exists, WrongKind, NotEmpty, Reserved, Full, IntoItself, NoSession, NoGrant, Stale, Untagged, RevisionsSpent, Unsound, TooDeep, ShortAnswer}
-use Rattle.shell.specs.Steps.{longest-text}
+use Rattle.shell.specs.Steps.{longest_text}
 
 -- all causes but 18 and 20, which come before a command line is read
 abbrev own : Cause → Bool
@@ -32,5 +32,5 @@ abbrev pub Own : Cause → Type 0
 Own why = own why ≡ true
 
 -- no text, or one of at most 2294 bytes
-abbrev pub Text-fits : Option Text → Type 0
-Text-fits o = (x : Text) → o ≡ some x → length x ≤ longest-text
+abbrev pub TextFits : Option Text → Type 0
+TextFits o = (x : Text) → o ≡ some x → length x ≤ longest_text

@@ -7,15 +7,15 @@ use Prim.Native.String.{String}
 use Rattle.buffers.specs.Text.{Text}
 use Rattle.accounts.specs.declared.Uid.{Uid}
 use Rattle.accounts.specs.declared.Caller.{Caller}
-use Rattle.accounts.specs.Groups.{no-groups, with-group}
-use Rattle.accounts.specs.Access.{is-root}
-use Rattle.accounts.specs.Caller.{root-caller}
-use Rattle.accounts.specs.Compute.{compute as compute-accounts}
+use Rattle.accounts.specs.Groups.{no_groups, with_group}
+use Rattle.accounts.specs.Access.{is_root}
+use Rattle.accounts.specs.Caller.{root_caller}
+use Rattle.accounts.specs.Compute.{compute as compute_accounts}
 use Rattle.syntax.specs.Pieces.{bytes, newline, pieces}
 use Rattle.syntax.specs.Path.{Path, root, path}
-use Rattle.syntax.specs.Compute.{compute as compute-syntax}
+use Rattle.syntax.specs.Compute.{compute as compute_syntax}
 use Rattle.commands.specs.Command.{Command, shell, account, entry, line}
-use Rattle.commands.specs.Compute.{compute as compute-commands}
+use Rattle.commands.specs.Compute.{compute as compute_commands}
 use Rattle.tree.specs.declared.Kind.{Kind}
 use Rattle.tree.specs.declared.Kind.TheVariants.{File, Directory}
 use Rattle.tree.specs.declared.Cause.TheVariants.{NoForm, Access}
@@ -23,12 +23,12 @@ use Rattle.tree.specs.Causes.{number}
 use Rattle.tree.specs.Result.{Result, refused, ◌>>=◌, present, Outcome}
 use Rattle.tree.specs.Forest.{nil, node, Place, place_at, leaf}
 use Rattle.tree.specs.Node.{Node}
-use Rattle.tree.specs.Compute.{compute as compute-tree}
-use Rattle.shell.specs.WholePaths.{whole-command}
-use Rattle.shell.specs.Steps.{run-shell}
+use Rattle.tree.specs.Compute.{compute as compute_tree}
+use Rattle.shell.specs.WholePaths.{whole_command}
+use Rattle.shell.specs.Steps.{run_shell}
 use Rattle.shell.specs.declared.Answer.TheVariants.{Refused, WrongLine}
-use Rattle.shell.specs.Replies.{Reply, ok, refusal, reply, after, Told, told, answer-of}
-use Rattle.shell.specs.Compute.{compute as compute-shell}
+use Rattle.shell.specs.Replies.{Reply, ok, refusal, reply, after, Told, told, answer_of}
+use Rattle.shell.specs.Compute.{compute as compute_shell}
 
 -- ---- cases
 
@@ -60,12 +60,12 @@ answered l (refusal why) = record { line = l; number = number why; text = none }
 -- root, or a person whose primary group has the person's number; all persons are in group 3
 person : Uid → Caller
 person u = record {
-  account = record { uid = u; groups = with-group (record { 0 = u.0 }) (with-group (record { 0 = 3 }) no-groups) };
+  account = record { uid = u; groups = with_group (record { 0 = u.0 }) (with_group (record { 0 = 3 }) no_groups) };
   primary = record { 0 = u.0 };
 }
 
 who : Uid → Caller
-who u = cond (is-root u) root-caller (person u)
+who u = cond (is_root u) root_caller (person u)
 
 attributes : Kind → ℕ → ℕ → ℕ → String → Node
 attributes kind owner group mode content = record {
@@ -91,16 +91,16 @@ start = record {
   below = node (bytes "rep") (directory 16 24 0o750) nil (node (bytes "u1") (directory 1 1 0o755) nil (node (bytes "u2") (directory 2 2 0o755) nil nil));
 }
 
-command-run : ℕ → Place Node → Uid → Command → Result (Outcome (Place Node))
-command-run elsewhere t u (shell c) = run-shell (who u) elsewhere t c
-command-run elsewhere t u (account c) = refused NoForm
-command-run elsewhere t u (entry c) = refused NoForm
+command_run : ℕ → Place Node → Uid → Command → Result (Outcome (Place Node))
+command_run elsewhere t u (shell c) = run_shell (who u) elsewhere t c
+command_run elsewhere t u (account c) = refused NoForm
+command_run elsewhere t u (entry c) = refused NoForm
 
-line-run : ℕ → Place Node → Text → Result (Outcome (Place Node))
-line-run elsewhere t l = do
+line_run : ℕ → Place Node → Text → Result (Outcome (Place Node))
+line_run elsewhere t l = do
   x ← present (line l) NoForm
-  k ← whole-command root x.command
-  command-run elsewhere t x.caller k
+  k ← whole_command root x.command
+  command_run elsewhere t x.caller k
 
 -- the replies to the lines of cases, and the tree after them
 pub record Ran : Type 0 where
@@ -110,7 +110,7 @@ pub record Ran : Type 0 where
 pub run_on : ℕ → Place Node → List Case → Ran
 run_on elsewhere t [] = record { replies = []; tree = t }
 run_on elsewhere t (c ∷ cs) =
-    let o = line-run elsewhere t c.line in
+    let o = line_run elsewhere t c.line in
     let rest = run_on elsewhere (after t o) cs in
     record { replies = answered c.line (reply o) ∷ rest.replies; tree = rest.tree }
 
@@ -123,11 +123,11 @@ pub standing : Place Node → Option Path → Option (Place Node)
 standing t none = none
 standing t (some p) = place_at t p
 
-abbrev pub after-cases : List Case → String → Option (Place Node)
-after-cases cases p = standing (run_on 0 start cases).tree (path (bytes p))
+abbrev pub after_cases : List Case → String → Option (Place Node)
+after_cases cases p = standing (run_on 0 start cases).tree (path (bytes p))
 
 unfoldable pub compute : Unit {0}
-unfolding compute-accounts compute-syntax compute-commands compute-tree compute-shell place_at number reply after ◌gives◌ ◌shows◌ all_done answered person who attributes directory file start command-run line-run run_on standing
+unfolding compute_accounts compute_syntax compute_commands compute_tree compute_shell place_at number reply after ◌gives◌ ◌shows◌ all_done answered person who attributes directory file start command_run line_run run_on standing
 compute = tt
 
 -- ---- `create`, `mkdir`: for `/` 6; parent walk, x before the name; 6 if present; w on parent 5
@@ -150,16 +150,16 @@ making =
     "2,create,/u1/b,0600" gives 5 ∷
     "2,mkdir,/u1/b,0700" gives 5 ∷ []
 
-making-answered : Answered 0 making
+making_answered : Answered 0 making
 unfolding compute making
-making-answered = refl
+making_answered = refl
 
-making-leaves : map (after-cases making) ("/u1/a" ∷ "/u1/d" ∷ "/u1/b" ∷ []) ≡
+making_leaves : map (after_cases making) ("/u1/a" ∷ "/u1/d" ∷ "/u1/b" ∷ []) ≡
     some (leaf (file 1 1 0o644 "")) ∷
     some (record { here = directory 1 1 0o600; below = node (bytes "a") (file 1 1 0o600 "") nil nil }) ∷
     none ∷ []
 unfolding compute making
-making-leaves = refl
+making_leaves = refl
 
 -- with 252 nodes elsewhere there are 256; a removed one makes way for another. 6 and 5 come before 10
 full : List Case
@@ -173,9 +173,9 @@ full =
     "1,mkdir,/u1/a,0700" gives 0 ∷
     "1,create,/u1/a/b,0600" gives 10 ∷ []
 
-full-answered : Answered 252 full
+full_answered : Answered 252 full
 unfolding compute full
-full-answered = refl
+full_answered = refl
 
 -- a new node is the caller's; its group is the parent's if that has set-gid, else the primary group
 grouping : List Case
@@ -187,16 +187,16 @@ grouping =
     "0,create,/u1/s/d/r,0600" gives 0 ∷
     "1,create,/u1/p,0640" gives 0 ∷ []
 
-grouping-answered : Answered 0 grouping
+grouping_answered : Answered 0 grouping
 unfolding compute grouping
-grouping-answered = refl
+grouping_answered = refl
 
-grouping-leaves : map (after-cases grouping) ("/u1/s/f" ∷ "/u1/s/d" ∷ "/u1/p" ∷ []) ≡
+grouping_leaves : map (after_cases grouping) ("/u1/s/f" ∷ "/u1/s/d" ∷ "/u1/p" ∷ []) ≡
     some (leaf (file 1 5 0o640 "")) ∷
     some (record { here = directory 0 5 0o755; below = node (bytes "r") (file 0 0 0o600 "") nil nil }) ∷
     some (leaf (file 1 1 0o640 "")) ∷ []
 unfolding compute grouping
-grouping-leaves = refl
+grouping_leaves = refl
 
 -- ---- the access test: the owner by the owner's digit alone, a member of the group by the group's, root passes
 digits : List Case
@@ -221,9 +221,9 @@ digits =
     "0,write,/u1/a," gives 0 ∷
     "0,read,/u1/a" shows "" ∷ []
 
-digits-answered : Answered 0 digits
+digits_answered : Answered 0 digits
 unfolding compute digits
-digits-answered = refl
+digits_answered = refl
 
 -- ---- `read`: walk, for each name x 5, then 3, then 4; r 5. Names stand in byte order
 reading : List Case
@@ -246,9 +246,9 @@ reading =
     "1,read,/u1/d/x" gives 5 ∷
     "1,read,/u1/d/aa/x" gives 5 ∷ [])
 
-reading-answered : Answered 0 reading
+reading_answered : Answered 0 reading
 unfolding compute reading
-reading-answered = refl
+reading_answered = refl
 
 -- ---- `write`: walk; directory 7; w 5
 writing : List Case
@@ -263,14 +263,14 @@ writing =
     "1,write,/u1/a,t" gives 0 ∷
     "1,write,/u1/a,u" gives 0 ∷ []
 
-writing-answered : Answered 0 writing
+writing_answered : Answered 0 writing
 unfolding compute writing
-writing-answered = refl
+writing_answered = refl
 
-writing-leaves : map (after-cases writing) ("/u1" ∷ []) ≡
+writing_leaves : map (after_cases writing) ("/u1" ∷ []) ≡
     some (record { here = directory 1 1 0o755; below = node (bytes "a") (file 1 1 0o644 "u") nil nil }) ∷ []
 unfolding compute writing
-writing-leaves = refl
+writing_leaves = refl
 
 -- ---- `rm`, `rmdir`: `/` or `/rep` 9; walk; kind 7; w on parent 5; not empty 8
 removing : List Case
@@ -300,14 +300,14 @@ removing =
     "1,rm,/u1/a" gives 0 ∷
     "1,rmdir,/u1" gives 5 ∷ [])
 
-removing-answered : Answered 0 removing
+removing_answered : Answered 0 removing
 unfolding compute removing
-removing-answered = refl
+removing_answered = refl
 
-removing-leaves : map (after-cases removing) ("/u1" ∷ []) ≡
+removing_leaves : map (after_cases removing) ("/u1" ∷ []) ≡
     some (leaf (directory 1 1 0o755)) ∷ []
 unfolding compute removing
-removing-leaves = refl
+removing_leaves = refl
 
 -- ---- `chmod`: set-gid on a file 7; not owner nor root 9. `chgrp`: 9 but for root and an owner in the group. `chown`: 9 but for root
 changing : List Case
@@ -343,20 +343,20 @@ changing =
     "2,chmod,/u1/a,0600" gives 0 ∷
     "0,chmod,/u1/d/b,0400" gives 0 ∷ [])
 
-changing-answered : Answered 0 changing
+changing_answered : Answered 0 changing
 unfolding compute changing
-changing-answered = refl
+changing_answered = refl
 
-changing-leaves : map (after-cases changing) ("/u1/a" ∷ "/u1/d" ∷ []) ≡
+changing_leaves : map (after_cases changing) ("/u1/a" ∷ "/u1/d" ∷ []) ≡
     some (leaf (file 2 24 0o600 "")) ∷
     some (record { here = directory 1 1 0o2700; below = node (bytes "b") (file 1 1 0o400 "") nil nil }) ∷ []
 unfolding compute changing
-changing-leaves = refl
+changing_leaves = refl
 
 -- ---- what an answer tells: beside 0 a text's length, beside 17 the line
 tellings : List Told
-tellings = map told (answer-of (ok none) ∷ answer-of (ok (some (bytes "a,b"))) ∷ Refused Access ∷ WrongLine 4 ∷ [])
+tellings = map told (answer_of (ok none) ∷ answer_of (ok (some (bytes "a,b"))) ∷ Refused Access ∷ WrongLine 4 ∷ [])
 
-tellings-are : tellings ≡ record { number = 0; values = [] } ∷ record { number = 0; values = 3 ∷ [] } ∷ record { number = 5; values = [] } ∷ record { number = 17; values = 4 ∷ [] } ∷ []
-unfolding compute tellings told answer-of
-tellings-are = refl
+tellings_are : tellings ≡ record { number = 0; values = [] } ∷ record { number = 0; values = 3 ∷ [] } ∷ record { number = 5; values = [] } ∷ record { number = 17; values = 4 ∷ [] } ∷ []
+unfolding compute tellings told answer_of
+tellings_are = refl

@@ -6,8 +6,8 @@ use Prim.Native.String.{String}
 use Rattle.syntax.specs.Pieces.{bytes}
 use Rattle.syntax.specs.Path.{root, path}
 use Rattle.tree.specs.Forest.{nil, node, Place, leaf}
-use Rattle.tree.specs.Node.{Node, set-revision, set-tag}
-use Rattle.shell.specs.Cases.{Case, ◌gives◌, ◌shows◌, all_done, directory, file, run_on, Answered, standing, after-cases, compute}
+use Rattle.tree.specs.Node.{Node, set_revision, set_tag}
+use Rattle.shell.specs.Cases.{Case, ◌gives◌, ◌shows◌, all_done, directory, file, run_on, Answered, standing, after_cases, compute}
 
 -- ---- either is `/` or `/rep` 9; walk a; parent walk b; a directory at b 6; a directory at a and a file at b 7; w on both parents 5;
 -- b below a 11; too deep 19
@@ -40,17 +40,17 @@ moving =
     "1,mv,/u1/a,/u1/ab" gives 0 ∷
     "1,mv,/u1/d/e,/u1/e" gives 0 ∷ [])
 
-moving-answered : Answered 0 moving
+moving_answered : Answered 0 moving
 unfolding compute moving
-moving-answered = refl
+moving_answered = refl
 
-moving-leaves : map (after-cases moving) ("/u1/a" ∷ "/u1/ab" ∷ "/u1/d" ∷ "/u1/e" ∷ []) ≡
+moving_leaves : map (after_cases moving) ("/u1/a" ∷ "/u1/ab" ∷ "/u1/d" ∷ "/u1/e" ∷ []) ≡
     none ∷
     some (leaf (file 1 1 0o600 "")) ∷
     some (leaf (directory 1 1 0o755)) ∷
     some (leaf (directory 1 1 0o555)) ∷ []
 unfolding compute moving
-moving-leaves = refl
+moving_leaves = refl
 
 -- a path of 6 names is not too deep, one of 7 is, and 11 comes before 19
 deepening : List Case
@@ -66,18 +66,18 @@ deepening =
     "1,read,/u1/d/e/f/b/c" shows "t" ∷
     "1,read,/u1/a" shows "" ∷ [])
 
-deepening-answered : Answered 0 deepening
+deepening_answered : Answered 0 deepening
 unfolding compute deepening
-deepening-answered = refl
+deepening_answered = refl
 
 -- ---- a file onto a file
 
 -- two files that differ in all but their kind, one with a tag; and a file in a directory in which nobody may write
 tagged : Node
-tagged = set-tag (record { path = record { folder = root; name = bytes "a" }; revision = 3 }) (file 1 1 0o600 "one")
+tagged = set_tag (record { path = record { folder = root; name = bytes "a" }; revision = 3 }) (file 1 1 0o600 "one")
 
 untagged : Node
-untagged = set-revision 5 (file 2 3 0o644 "two")
+untagged = set_revision 5 (file 2 3 0o644 "two")
 
 pair : Place Node
 pair = record {
@@ -88,35 +88,35 @@ pair = record {
       node (bytes "d") (directory 1 1 0o555) (node (bytes "c") (file 1 1 0o600 "three") nil nil) nil))) nil;
 }
 
-abbrev Answered-of-pair : List Case → Type 0
-Answered-of-pair cases = (run_on 0 pair cases).replies ≡ cases
+abbrev AnsweredOfPair : List Case → Type 0
+AnsweredOfPair cases = (run_on 0 pair cases).replies ≡ cases
 
-abbrev left-of-pair : List Case → String → Option (Place Node)
-left-of-pair cases p = standing (run_on 0 pair cases).tree (path (bytes p))
+abbrev left_of_pair : List Case → String → Option (Place Node)
+left_of_pair cases p = standing (run_on 0 pair cases).tree (path (bytes p))
 
 -- the replaced file goes with its tag: what was moved stands there as it was, whoever owns either
 replacing : List Case
 replacing = "1,mv,/u1/b,/u1/a" gives 0 ∷ "1,read,/u1" shows "a,d" ∷ []
 
-replacing-answered : Answered-of-pair replacing
+replacing_answered : AnsweredOfPair replacing
 unfolding compute pair tagged untagged replacing
-replacing-answered = refl
+replacing_answered = refl
 
-replacing-leaves : map (left-of-pair replacing) ("/u1/a" ∷ "/u1/b" ∷ []) ≡ some (leaf untagged) ∷ none ∷ []
+replacing_leaves : map (left_of_pair replacing) ("/u1/a" ∷ "/u1/b" ∷ []) ≡ some (leaf untagged) ∷ none ∷ []
 unfolding compute pair tagged untagged replacing
-replacing-leaves = refl
+replacing_leaves = refl
 
 -- and the moved one's own tag goes with it
 carrying : List Case
 carrying = "1,chmod,/u1/d,0755" gives 0 ∷ "1,mv,/u1/a,/u1/d/c" gives 0 ∷ []
 
-carrying-answered : Answered-of-pair carrying
+carrying_answered : AnsweredOfPair carrying
 unfolding compute pair tagged untagged carrying
-carrying-answered = refl
+carrying_answered = refl
 
-carrying-leaves : map (left-of-pair carrying) ("/u1/a" ∷ "/u1/b" ∷ "/u1/d/c" ∷ []) ≡ none ∷ some (leaf untagged) ∷ some (leaf tagged) ∷ []
+carrying_leaves : map (left_of_pair carrying) ("/u1/a" ∷ "/u1/b" ∷ "/u1/d/c" ∷ []) ≡ none ∷ some (leaf untagged) ∷ some (leaf tagged) ∷ []
 unfolding compute pair tagged untagged carrying
-carrying-leaves = refl
+carrying_leaves = refl
 
 -- w on both parents is asked, onto itself too; then nothing changes
 staying : List Case
@@ -126,13 +126,13 @@ staying =
     "1,mv,/u1/d/c,/u1/d/c" gives 5 ∷
     "1,mv,/u1/a,/u1/a" gives 0 ∷ []
 
-staying-answered : Answered-of-pair staying
+staying_answered : AnsweredOfPair staying
 unfolding compute pair tagged untagged staying
-staying-answered = refl
+staying_answered = refl
 
-staying-leaves : (run_on 0 pair staying).tree ≡ pair
+staying_leaves : (run_on 0 pair staying).tree ≡ pair
 unfolding compute pair tagged untagged staying
-staying-leaves = refl
+staying_leaves = refl
 
 -- a directory is not replaced 6, whatever comes there, and replaces no file 7
 facing : List Case
@@ -144,6 +144,6 @@ facing =
     "1,mv,/u1/d,/u1/a" gives 7 ∷
     "1,mv,/u1/d,/u1/d/c" gives 7 ∷ []
 
-facing-answered : Answered-of-pair facing
+facing_answered : AnsweredOfPair facing
 unfolding compute pair tagged untagged facing
-facing-answered = refl
+facing_answered = refl

@@ -6,66 +6,66 @@ use Rattle.std.proofs.Common.{leb-true}
 use Rattle.buffers.specs.Cases.{neither}
 use Rattle.accounts.specs.declared.Caller.{Caller}
 use Rattle.accounts.specs.declared.Right.TheVariants.{W}
-use Rattle.syntax.specs.Path.{Path, parent, last, depth, is-top, lies-below, reserved, most-names}
-use Rattle.syntax.specs.PathLaws.{not-reserved}
+use Rattle.syntax.specs.Path.{Path, parent, last, depth, is_top, lies_below, reserved, most_names}
+use Rattle.syntax.specs.PathLaws.{not_reserved}
 use Rattle.tree.specs.declared.Cause.TheVariants.{Access, Reserved, IntoItself, TooDeep}
 use Rattle.tree.specs.Result.{done}
 use Rattle.tree.specs.Outcomes.{gives, Ensures}
-use Rattle.tree.specs.GivesLaws.{any-outcome, then-check, then-guard, then-do}
+use Rattle.tree.specs.GivesLaws.{any_outcome, then_check, then_guard, then_do}
 use Rattle.tree.specs.Forest.{Place, get, height}
 use Rattle.tree.specs.Node.{Node, allows}
-use Rattle.tree.specs.Walk.{by-modes, walk, parent-walk}
-use Rattle.tree.specs.StepLaws.{was-sought}
-use Rattle.shell.specs.Steps.{may-replace, moved, run-mv}
+use Rattle.tree.specs.Walk.{by_modes, walk, parent_walk}
+use Rattle.tree.specs.StepLaws.{was_sought}
+use Rattle.shell.specs.Steps.{may_replace, moved, run_mv}
 
 -- the place at a and the directory over it, the directory of b and what stands there; the tree t' is t with the place moved
-pub record Passed-move (c : Caller) (t : Place Node) (a b : Path) (t' : Place Node) : Type 0 where
+pub record PassedMove (c : Caller) (t : Place Node) (a b : Path) (t' : Place Node) : Type 0 where
   pub place : Place Node
-  pub led : walk (by-modes c.account) t a ≡ done place
-  pub below_top : is-top a ≡ false
+  pub led : walk (by_modes c.account) t a ≡ done place
+  pub below_top : is_top a ≡ false
   pub over : Place Node
-  pub over-led : walk (by-modes c.account) t (parent a) ≡ done over
-  pub over-writable : allows c.account W over.here ≡ true
-  pub target-below-top : is-top b ≡ false
+  pub over_led : walk (by_modes c.account) t (parent a) ≡ done over
+  pub over_writable : allows c.account W over.here ≡ true
+  pub target_below_top : is_top b ≡ false
   pub directory : Place Node
-  pub entered : parent-walk (by-modes c.account) t b ≡ done directory
+  pub entered : parent_walk (by_modes c.account) t b ≡ done directory
   pub writable : allows c.account W directory.here ≡ true
   pub there : Option (Place Node)
   pub found : get (last b) directory.below ≡ there
-  pub fitting : may-replace place.here.kind there ≡ done tt
-  pub outside : lies-below a b ≡ false
-  pub low : depth b + height place.below ≤ most-names
+  pub fitting : may_replace place.here.kind there ≡ done tt
+  pub outside : lies_below a b ≡ false
+  pub low : depth b + height place.below ≤ most_names
   pub leaves : t' ≡ moved t a b place there
 
-pub mv-passed : (c : Caller) (m : ℕ) (t : Place Node) (a b : Path) → Ensures (λ o. Passed-move c t a b o.state) (run-mv c m t a b)
-unfolding run-mv
-mv-passed c m t a b =
-    then-check Reserved tt _ λ i.
-    then-do _ λ d w.
-    then-do _ λ f k.
-    then-do _ λ o s.
-    then-guard (any-outcome _) λ r.
-    then-do _ λ e v.
-    then-check Access tt _ λ x.
-    then-check Access tt _ λ y.
-    then-check IntoItself tt _ λ z.
-    then-check TooDeep tt _ λ l.
+pub mv_passed : (c : Caller) (m : ℕ) (t : Place Node) (a b : Path) → Ensures (λ o. PassedMove c t a b o.state) (run_mv c m t a b)
+unfolding run_mv
+mv_passed c m t a b =
+    then_check Reserved tt _ λ i.
+    then_do _ λ d w.
+    then_do _ λ f k.
+    then_do _ λ o s.
+    then_guard (any_outcome _) λ r.
+    then_do _ λ e v.
+    then_check Access tt _ λ x.
+    then_check Access tt _ λ y.
+    then_check IntoItself tt _ λ z.
+    then_check TooDeep tt _ λ l.
     let free = neither (reserved a) (reserved b) i in
     gives (record {
       place = d;
       led = w;
-      below_top = not-reserved a free.0;
+      below_top = not_reserved a free.0;
       over = e;
-      over-led = v;
-      over-writable = x;
-      target-below-top = not-reserved b free.1;
+      over_led = v;
+      over_writable = x;
+      target_below_top = not_reserved b free.1;
       directory = f;
       entered = k;
       writable = y;
       there = o;
-      found = was-sought (last b) f.below s;
+      found = was_sought (last b) f.below s;
       fitting = r;
-      outside = not-true (lies-below a b) z;
-      low = leb-true (depth b + height d.below) most-names l;
+      outside = not-true (lies_below a b) z;
+      low = leb-true (depth b + height d.below) most_names l;
       leaves = refl;
     })

@@ -3,7 +3,7 @@ use Rattle.std.specs.Prelude.{List, [], ◌∷◌, ◌++◌, ℕ, length, drop}
 use Rattle.std.proofs.Math.Option.{Option, none, some}
 use Rattle.buffers.specs.Text.{Text}
 use Rattle.tree.specs.declared.Cause.{Cause}
-use Rattle.tree.specs.Causes.{number, wrong-setup}
+use Rattle.tree.specs.Causes.{number, wrong_setup}
 use Rattle.tree.specs.Result.{Result, refused, done, Outcome}
 use Rattle.shell.specs.declared.Answer.{Answer}
 use Rattle.shell.specs.declared.Answer.TheVariants.{Done, Refused, WrongLine}
@@ -33,13 +33,13 @@ unfoldable pub told : Answer → Told
 told Done = record { number = 0; values = [] }
 told (TheVariants.Text n) = record { number = 0; values = n ∷ [] }
 told (Refused why) = record { number = number why; values = [] }
-told (WrongLine n) = record { number = wrong-setup; values = n ∷ [] }
+told (WrongLine n) = record { number = wrong_setup; values = n ∷ [] }
 
 -- the answer that a reply is
-unfoldable pub answer-of : Reply → Answer
-answer-of (ok none) = Done
-answer-of (ok (some t)) = TheVariants.Text (length t)
-answer-of (refusal why) = Refused why
+unfoldable pub answer_of : Reply → Answer
+answer_of (ok none) = Done
+answer_of (ok (some t)) = TheVariants.Text (length t)
+answer_of (refusal why) = Refused why
 
 -- the answer buffer after a reply: a text stands from its first byte, and the bytes after it stay
 unfoldable pub written : Reply → List ℕ → List ℕ

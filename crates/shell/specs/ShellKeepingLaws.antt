@@ -9,160 +9,160 @@ use Rattle.buffers.specs.Text.{Text}
 use Rattle.accounts.specs.declared.Caller.{Caller}
 use Rattle.accounts.specs.declared.Uid.{Uid}
 use Rattle.accounts.specs.declared.Gid.{Gid}
-use Rattle.accounts.specs.Caller.{is-caller}
-use Rattle.syntax.specs.Number.{set-gid, is-mode}
-use Rattle.syntax.specs.Path.{Name, Path, root, ◌▹◌, parent, last, depth, is-top, same-path, is-path, most-names}
-use Rattle.syntax.specs.PathLaws.{path-depth, last-is-name, parent-depth}
-use Rattle.syntax.specs.Field.{is-content}
-use Rattle.commands.specs.Command.{Shell-command, create, mkdir, read, write, rm, rmdir, mv, chmod, chgrp, chown, is-shell-command}
+use Rattle.accounts.specs.Caller.{is_caller}
+use Rattle.syntax.specs.Number.{set_gid, is_mode}
+use Rattle.syntax.specs.Path.{Name, Path, root, ◌▹◌, parent, last, depth, is_top, same_path, is_path, most_names}
+use Rattle.syntax.specs.PathLaws.{path_depth, last_is_name, parent_depth}
+use Rattle.syntax.specs.Field.{is_content}
+use Rattle.commands.specs.Command.{ShellAction, create, mkdir, read, write, rm, rmdir, mv, chmod, chgrp, chown, is_shell_command}
 use Rattle.tree.specs.declared.Kind.{Kind}
 use Rattle.tree.specs.declared.Kind.TheVariants.{File, Directory}
 use Rattle.tree.specs.declared.Cause.TheVariants.{Access, WrongKind, NotEmpty, Reserved, Full}
 use Rattle.tree.specs.Result.{Result, done, Outcome}
 use Rattle.tree.specs.Outcomes.{gives, Ensures}
-use Rattle.tree.specs.GivesLaws.{weaker, then-check, then-do}
+use Rattle.tree.specs.GivesLaws.{weaker, then_check, then_do}
 use Rattle.tree.specs.Forest.{Place, get, update, put, leaf, size, height}
-use Rattle.tree.specs.Node.{is-directory, Node, set-owner, set-group, set-mode, set-content, new-node}
-use Rattle.tree.specs.Walk.{by-modes, walk, room}
-use Rattle.tree.specs.WellFormed.{nodes, is-node, is-place, is-tree}
-use Rattle.tree.specs.JudgeLaws.{file-is-none, directory-is-one}
-use Rattle.tree.specs.StepLaws.{parent-walked}
-use Rattle.tree.specs.RoomLaws.{room-found}
-use Rattle.tree.specs.PlaceLaws.{leaf-size}
-use Rattle.tree.specs.UpdateLaws.{place-at-last, walked_at, leaf-height}
-use Rattle.tree.specs.NodeLaws.{new-node-fits, node-of-owner, node-of-group, node-of-mode, node-of-content, kind-of-set-owner, kind-of-set-group, kind-of-set-mode, kind-of-set-content}
-use Rattle.tree.specs.WellFormedLaws.{most-nodes-is, place-node, leaf-place, entered-directory, walked-place}
-use Rattle.tree.specs.ChangeLaws.{alter-at, keep-alter, keep-put, keep-drop, keep-move}
-use Rattle.shell.specs.ReplacingLaws.{both-files, same-files}
-use Rattle.shell.specs.PassedMoveLaws.{mv-passed}
-use Rattle.shell.specs.Steps.{fit, may-replace, moved, run-create, run-read, run-write, run-rm, run-mv, run-chmod, run-chgrp, run-chown, run-shell}
+use Rattle.tree.specs.Node.{is_directory, Node, set_owner, set_group, set_mode, set_content, new_node}
+use Rattle.tree.specs.Walk.{by_modes, walk, room}
+use Rattle.tree.specs.WellFormed.{nodes, is_node, is_place, is_tree}
+use Rattle.tree.specs.JudgeLaws.{file_is_none, directory_is_one}
+use Rattle.tree.specs.StepLaws.{parent_walked}
+use Rattle.tree.specs.RoomLaws.{room_found}
+use Rattle.tree.specs.PlaceLaws.{leaf_size}
+use Rattle.tree.specs.UpdateLaws.{place_at_last, walked_at, leaf_height}
+use Rattle.tree.specs.NodeLaws.{new_node_fits, node_of_owner, node_of_group, node_of_mode, node_of_content, kind_of_set_owner, kind_of_set_group, kind_of_set_mode, kind_of_set_content}
+use Rattle.tree.specs.WellFormedLaws.{most_nodes_is, place_node, leaf_place, entered_directory, walked_place}
+use Rattle.tree.specs.ChangeLaws.{alter_at, keep_alter, keep_put, keep_drop, keep_move}
+use Rattle.shell.specs.ReplacingLaws.{both_files, same_files}
+use Rattle.shell.specs.PassedMoveLaws.{mv_passed}
+use Rattle.shell.specs.Steps.{fit, may_replace, moved, run_create, run_read, run_write, run_rm, run_mv, run_chmod, run_chgrp, run_chown, run_shell}
 
 -- a mode below 01000 is one, without set-gid
-plain-mode-fits : (m : ℕ) → ltb m 512 ≡ true → (is-mode m ≡ true) × (set-gid m ≡ false)
-unfolding is-mode set-gid
-plain-mode-fits m h = (rw h, ne_eqb (m / 512) 2 (omega (arith, ltb-true m 512 h)))
+plain_mode_fits : (m : ℕ) → ltb m 512 ≡ true → (is_mode m ≡ true) × (set_gid m ≡ false)
+unfolding is_mode set_gid
+plain_mode_fits m h = (rw h, ne_eqb (m / 512) 2 (omega (arith, ltb-true m 512 h)))
 
 module _ (c : Caller) (m : ℕ) (t : Place Node) where
   -- what fits is at most 256 nodes
-  pub fit-most : (k : ℕ) → fit c m t k ≡ true → nodes t + k ≤ 256
+  pub fit_most : (k : ℕ) → fit c m t k ≡ true → nodes t + k ≤ 256
   unfolding fit
-  fit-most k h = omega (arith, leb-true (nodes t + m + k) 256 (rw most-nodes-is at h))
+  fit_most k h = omega (arith, leb-true (nodes t + m + k) 256 (rw most_nodes_is at h))
 
   -- a place put into the room for it keeps the tree well-formed
-  pub room-keeps : (p : Path) (d e : Place Node) → is-tree t ≡ true → is-path p ≡ true → room (by-modes c.account) t p ≡ done d → is-place e ≡ true
-      → depth p + height e.below ≤ 6 → nodes t + suc (size e.below) ≤ 256 → is-tree (update (parent p) (put (last p) e) t) ≡ true
-  room-keeps p d e h a i w l n =
-      let f = room-found c.account t p i in
-      keep-put (by-modes c.account) t (parent p) d (last p) e h f.led f.enterable f.free (last-is-name p a f.below_top) w
-      (omega (arith, parent-depth p f.below_top)) n
+  pub room_keeps : (p : Path) (d e : Place Node) → is_tree t ≡ true → is_path p ≡ true → room (by_modes c.account) t p ≡ done d → is_place e ≡ true
+      → depth p + height e.below ≤ 6 → nodes t + suc (size e.below) ≤ 256 → is_tree (update (parent p) (put (last p) e) t) ≡ true
+  room_keeps p d e h a i w l n =
+      let f = room_found c.account t p i in
+      keep_put (by_modes c.account) t (parent p) d (last p) e h f.led f.enterable f.free (last_is_name p a f.below_top) w
+      (omega (arith, parent_depth p f.below_top)) n
 
-  module _ (o : is-caller c ≡ true) (h : is-tree t ≡ true) where
+  module _ (o : is_caller c ≡ true) (h : is_tree t ≡ true) where
     abbrev Keeps : Result (Outcome (Place Node)) → Type 0
-    Keeps r = Ensures (λ o. is-tree o.state ≡ true) r
+    Keeps r = Ensures (λ o. is_tree o.state ≡ true) r
 
     -- the node where a walk leads is in range
-    node_at : (p : Path) (d : Place Node) → walk (by-modes c.account) t p ≡ done d → is-node d.here ≡ true
-    node_at p d e = place-node d (walked-place (by-modes c.account) t p d h e)
+    node_at : (p : Path) (d : Place Node) → walk (by_modes c.account) t p ≡ done d → is_node d.here ≡ true
+    node_at p d e = place_node d (walked_place (by_modes c.account) t p d h e)
 
-    create-keeps : (kind : Kind) (p : Path) (mode : ℕ) → is-path p ≡ true → is-mode mode ≡ true
-        → (is-directory kind || not (set-gid mode)) ≡ true → Keeps (run-create c m t kind p mode)
-    unfolding run-create
-    create-keeps kind p mode a b g =
-        then-do _ λ d e.
-        then-check Full tt _ λ f.
-        let x = new-node c d.here kind mode in
-        gives (room-keeps p d (leaf x) h a e (leaf-place x (new-node-fits c d.here kind mode o (node_at (parent p) d (room-found c.account t p e).led) b g))
-        (omega (arith, leaf-height x, path-depth p a)) (omega (arith, leaf-size x, fit-most 1 f)))
+    create_keeps : (kind : Kind) (p : Path) (mode : ℕ) → is_path p ≡ true → is_mode mode ≡ true
+        → (is_directory kind || not (set_gid mode)) ≡ true → Keeps (run_create c m t kind p mode)
+    unfolding run_create
+    create_keeps kind p mode a b g =
+        then_do _ λ d e.
+        then_check Full tt _ λ f.
+        let x = new_node c d.here kind mode in
+        gives (room_keeps p d (leaf x) h a e (leaf_place x (new_node_fits c d.here kind mode o (node_at (parent p) d (room_found c.account t p e).led) b g))
+        (omega (arith, leaf_height x, path_depth p a)) (omega (arith, leaf_size x, fit_most 1 f)))
 
-    read_keeps : (p : Path) → Keeps (run-read c m t p)
-    unfolding run-read
+    read_keeps : (p : Path) → Keeps (run_read c m t p)
+    unfolding run_read
     read_keeps p =
-        then-do _ λ d _.
-        then-check Access tt _ λ _.
+        then_do _ λ d _.
+        then_check Access tt _ λ _.
         gives h
 
-    write_keeps : (p : Path) (content : Text) → is-content content ≡ true → Keeps (run-write c m t p content)
-    unfolding run-write
+    write_keeps : (p : Path) (content : Text) → is_content content ≡ true → Keeps (run_write c m t p content)
+    unfolding run_write
     write_keeps p content a =
-        then-do _ λ d e.
-        then-check WrongKind tt _ λ b.
-        then-check Access tt _ λ _.
-        gives (keep-alter (by-modes c.account) t p d (set-content content) h e
-        (node-of-content content d.here (node_at p d e) (not-true (is-directory d.here.kind) b) a) (kind-of-set-content content d.here))
+        then_do _ λ d e.
+        then_check WrongKind tt _ λ b.
+        then_check Access tt _ λ _.
+        gives (keep_alter (by_modes c.account) t p d (set_content content) h e
+        (node_of_content content d.here (node_at p d e) (not-true (is_directory d.here.kind) b) a) (kind_of_set_content content d.here))
 
-    rm-keeps : (kind : Kind) (p : Path) → Keeps (run-rm c m t kind p)
-    unfolding run-rm
-    rm-keeps kind p =
-        then-check Reserved tt _ λ _.
-        then-do _ λ d _.
-        then-check WrongKind tt _ λ _.
-        then-do _ λ e _.
-        then-check Access tt _ λ _.
-        then-check NotEmpty tt _ λ _.
-        gives (keep-drop t (parent p) (last p) h)
+    rm_keeps : (kind : Kind) (p : Path) → Keeps (run_rm c m t kind p)
+    unfolding run_rm
+    rm_keeps kind p =
+        then_check Reserved tt _ λ _.
+        then_do _ λ d _.
+        then_check WrongKind tt _ λ _.
+        then_do _ λ e _.
+        then_check Access tt _ λ _.
+        then_check NotEmpty tt _ λ _.
+        gives (keep_drop t (parent p) (last p) h)
 
     -- a move keeps the tree well-formed, whatever stands where it leads
-    moved_keeps : (a : Path) (n : Name) (b : Path) (d f : Place Node) → is-path b ≡ true → is-top b ≡ false → walk (by-modes c.account) t (a ▹ n) ≡ done d
-        → walk (by-modes c.account) t (parent b) ≡ done f → is-directory f.here.kind ≡ true → depth b + height d.below ≤ 6
-        → (o : Option (Place Node)) → get (last b) f.below ≡ o → may-replace d.here.kind o ≡ done tt → is-tree (moved t (a ▹ n) b d o) ≡ true
+    moved_keeps : (a : Path) (n : Name) (b : Path) (d f : Place Node) → is_path b ≡ true → is_top b ≡ false → walk (by_modes c.account) t (a ▹ n) ≡ done d
+        → walk (by_modes c.account) t (parent b) ≡ done f → is_directory f.here.kind ≡ true → depth b + height d.below ≤ 6
+        → (o : Option (Place Node)) → get (last b) f.below ≡ o → may_replace d.here.kind o ≡ done tt → is_tree (moved t (a ▹ n) b d o) ≡ true
     unfolding moved parent last
     moved_keeps a n b d f g top e w dir l none free r =
-        keep-move (by-modes c.account) t a n (parent b) (last b) d f h e w dir free (last-is-name b g top) (omega (arith, parent-depth b top))
+        keep_move (by_modes c.account) t a n (parent b) (last b) d f h e w dir free (last_is_name b g top) (omega (arith, parent_depth b top))
     moved_keeps a n b d f g top e w dir l (some x) there r =
-        let k = both-files d.here.kind x r in
-        let at = place-at-last t b f top (walked_at t (by-modes c.account) (parent b) f w) ∙ there in
-        case (same-path (a ▹ n) b)
+        let k = both_files d.here.kind x r in
+        let at = place_at_last t b f top (walked_at t (by_modes c.account) (parent b) f w) ∙ there in
+        case (same_path (a ▹ n) b)
         (λ i. rw i h)
-        (λ i. rw i (keep-drop _ a n (alter-at t b x (λ y. d.here) h at (node_at (a ▹ n) d e) (same-files d.here.kind x.here.kind k.1 k.0))))
+        (λ i. rw i (keep_drop _ a n (alter_at t b x (λ y. d.here) h at (node_at (a ▹ n) d e) (same_files d.here.kind x.here.kind k.1 k.0))))
 
-    mv-keeps : (a b : Path) → is-path b ≡ true → Keeps (run-mv c m t a b)
-    unfolding is-top most-names
-    mv-keeps root b g = weaker (λ o v. contra refl v.below_top) (mv-passed c m t root b)
-    mv-keeps (a ▹ n) b g = weaker
+    mv_keeps : (a b : Path) → is_path b ≡ true → Keeps (run_mv c m t a b)
+    unfolding is_top most_names
+    mv_keeps root b g = weaker (λ o v. contra refl v.below_top) (mv_passed c m t root b)
+    mv_keeps (a ▹ n) b g = weaker
         (λ o v.
-        let to = parent-walked (by-modes c.account) t b v.entered in
-        rw v.leaves (moved_keeps a n b v.place v.directory g v.target-below-top v.led to.0 (entered-directory c.account v.directory.here to.1) v.low v.there v.found v.fitting))
-        (mv-passed c m t (a ▹ n) b)
+        let to = parent_walked (by_modes c.account) t b v.entered in
+        rw v.leaves (moved_keeps a n b v.place v.directory g v.target_below_top v.led to.0 (entered_directory c.account v.directory.here to.1) v.low v.there v.found v.fitting))
+        (mv_passed c m t (a ▹ n) b)
 
-    chmod-keeps : (p : Path) (mode : ℕ) → is-mode mode ≡ true → Keeps (run-chmod c m t p mode)
-    unfolding run-chmod
-    chmod-keeps p mode a =
-        then-do _ λ d e.
-        then-check WrongKind tt _ λ b.
-        then-check Reserved tt _ λ _.
-        gives (keep-alter (by-modes c.account) t p d (set-mode mode) h e
-        (node-of-mode mode d.here (node_at p d e) a b) (kind-of-set-mode mode d.here))
+    chmod_keeps : (p : Path) (mode : ℕ) → is_mode mode ≡ true → Keeps (run_chmod c m t p mode)
+    unfolding run_chmod
+    chmod_keeps p mode a =
+        then_do _ λ d e.
+        then_check WrongKind tt _ λ b.
+        then_check Reserved tt _ λ _.
+        gives (keep_alter (by_modes c.account) t p d (set_mode mode) h e
+        (node_of_mode mode d.here (node_at p d e) a b) (kind_of_set_mode mode d.here))
 
-    chgrp-keeps : (p : Path) (group : Gid) → ltb group.0 25 ≡ true → Keeps (run-chgrp c m t p group)
-    unfolding run-chgrp
-    chgrp-keeps p group a =
-        then-do _ λ d e.
-        then-check Reserved tt _ λ _.
-        gives (keep-alter (by-modes c.account) t p d (set-group group) h e
-        (node-of-group group d.here (node_at p d e) a) (kind-of-set-group group d.here))
+    chgrp_keeps : (p : Path) (group : Gid) → ltb group.0 25 ≡ true → Keeps (run_chgrp c m t p group)
+    unfolding run_chgrp
+    chgrp_keeps p group a =
+        then_do _ λ d e.
+        then_check Reserved tt _ λ _.
+        gives (keep_alter (by_modes c.account) t p d (set_group group) h e
+        (node_of_group group d.here (node_at p d e) a) (kind_of_set_group group d.here))
 
-    chown-keeps : (p : Path) (owner : Uid) → ltb owner.0 24 ≡ true → Keeps (run-chown c m t p owner)
-    unfolding run-chown
-    chown-keeps p owner a =
-        then-do _ λ d e.
-        then-check Reserved tt _ λ _.
-        gives (keep-alter (by-modes c.account) t p d (set-owner owner) h e
-        (node-of-owner owner d.here (node_at p d e) a) (kind-of-set-owner owner d.here))
+    chown_keeps : (p : Path) (owner : Uid) → ltb owner.0 24 ≡ true → Keeps (run_chown c m t p owner)
+    unfolding run_chown
+    chown_keeps p owner a =
+        then_do _ λ d e.
+        then_check Reserved tt _ λ _.
+        gives (keep_alter (by_modes c.account) t p d (set_owner owner) h e
+        (node_of_owner owner d.here (node_at p d e) a) (kind_of_set_owner owner d.here))
 
     -- a shell command of a caller in range keeps the tree well-formed
-    pub run-shell-keeps : (command : Shell-command) → is-shell-command command ≡ true
-        → Ensures (λ o. is-tree o.state ≡ true) (run-shell c m t command)
-    unfolding run-shell is-shell-command
-    run-shell-keeps (create p mode) k =
-        let i = and_both (is-path p) (ltb mode 512) k in
-        let j = plain-mode-fits mode i.1 in
-        create-keeps File p mode i.0 j.0 (rw (file-is-none, j.1))
-    run-shell-keeps (mkdir p mode) k = let i = and_both (is-path p) (is-mode mode) k in create-keeps Directory p mode i.0 i.1 (rw directory-is-one)
-    run-shell-keeps (read p) k = read_keeps p
-    run-shell-keeps (write p content) k = write_keeps p content (and_both (is-path p) (is-content content) k).1
-    run-shell-keeps (rm p) k = rm-keeps File p
-    run-shell-keeps (rmdir p) k = rm-keeps Directory p
-    run-shell-keeps (mv a b) k = mv-keeps a b (and_both (is-path a) (is-path b) k).1
-    run-shell-keeps (chmod p mode) k = chmod-keeps p mode (and_both (is-path p) (is-mode mode) k).1
-    run-shell-keeps (chgrp p group) k = chgrp-keeps p group (and_both (is-path p) (ltb group.0 25) k).1
-    run-shell-keeps (chown p owner) k = chown-keeps p owner (and_both (is-path p) (ltb owner.0 24) k).1
+    pub run_shell_keeps : (command : ShellAction) → is_shell_command command ≡ true
+        → Ensures (λ o. is_tree o.state ≡ true) (run_shell c m t command)
+    unfolding run_shell is_shell_command
+    run_shell_keeps (create p mode) k =
+        let i = and_both (is_path p) (ltb mode 512) k in
+        let j = plain_mode_fits mode i.1 in
+        create_keeps File p mode i.0 j.0 (rw (file_is_none, j.1))
+    run_shell_keeps (mkdir p mode) k = let i = and_both (is_path p) (is_mode mode) k in create_keeps Directory p mode i.0 i.1 (rw directory_is_one)
+    run_shell_keeps (read p) k = read_keeps p
+    run_shell_keeps (write p content) k = write_keeps p content (and_both (is_path p) (is_content content) k).1
+    run_shell_keeps (rm p) k = rm_keeps File p
+    run_shell_keeps (rmdir p) k = rm_keeps Directory p
+    run_shell_keeps (mv a b) k = mv_keeps a b (and_both (is_path a) (is_path b) k).1
+    run_shell_keeps (chmod p mode) k = chmod_keeps p mode (and_both (is_path p) (is_mode mode) k).1
+    run_shell_keeps (chgrp p group) k = chgrp_keeps p group (and_both (is_path p) (ltb group.0 25) k).1
+    run_shell_keeps (chown p owner) k = chown_keeps p owner (and_both (is_path p) (ltb owner.0 24) k).1

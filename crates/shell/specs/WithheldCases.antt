@@ -13,9 +13,9 @@ making =
     "1,create,/d/a,0000" gives 0 ∷
     "1,mkdir,/d/e,0000" gives 0 ∷ []))
 
-making-withheld : Answered 0 making
+making_withheld : Answered 0 making
 unfolding compute shut making
-making-withheld = refl
+making_withheld = refl
 
 -- `read`: neither w nor x, and of the directory above x alone
 reading : List Case
@@ -24,9 +24,9 @@ reading =
     "1,read,/d/a" shows "" ∷
     "1,read,/d/e" shows "f" ∷ []))
 
-reading-withheld : Answered 0 reading
+reading_withheld : Answered 0 reading
 unfolding compute shut reading
-reading-withheld = refl
+reading_withheld = refl
 
 -- `write`: no r, and of the directory above x alone
 writing : List Case
@@ -34,9 +34,9 @@ writing =
     shut ++ (all_done "0,mkdir,/d,0001\n0,create,/d/a,0002" ++ (
     "1,write,/d/a,t" gives 0 ∷ []))
 
-writing-withheld : Answered 0 writing
+writing_withheld : Answered 0 writing
 unfolding compute shut writing
-writing-withheld = refl
+writing_withheld = refl
 
 -- `rm`, `rmdir`: no right on what goes, nor that it or the directory above is the caller's
 removing : List Case
@@ -45,9 +45,9 @@ removing =
     "1,rm,/d/a" gives 0 ∷
     "1,rmdir,/d/e" gives 0 ∷ []))
 
-removing-withheld : Answered 0 removing
+removing_withheld : Answered 0 removing
 unfolding compute shut removing
-removing-withheld = refl
+removing_withheld = refl
 
 -- `mv`: no right on what is moved, a directory with a file in it too, or on the file that is replaced, nor whose they are
 moving : List Case
@@ -58,41 +58,41 @@ moving =
     "1,mv,/e/b,/e/z" gives 0 ∷
     "1,mv,/e/z,/e/z" gives 0 ∷ []))
 
-moving-withheld : Answered 0 moving
+moving_withheld : Answered 0 moving
 unfolding compute shut moving
-moving-withheld = refl
+moving_withheld = refl
 
 -- `chmod`: no right on the owner's own, and none but x above it
-changing-mode : List Case
-changing-mode =
+changing_mode : List Case
+changing_mode =
     shut ++ (all_done "0,mkdir,/d,0001\n0,create,/d/a,0000\n0,chown,/d/a,1\n0,mkdir,/d/e,0000\n0,chown,/d/e,1" ++ (
     "1,chmod,/d/a,0000" gives 0 ∷
     "1,chmod,/d/e,2000" gives 0 ∷ []))
 
-changing-mode-withheld : Answered 0 changing-mode
-unfolding compute shut changing-mode
-changing-mode-withheld = refl
+changing_mode_withheld : Answered 0 changing_mode
+unfolding compute shut changing_mode
+changing_mode_withheld = refl
 
 -- `chgrp`: nor that the owner is in the group that goes
-changing-group : List Case
-changing-group =
+changing_group : List Case
+changing_group =
     shut ++ (all_done "0,mkdir,/d,0001\n0,create,/d/a,0000\n0,chown,/d/a,1\n0,mkdir,/d/e,0000\n0,chown,/d/e,1" ++ (
     "1,chgrp,/d/a,3" gives 0 ∷
     "1,chgrp,/d/e,1" gives 0 ∷
     "0,chgrp,/d/e,24" gives 0 ∷ []))
 
-changing-group-withheld : Answered 0 changing-group
-unfolding compute shut changing-group
-changing-group-withheld = refl
+changing_group_withheld : Answered 0 changing_group
+unfolding compute shut changing_group
+changing_group_withheld = refl
 
 -- `chown`: of root nothing but that it is root
-changing-owner : List Case
-changing-owner =
+changing_owner : List Case
+changing_owner =
     shut ++ (all_done "2,create,/u2/a,0000\n2,mkdir,/u2/e,0000\n2,chmod,/u2,0000\n0,chmod,/,0000" ++ (
     "0,chown,/u2/a,1" gives 0 ∷
     "0,chown,/u2/e,23" gives 0 ∷
     "0,chown,/,9" gives 0 ∷ []))
 
-changing-owner-withheld : Answered 0 changing-owner
-unfolding compute shut changing-owner
-changing-owner-withheld = refl
+changing_owner_withheld : Answered 0 changing_owner
+unfolding compute shut changing_owner
+changing_owner_withheld = refl

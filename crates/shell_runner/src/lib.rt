@@ -1,8 +1,8 @@
 // A parsed command of the shell carried out on a tree's bytes.
 ghost use Rattle.std.specs.Prelude.{◌≤◌, length};
 ghost use Rattle.tree.specs.TreeBytes.{Whole};
-ghost use Rattle.commands.specs.Meaning.{Some-shell-command};
-ghost use Rattle.shell_runner.specs.ShellDone.{Shell-done};
+ghost use Rattle.commands.specs.Meaning.{SomeShellCommand};
+ghost use Rattle.shell_runner.specs.ShellDone.{ShellDone};
 
 use accounts::Caller;
 use attributes::{chgrp, chmod, chown, read, write};
@@ -20,9 +20,9 @@ pub fn shell_command(
     answer: &mut [u8],
 ) -> Answer
     requires whole { Whole tree.old }
-    requires some_shell_command { Some-shell-command line.now command }
+    requires some_shell_command { SomeShellCommand line.now command }
     requires in_bounds { 4096 ≤ length answer.old }
-    ensures { Shell-done caller line.now command tree.old answer.old result tree.new answer.new }
+    ensures { ShellDone caller line.now command tree.old answer.old result tree.new answer.new }
 {
     match command {
         ShellCommand::Create { path, mode } => create(

@@ -1,16 +1,16 @@
 // The header's slots and sessions, one of each for every account.
 ghost use Rattle.std.specs.Prelude.{◌≡◌, ◌<◌};
-ghost use Rattle.store.specs.HeaderLayout.{Wide-header};
-ghost use Rattle.sound_store.specs.HeaderTests.{is-slot-at, has-slots, has-sessions, named-at};
+ghost use Rattle.store.specs.HeaderLayout.{WideHeader};
+ghost use Rattle.sound_store.specs.HeaderTests.{is_slot_at, has_slots, has_sessions, named_at};
 
 use buffers::is_zero;
 use store::{SESSIONS, SLOT};
 
 // Whether a slot is zeros, or a person's groups in range.
 fn is_slot(header: &[u8], k: usize) -> bool
-    requires wide_header { Wide-header header.now }
+    requires wide_header { WideHeader header.now }
     requires k_bound { k < 16 }
-    ensures { result ≡ is-slot-at header.now k }
+    ensures { result ≡ is_slot_at header.now k }
 {
     let at = SLOT * k;
     let primary = header[at];
@@ -25,8 +25,8 @@ fn is_slot(header: &[u8], k: usize) -> bool
 
 // Whether account 0 is no person's, and every slot is in range.
 pub fn has_slots(header: &[u8]) -> bool
-    requires { Wide-header header.now }
-    ensures { result ≡ has-slots header.now }
+    requires { WideHeader header.now }
+    ensures { result ≡ has_slots header.now }
 {
     if header[0] != 0 {
         return false;
@@ -43,8 +43,8 @@ pub fn has_slots(header: &[u8]) -> bool
 
 // Whether every session is of a role or none.
 pub fn has_sessions(header: &[u8]) -> bool
-    requires { Wide-header header.now }
-    ensures { result ≡ has-sessions header.now }
+    requires { WideHeader header.now }
+    ensures { result ≡ has_sessions header.now }
 {
     let mut k: usize = 0;
     while k < 16 {
@@ -58,8 +58,8 @@ pub fn has_sessions(header: &[u8]) -> bool
 
 // Whether a number is root's or a person's.
 pub fn is_named(header: &[u8], uid: u8) -> bool
-    requires { Wide-header header.now }
-    ensures { result ≡ named-at header.now uid }
+    requires { WideHeader header.now }
+    ensures { result ≡ named_at header.now uid }
 {
     if uid == 0 {
         return true;

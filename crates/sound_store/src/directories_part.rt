@@ -1,7 +1,7 @@
 // The header's working directories, one for every account.
 ghost use Rattle.std.specs.Prelude.{◌≡◌, ◌<◌};
-ghost use Rattle.store.specs.HeaderLayout.{Wide-header};
-ghost use Rattle.sound_store.specs.HeaderTests.{is-directory-at, has-directories};
+ghost use Rattle.store.specs.HeaderLayout.{WideHeader};
+ghost use Rattle.sound_store.specs.HeaderTests.{is_directory_at, has_directories};
 
 use buffers::is_zero;
 use store::{DIRECTORIES, DIRECTORY};
@@ -9,9 +9,9 @@ use store::{DIRECTORIES, DIRECTORY};
 // Whether an account's working directory is a path, filled up with zeros. `/`, which accounts that are no person's have, is seen without
 // its text.
 fn is_directory(header: &[u8], k: usize) -> bool
-    requires wide_header { Wide-header header.now }
+    requires wide_header { WideHeader header.now }
     requires k_bound { k < 16 }
-    ensures { result ≡ is-directory-at header.now k }
+    ensures { result ≡ is_directory_at header.now k }
 {
     let at = DIRECTORIES + DIRECTORY * k;
     if header[at] != 47 {
@@ -30,8 +30,8 @@ fn is_directory(header: &[u8], k: usize) -> bool
 
 // Whether every account's is.
 pub fn has_directories(header: &[u8]) -> bool
-    requires { Wide-header header.now }
-    ensures { result ≡ has-directories header.now }
+    requires { WideHeader header.now }
+    ensures { result ≡ has_directories header.now }
 {
     let mut k: usize = 0;
     while k < 16 {

@@ -1,7 +1,7 @@
 // The header's login grants.
 ghost use Rattle.std.specs.Prelude.{◌≡◌, ◌≤◌, ◌<◌};
-ghost use Rattle.store.specs.HeaderLayout.{Wide-header};
-ghost use Rattle.sound_store.specs.HeaderTests.{passes-from, is-grant-at, is-password-at, has-grants};
+ghost use Rattle.store.specs.HeaderLayout.{WideHeader};
+ghost use Rattle.sound_store.specs.HeaderTests.{passes_from, is_grant_at, is_password_at, has_grants};
 
 use crate::accounts_part::is_named;
 use buffers::is_zero;
@@ -9,9 +9,9 @@ use store::{DIRECTORIES, GRANT, GRANTS, PASSWORD, PASSWORD_WIDTH};
 
 // Whether a grant's password is a name, filled up with zeros.
 fn is_password(header: &[u8], k: usize) -> bool
-    requires wide_header { Wide-header header.now }
+    requires wide_header { WideHeader header.now }
     requires k_bound { k < 32 }
-    ensures { result ≡ is-password-at header.now k }
+    ensures { result ≡ is_password_at header.now k }
 {
     let at = GRANTS + 1 + GRANT * k + PASSWORD;
     let password = buffers::text(header, at, PASSWORD_WIDTH);
@@ -24,9 +24,9 @@ fn is_password(header: &[u8], k: usize) -> bool
 
 // Whether a grant is root's or a person's, its role in range, and its password a name.
 fn is_grant(header: &[u8], k: usize) -> bool
-    requires wide_header { Wide-header header.now }
+    requires wide_header { WideHeader header.now }
     requires k_bound { k < 32 }
-    ensures { result ≡ is-grant-at header.now k }
+    ensures { result ≡ is_grant_at header.now k }
 {
     let at = GRANTS + 1 + GRANT * k;
     if !is_named(header, header[at]) {
@@ -40,9 +40,9 @@ fn is_grant(header: &[u8], k: usize) -> bool
 
 // Whether the first n grants are in range.
 fn are_grants(header: &[u8], n: usize) -> bool
-    requires wide_header { Wide-header header.now }
+    requires wide_header { WideHeader header.now }
     requires n_bound { n ≤ 32 }
-    ensures { result ≡ passes-from (is-grant-at header.now) 0 n }
+    ensures { result ≡ passes_from (is_grant_at header.now) 0 n }
 {
     let mut k: usize = 0;
     while k < n {
@@ -56,8 +56,8 @@ fn are_grants(header: &[u8], n: usize) -> bool
 
 // Whether there are at most 32 grants, all in range, and zeros behind them.
 pub fn has_grants(header: &[u8]) -> bool
-    requires { Wide-header header.now }
-    ensures { result ≡ has-grants header.now }
+    requires { WideHeader header.now }
+    ensures { result ≡ has_grants header.now }
 {
     let n = header[GRANTS] as usize;
     if 32 < n {

@@ -1,8 +1,8 @@
 // Whether a lent buffer holds a sound store: a header, and behind it a tree.
 ghost use Rattle.std.specs.Prelude.{◌≡◌};
 ghost use Rattle.syntax.specs.Form.{is_some};
-ghost use Rattle.store.specs.HeaderLayout.{Wide-header};
-ghost use Rattle.store.specs.StoreBytes.{is-header, decode};
+ghost use Rattle.store.specs.HeaderLayout.{WideHeader};
+ghost use Rattle.store.specs.StoreBytes.{is_header, decode};
 
 mod accounts_part;
 mod directories_part;
@@ -18,8 +18,8 @@ use store::{HEADER, SPARE, STORE};
 
 // Whether a header's bytes are those of a setup in range, of sessions and working directories.
 pub fn holds_header(header: &[u8]) -> bool
-    requires { Wide-header header.now }
-    ensures { result ≡ is-header header.now }
+    requires { WideHeader header.now }
+    ensures { result ≡ is_header header.now }
 {
     if !has_slots(header) {
         return false;

@@ -1,16 +1,16 @@
 // The header's role pairs.
 ghost use Rattle.std.specs.Prelude.{◌≡◌, ◌≤◌, ◌<◌};
-ghost use Rattle.store.specs.HeaderLayout.{Wide-header};
-ghost use Rattle.sound_store.specs.HeaderTests.{passes-from, is-pair-at, has-pairs};
+ghost use Rattle.store.specs.HeaderLayout.{WideHeader};
+ghost use Rattle.sound_store.specs.HeaderTests.{passes_from, is_pair_at, has_pairs};
 
 use buffers::is_zero;
 use store::{GRANTS, PAIR, PAIRS};
 
 // Whether a pair falls, and its roles are in range.
 fn is_pair(header: &[u8], k: usize) -> bool
-    requires wide_header { Wide-header header.now }
+    requires wide_header { WideHeader header.now }
     requires k_bound { k < 28 }
-    ensures { result ≡ is-pair-at header.now k }
+    ensures { result ≡ is_pair_at header.now k }
 {
     let at = PAIRS + 1 + PAIR * k;
     let senior = header[at];
@@ -23,9 +23,9 @@ fn is_pair(header: &[u8], k: usize) -> bool
 
 // Whether the first n pairs are in range.
 fn are_pairs(header: &[u8], n: usize) -> bool
-    requires wide_header { Wide-header header.now }
+    requires wide_header { WideHeader header.now }
     requires n_bound { n ≤ 28 }
-    ensures { result ≡ passes-from (is-pair-at header.now) 0 n }
+    ensures { result ≡ passes_from (is_pair_at header.now) 0 n }
 {
     let mut k: usize = 0;
     while k < n {
@@ -39,8 +39,8 @@ fn are_pairs(header: &[u8], n: usize) -> bool
 
 // Whether there are at most 28 pairs, all in range, and zeros behind them.
 pub fn has_pairs(header: &[u8]) -> bool
-    requires { Wide-header header.now }
-    ensures { result ≡ has-pairs header.now }
+    requires { WideHeader header.now }
+    ensures { result ≡ has_pairs header.now }
 {
     let n = header[PAIRS] as usize;
     if 28 < n {

@@ -13,30 +13,30 @@ use Rattle.std.proofs.lemmas.Bool.{eqb-false}
 use Rattle.buffers.specs.Cases.{case, and_both}
 use Rattle.buffers.specs.Text.{every}
 use Rattle.buffers.specs.TextLaws.{every_append}
-use Rattle.buffers.specs.Fields.{number_at, unpadded, text_at, all-zero, zeros-at, is-filled}
-use Rattle.buffers.specs.FieldsLaws.{field-text-fits}
-use Rattle.syntax.specs.Path.{name-byte, is_name}
-use Rattle.syntax.specs.Field.{content-byte, is-content, content-limit}
-use Rattle.tree.specs.Layout.{row-width, mode-offset, name-width, content-offset, content-width, base-offset, base-width}
-use Rattle.tree.specs.WellFormed.{fits-kind}
-use Rattle.tree.specs.Encoding.{kind-of}
-use Rattle.soundness.specs.Tests.{has-content, may-stand, any-byte, may-name, neighbours-pass, content-stands}
-use Rattle.soundness.specs.RowTestLaws.{filled-in-field, two_at}
-use Rattle.soundness.specs.NeighbourLaws.{pass-alike, pass-behind, pass-apart}
+use Rattle.buffers.specs.Fields.{number_at, unpadded, text_at, all_zero, zeros_at, is_filled}
+use Rattle.buffers.specs.FieldsLaws.{field_text_fits}
+use Rattle.syntax.specs.Path.{name_byte, is_name}
+use Rattle.syntax.specs.Field.{content_byte, is_content, content_limit}
+use Rattle.tree.specs.Layout.{row_width, mode_offset, name_width, content_offset, content_width, base_offset, base_width}
+use Rattle.tree.specs.WellFormed.{fits_kind}
+use Rattle.tree.specs.Encoding.{kind_of}
+use Rattle.soundness.specs.Tests.{has_content, may_stand, any_byte, may_name, neighbours_pass, content_stands}
+use Rattle.soundness.specs.RowTestLaws.{filled_in_field, two_at}
+use Rattle.soundness.specs.NeighbourLaws.{pass_alike, pass_behind, pass_apart}
 
 -- ---- a field by itself
 
-first-is-none : (w : ℕ) (l : List ℕ) → eqb (length (unpadded (take (suc w) l))) 0 ≡ eqb (get_or l 0 0) 0
+first_is_none : (w : ℕ) (l : List ℕ) → eqb (length (unpadded (take (suc w) l))) 0 ≡ eqb (get_or l 0 0) 0
 unfolding unpadded
-first-is-none w [] = refl
-first-is-none w (b ∷ l) = case (eqb b 0) (λ e. rw e) (λ e. rw e (ne_eqb (suc (length (unpadded (take w l)))) 0 (λ z. omega arith)))
+first_is_none w [] = refl
+first_is_none w (b ∷ l) = case (eqb b 0) (λ e. rw e) (λ e. rw e (ne_eqb (suc (length (unpadded (take w l)))) 0 (λ z. omega arith)))
 
 -- a text is empty if its field begins with a zero
-pub empty-by-first : (i w : ℕ) (x : List ℕ) → eqb (length (text_at i (suc w) x)) 0 ≡ eqb (get_or x i 0) 0
+pub empty_by_first : (i w : ℕ) (x : List ℕ) → eqb (length (text_at i (suc w) x)) 0 ≡ eqb (get_or x i 0) 0
 unfolding text_at
-empty-by-first i w x =
+empty_by_first i w x =
     let q : i + 0 ≡ i = omega arith in
-    first-is-none w (drop i x) ∙ ap (λ (b : ℕ). eqb b 0) (get_or-drop i x 0 0 ∙ ap (λ (k : ℕ). get_or x k 0) q)
+    first_is_none w (drop i x) ∙ ap (λ (b : ℕ). eqb b 0) (get_or-drop i x 0 0 ∙ ap (λ (k : ℕ). get_or x k 0) q)
 
 -- the bytes of a field
 in_field : (i w : ℕ) (x : List ℕ) (k : ℕ) → k < w → get_or (take w (drop i x)) (0 + k) 0 ≡ get_or x (i + k) 0
@@ -46,128 +46,128 @@ in_field i w x k h = let q : 0 + k ≡ k = omega arith in rw q (get_or-take w (d
 
 module _ (class : ℕ → Bool) where
   -- behind a zero only zeros may stand
-  zeros-stand : (l : List ℕ) → (eqb (get_or l 0 0) 0 && neighbours-pass (may-stand class) 0 (length l) l) ≡ all-zero l
-  unfolding neighbours-pass may-stand all-zero every
-  zeros-stand [] = refl
-  zeros-stand (b ∷ l) = case (eqb b 0) (λ e. rw (e, pass-behind (may-stand class) (length l) b l) (zeros-stand l)) (λ e. rw e)
+  zeros_stand : (l : List ℕ) → (eqb (get_or l 0 0) 0 && neighbours_pass (may_stand class) 0 (length l) l) ≡ all_zero l
+  unfolding neighbours_pass may_stand all_zero every
+  zeros_stand [] = refl
+  zeros_stand (b ∷ l) = case (eqb b 0) (λ e. rw (e, pass_behind (may_stand class) (length l) b l) (zeros_stand l)) (λ e. rw e)
 
-  text-stands : (l : List ℕ) → (every class (unpadded l) && all-zero (drop (length (unpadded l)) l)) ≡ neighbours-pass (may-stand class) 0 (length l) l
-  unfolding unpadded every all-zero neighbours-pass may-stand
-  text-stands [] = refl
-  text-stands (b ∷ l) = case (eqb b 0)
-      (λ e. rw e (rw (e, pass-behind (may-stand class) (length l) b l) (sym (zeros-stand l))))
-      (λ e. rw (e, pass-behind (may-stand class) (length l) b l) (case (class b) (λ c. rw c (text-stands l)) (λ c. rw c)))
+  text_stands : (l : List ℕ) → (every class (unpadded l) && all_zero (drop (length (unpadded l)) l)) ≡ neighbours_pass (may_stand class) 0 (length l) l
+  unfolding unpadded every all_zero neighbours_pass may_stand
+  text_stands [] = refl
+  text_stands (b ∷ l) = case (eqb b 0)
+      (λ e. rw e (rw (e, pass_behind (may_stand class) (length l) b l) (sym (zeros_stand l))))
+      (λ e. rw (e, pass_behind (may_stand class) (length l) b l) (case (class b) (λ c. rw c (text_stands l)) (λ c. rw c)))
 
   module _ (w i : ℕ) (x : List ℕ) (h : i + suc w ≤ length x) where
     long : length (take (suc w) (drop i x)) ≡ suc w
     long = length-take-le (suc w) (drop i x) (omega (arith, length-drop i x))
 
     -- the last byte of a field is judged as if a zero stood behind it
-    last-stands : neighbours-pass (may-stand class) (0 + w) 1 (take (suc w) (drop i x)) ≡ may-stand class (get_or x (i + w) 0) 0
-    unfolding neighbours-pass
-    last-stands =
+    last_stands : neighbours_pass (may_stand class) (0 + w) 1 (take (suc w) (drop i x)) ≡ may_stand class (get_or x (i + w) 0) 0
+    unfolding neighbours_pass
+    last_stands =
         let l = take (suc w) (drop i x) in
         let none : get_or l (suc (0 + w)) 0 ≡ 0 = get_or-eq_default l 0 {n = suc (0 + w)} (omega (arith, long)) in
-        and-true (may-stand class (get_or l (0 + w) 0) (get_or l (suc (0 + w)) 0)) ∙ ap₂ (may-stand class) (in_field i (suc w) x w (omega arith)) none
+        and-true (may_stand class (get_or l (0 + w) 0) (get_or l (suc (0 + w)) 0)) ∙ ap₂ (may_stand class) (in_field i (suc w) x w (omega arith)) none
 
     -- a field by its bytes
-    stands-in-field : (every class (text_at i (suc w) x) && is-filled i (suc w) x)
-        ≡ (neighbours-pass (may-stand class) i w x && may-stand class (get_or x (i + w) 0) 0)
+    stands_in_field : (every class (text_at i (suc w) x) && is_filled i (suc w) x)
+        ≡ (neighbours_pass (may_stand class) i w x && may_stand class (get_or x (i + w) 0) 0)
     unfolding text_at
-    stands-in-field =
+    stands_in_field =
         let l = take (suc w) (drop i x) in
         let q : suc w ≡ w + 1 = omega arith in
-        rw (filled-in-field i (suc w) x)
-        (text-stands l
-        ∙ ap (λ (n : ℕ). neighbours-pass (may-stand class) 0 n l) (long ∙ q)
-        ∙ pass-apart (may-stand class) w 1 0 l
-        ∙ ap₂ ◌&&◌ (pass-alike (may-stand class) w 0 i l x (λ k j. in_field i (suc w) x k (omega arith))) last-stands)
+        rw (filled_in_field i (suc w) x)
+        (text_stands l
+        ∙ ap (λ (n : ℕ). neighbours_pass (may_stand class) 0 n l) (long ∙ q)
+        ∙ pass_apart (may_stand class) w 1 0 l
+        ∙ ap₂ ◌&&◌ (pass_alike (may_stand class) w 0 i l x (λ k j. in_field i (suc w) x k (omega arith))) last_stands)
 
-any-text : (t : List ℕ) → every any-byte t ≡ true
-unfolding every any-byte
-any-text [] = refl
-any-text (b ∷ t) = any-text t
+any_text : (t : List ℕ) → every any_byte t ≡ true
+unfolding every any_byte
+any_text [] = refl
+any_text (b ∷ t) = any_text t
 
-any_last : (b : ℕ) → may-stand any-byte b 0 ≡ true
-unfolding may-stand any-byte
+any_last : (b : ℕ) → may_stand any_byte b 0 ≡ true
+unfolding may_stand any_byte
 any_last b = case (eqb b 0) (λ e. rw e) (λ e. rw e)
 
 -- a field is filled up with zeros, whatever its text
-pub filled-by-bytes : (i w : ℕ) (x : List ℕ) → i + suc w ≤ length x → is-filled i (suc w) x ≡ neighbours-pass (may-stand any-byte) i w x
-filled-by-bytes i w x h =
-    let any : every any-byte (text_at i (suc w) x) ≡ true = any-text (text_at i (suc w) x) in
-    let passes = neighbours-pass (may-stand any-byte) i w x in
+pub filled_by_bytes : (i w : ℕ) (x : List ℕ) → i + suc w ≤ length x → is_filled i (suc w) x ≡ neighbours_pass (may_stand any_byte) i w x
+filled_by_bytes i w x h =
+    let any : every any_byte (text_at i (suc w) x) ≡ true = any_text (text_at i (suc w) x) in
+    let passes = neighbours_pass (may_stand any_byte) i w x in
     sym (rw any)
-    ∙ stands-in-field any-byte w i x h
+    ∙ stands_in_field any_byte w i x h
     ∙ ap (λ (b : Bool). passes && b) (any_last (get_or x (i + w) 0))
     ∙ and-true passes
 
 -- ---- a name
 
 -- zeros may stand in its field
-zeros-name : (l : List ℕ) → all-zero l ≡ true → neighbours-pass may-name 0 (length l) l ≡ true
-unfolding neighbours-pass may-name all-zero every
-zeros-name [] h = refl
-zeros-name (b ∷ l) h =
-    let z = and_both (eqb b 0) (all-zero l) h in
-    rw (z.0, pass-behind may-name (length l) b l) (zeros-name l z.1)
+zeros_name : (l : List ℕ) → all_zero l ≡ true → neighbours_pass may_name 0 (length l) l ≡ true
+unfolding neighbours_pass may_name all_zero every
+zeros_name [] h = refl
+zeros_name (b ∷ l) h =
+    let z = and_both (eqb b 0) (all_zero l) h in
+    rw (z.0, pass_behind may_name (length l) b l) (zeros_name l z.1)
 
 -- a text of a name's bytes, where zeros stand behind it
-text-names : (l : List ℕ) → all-zero (drop (length (unpadded l)) l) ≡ true → neighbours-pass may-name 0 (length l) l ≡ every name-byte (unpadded l)
-unfolding neighbours-pass may-name unpadded all-zero every
-text-names [] h = refl
-text-names (b ∷ l) h = case (eqb b 0)
-    (λ e. let z : (eqb b 0 && all-zero l) ≡ true = rw e at h in rw e (pass-behind may-name (length l) b l ∙ zeros-name l (and_both (eqb b 0) (all-zero l) z).1))
-    (λ e. let z : all-zero (drop (length (unpadded l)) l) ≡ true = rw e at h in rw (e, pass-behind may-name (length l) b l, text-names l z))
+text_names : (l : List ℕ) → all_zero (drop (length (unpadded l)) l) ≡ true → neighbours_pass may_name 0 (length l) l ≡ every name_byte (unpadded l)
+unfolding neighbours_pass may_name unpadded all_zero every
+text_names [] h = refl
+text_names (b ∷ l) h = case (eqb b 0)
+    (λ e. let z : (eqb b 0 && all_zero l) ≡ true = rw e at h in rw e (pass_behind may_name (length l) b l ∙ zeros_name l (and_both (eqb b 0) (all_zero l) z).1))
+    (λ e. let z : all_zero (drop (length (unpadded l)) l) ≡ true = rw e at h in rw (e, pass_behind may_name (length l) b l, text_names l z))
 
 -- among all bytes as in the field alone: the byte behind it is not looked at
-names-in-field : (i : ℕ) (x : List ℕ) → neighbours-pass may-name 0 name-width (take name-width (drop i x)) ≡ neighbours-pass may-name i name-width x
-names-in-field i x =
-    let w = name-width - 1 in
-    let l = take name-width (drop i x) in
-    let last : neighbours-pass may-name (0 + w) 1 l ≡ neighbours-pass may-name (i + w) 1 x = unfold neighbours-pass may-name in
-    ap (λ (b : ℕ). (eqb b 0 || name-byte b) && true) (in_field i name-width x w (omega arith)) in
-    pass-apart may-name w 1 0 l
-    ∙ ap₂ ◌&&◌ (pass-alike may-name w 0 i l x (λ k j. in_field i name-width x k (omega arith))) last
-    ∙ sym (pass-apart may-name w 1 i x)
+names_in_field : (i : ℕ) (x : List ℕ) → neighbours_pass may_name 0 name_width (take name_width (drop i x)) ≡ neighbours_pass may_name i name_width x
+names_in_field i x =
+    let w = name_width - 1 in
+    let l = take name_width (drop i x) in
+    let last : neighbours_pass may_name (0 + w) 1 l ≡ neighbours_pass may_name (i + w) 1 x = unfold neighbours_pass may_name in
+    ap (λ (b : ℕ). (eqb b 0 || name_byte b) && true) (in_field i name_width x w (omega arith)) in
+    pass_apart may_name w 1 0 l
+    ∙ ap₂ ◌&&◌ (pass_alike may_name w 0 i l x (λ k j. in_field i name_width x k (omega arith))) last
+    ∙ sym (pass_apart may_name w 1 i x)
 
-one-or-more : (n : ℕ) → leb 1 n ≡ not (eqb n 0)
-one-or-more zero = refl
-one-or-more (suc n) = rw (le-leb 1 (suc n) (omega arith), ne_eqb (suc n) 0 (λ z. omega arith))
+one_or_more : (n : ℕ) → leb 1 n ≡ not (eqb n 0)
+one_or_more zero = refl
+one_or_more (suc n) = rw (le-leb 1 (suc n) (omega arith), ne_eqb (suc n) 0 (λ z. omega arith))
 
 -- a name that fills up its field with zeros, by the field's bytes
-pub name-in-field : (i : ℕ) (x : List ℕ) → i + name-width ≤ length x → is-filled i name-width x ≡ true
-    → is_name (text_at i name-width x) ≡ (neighbours-pass may-name i name-width x && not (eqb (get_or x i 0) 0))
+pub name_in_field : (i : ℕ) (x : List ℕ) → i + name_width ≤ length x → is_filled i name_width x ≡ true
+    → is_name (text_at i name_width x) ≡ (neighbours_pass may_name i name_width x && not (eqb (get_or x i 0) 0))
 unfolding is_name text_at
-name-in-field i x h f =
-    let l = take name-width (drop i x) in
+name_in_field i x h f =
+    let l = take name_width (drop i x) in
     let u = unpadded l in
-    let long : length l ≡ name-width = length-take-le name-width (drop i x) (omega (arith, length-drop i x)) in
-    let short : leb (length u) name-width ≡ true = le-leb (length u) name-width (unfold text_at in field-text-fits x i name-width) in
-    let some : leb 1 (length u) ≡ not (eqb (get_or x i 0) 0) = one-or-more (length u) ∙ ap not (unfold text_at in empty-by-first i (name-width - 1) x) in
-    let bytes : every name-byte u ≡ neighbours-pass may-name i name-width x =
-    sym (text-names l (sym (filled-in-field i name-width x) ∙ f))
-    ∙ ap (λ (n : ℕ). neighbours-pass may-name 0 n l) long
-    ∙ names-in-field i x in
+    let long : length l ≡ name_width = length-take-le name_width (drop i x) (omega (arith, length-drop i x)) in
+    let short : leb (length u) name_width ≡ true = le-leb (length u) name_width (unfold text_at in field_text_fits x i name_width) in
+    let some : leb 1 (length u) ≡ not (eqb (get_or x i 0) 0) = one_or_more (length u) ∙ ap not (unfold text_at in empty_by_first i (name_width - 1) x) in
+    let bytes : every name_byte u ≡ neighbours_pass may_name i name_width x =
+    sym (text_names l (sym (filled_in_field i name_width x) ∙ f))
+    ∙ ap (λ (n : ℕ). neighbours_pass may_name 0 n l) long
+    ∙ names_in_field i x in
     rw (bytes, some, short, and-true (not (eqb (get_or x i 0) 0)))
 
 -- ---- zeros alone, and no tag
 
-zeros-alone : (l : List ℕ) → all-zero l ≡ (eqb (length (unpadded l)) 0 && all-zero (drop (length (unpadded l)) l))
-unfolding unpadded all-zero every
-zeros-alone [] = refl
-zeros-alone (b ∷ l) = case (eqb b 0) (λ e. rw e (rw e)) (λ e. rw (e, ne_eqb (suc (length (unpadded l))) 0 (λ z. omega arith)))
+zeros_alone : (l : List ℕ) → all_zero l ≡ (eqb (length (unpadded l)) 0 && all_zero (drop (length (unpadded l)) l))
+unfolding unpadded all_zero every
+zeros_alone [] = refl
+zeros_alone (b ∷ l) = case (eqb b 0) (λ e. rw e (rw e)) (λ e. rw (e, ne_eqb (suc (length (unpadded l))) 0 (λ z. omega arith)))
 
 -- a field of zeros is one without a text, filled up
-zeros-by-text : (i w : ℕ) (x : List ℕ) → zeros-at i w x ≡ (eqb (length (text_at i w x)) 0 && is-filled i w x)
-unfolding zeros-at text_at
-zeros-by-text i w x =
-    zeros-alone (take w (drop i x)) ∙ ap (λ (b : Bool). eqb (length (unpadded (take w (drop i x)))) 0 && b) (sym (filled-in-field i w x))
+zeros_by_text : (i w : ℕ) (x : List ℕ) → zeros_at i w x ≡ (eqb (length (text_at i w x)) 0 && is_filled i w x)
+unfolding zeros_at text_at
+zeros_by_text i w x =
+    zeros_alone (take w (drop i x)) ∙ ap (λ (b : Bool). eqb (length (unpadded (take w (drop i x)))) 0 && b) (sym (filled_in_field i w x))
 
 -- two zeros are the number 0
-zeros-by-number : (i : ℕ) (x : List ℕ) → suc i < length x → zeros-at i 2 x ≡ eqb (number_at i x) 0
-unfolding zeros-at all-zero every number_at
-zeros-by-number i x h =
+zeros_by_number : (i : ℕ) (x : List ℕ) → suc i < length x → zeros_at i 2 x ≡ eqb (number_at i x) 0
+unfolding zeros_at all_zero every number_at
+zeros_by_number i x h =
     let low = get_or x i 0 in
     let high = get_or x (suc i) 0 in
     let n = low + 256 * high in
@@ -178,25 +178,25 @@ zeros-by-number i x h =
     (λ a. rw (a, ne_eqb n 0 (λ z. eqb-false low 0 a (omega arith)))))
 
 -- so of a text with a number behind it
-pub zeros-by-parts : (i w : ℕ) (x : List ℕ) → i + w + 2 ≤ length x
-    → zeros-at i (w + 2) x ≡ ((eqb (length (text_at i w x)) 0 && is-filled i w x) && eqb (number_at (i + w) x) 0)
-zeros-by-parts i w x h =
-    let apart : zeros-at i (w + 2) x ≡ (zeros-at i w x && zeros-at (i + w) 2 x) = unfold zeros-at all-zero in
-    ap all-zero (take-add w 2 (drop i x))
+pub zeros_by_parts : (i w : ℕ) (x : List ℕ) → i + w + 2 ≤ length x
+    → zeros_at i (w + 2) x ≡ ((eqb (length (text_at i w x)) 0 && is_filled i w x) && eqb (number_at (i + w) x) 0)
+zeros_by_parts i w x h =
+    let apart : zeros_at i (w + 2) x ≡ (zeros_at i w x && zeros_at (i + w) 2 x) = unfold zeros_at all_zero in
+    ap all_zero (take-add w 2 (drop i x))
     ∙ every_append (λ b. eqb b 0) (take w (drop i x)) (take 2 (drop w (drop i x)))
-    ∙ ap (λ (l : List ℕ). all-zero (take w (drop i x)) && all-zero (take 2 l)) (drop-drop w i x) in
-    apart ∙ ap₂ ◌&&◌ (zeros-by-text i w x) (zeros-by-number (i + w) x (omega arith))
+    ∙ ap (λ (l : List ℕ). all_zero (take w (drop i x)) && all_zero (take 2 l)) (drop-drop w i x) in
+    apart ∙ ap₂ ◌&&◌ (zeros_by_text i w x) (zeros_by_number (i + w) x (omega arith))
 
 -- ---- a content
 
 -- a content that fills up its field with zeros, by the field's bytes
-pub content-in-field : (i : ℕ) (x : List ℕ) → i + content-width ≤ length x
-    → (is-content (text_at i content-width x) && is-filled i content-width x) ≡ content-stands i x
-unfolding is-content content-stands
-content-in-field i x h =
-    let u = text_at i content-width x in
-    let short : leb (length u) content-limit ≡ true = le-leb (length u) content-limit (field-text-fits x i content-width) in
-    rw (short, and-true (every content-byte u)) (stands-in-field content-byte (content-width - 1) i x h)
+pub content_in_field : (i : ℕ) (x : List ℕ) → i + content_width ≤ length x
+    → (is_content (text_at i content_width x) && is_filled i content_width x) ≡ content_stands i x
+unfolding is_content content_stands
+content_in_field i x h =
+    let u = text_at i content_width x in
+    let short : leb (length u) content_limit ≡ true = le-leb (length u) content_limit (field_text_fits x i content_width) in
+    rw (short, and-true (every content_byte u)) (stands_in_field content_byte (content_width - 1) i x h)
 
 swapped : (a b c d : Bool) → ((a && b) && (c && d)) ≡ (((a && c) && b) && d)
 swapped true true c d = ap (λ (x : Bool). x && d) (sym (and-true c))
@@ -204,12 +204,12 @@ swapped true false c d = ap (λ (x : Bool). x && d) (sym (and-false c))
 swapped false b c d = refl
 
 -- a row's content, by the bytes of its field, what the kind allows, and the bytes behind
-pub content-by-bytes : (x : List ℕ) → length x ≡ row-width
-    → has-content x ≡ ((content-stands content-offset x && fits-kind (kind-of (get_or x 1 0)) (number_at mode-offset x) (text_at content-offset content-width x)) && zeros-at base-offset base-width x)
-unfolding has-content
-content-by-bytes x h =
-    let c = text_at content-offset content-width x in
-    let fits = fits-kind (kind-of (get_or x 1 0)) (number_at mode-offset x) c in
-    let zeros = zeros-at base-offset base-width x in
-    swapped (is-content c) fits (is-filled content-offset content-width x) zeros
-    ∙ ap (λ (b : Bool). (b && fits) && zeros) (content-in-field content-offset x (omega arith))
+pub content_by_bytes : (x : List ℕ) → length x ≡ row_width
+    → has_content x ≡ ((content_stands content_offset x && fits_kind (kind_of (get_or x 1 0)) (number_at mode_offset x) (text_at content_offset content_width x)) && zeros_at base_offset base_width x)
+unfolding has_content
+content_by_bytes x h =
+    let c = text_at content_offset content_width x in
+    let fits = fits_kind (kind_of (get_or x 1 0)) (number_at mode_offset x) c in
+    let zeros = zeros_at base_offset base_width x in
+    swapped (is_content c) fits (is_filled content_offset content_width x) zeros
+    ∙ ap (λ (b : Bool). (b && fits) && zeros) (content_in_field content_offset x (omega arith))

@@ -1,10 +1,10 @@
 // Whether a lent buffer holds a well-formed tree; docs/FORMAT.md has the layout.
 ghost use Rattle.std.specs.Prelude.{◌≡◌};
 ghost use Rattle.syntax.specs.Form.{is_some};
-ghost use Rattle.tree.specs.Encoding.{decode-tree};
+ghost use Rattle.tree.specs.Encoding.{decode_tree};
 ghost use Rattle.tree.specs.RowAt.{row_at};
 ghost use Rattle.tree.specs.TreeBytes.{Wide};
-ghost use Rattle.soundness.specs.Sound.{is-top-row};
+ghost use Rattle.soundness.specs.Sound.{is_top_row};
 
 mod order;
 mod row;
@@ -18,7 +18,7 @@ pub use zeros::is_zero_in_blocks;
 // Whether the first row is that of `/`.
 fn is_top_row(tree: &[u8]) -> bool
     requires { Wide tree.now }
-    ensures { result ≡ is-top-row (row_at tree.now 0) }
+    ensures { result ≡ is_top_row (row_at tree.now 0) }
 {
     if tree::depth_at(tree, 0) != 0 {
         return false;
@@ -31,7 +31,7 @@ fn is_top_row(tree: &[u8]) -> bool
 
 // Whether a buffer holds a well-formed tree.
 pub fn holds_tree(tree: &[u8]) -> bool
-    ensures { result ≡ is_some (decode-tree tree.now) }
+    ensures { result ≡ is_some (decode_tree tree.now) }
 {
     if tree.len() != TREE {
         return false;

@@ -2,16 +2,16 @@
 // compiler knows, which put together by `&` and `|` the tests of each byte with the next: so it can test many bytes at once. Every
 // call judges every row, and nearly all are sound.
 ghost use Rattle.std.specs.Prelude.{◌≡◌, List, true, ℕ, ◌+◌, ◌-◌, ◌≤◌, ◌<◌, eqb, length};
-ghost use Rattle.buffers.specs.Fields.{is-filled};
-ghost use Rattle.syntax.specs.Number.{is-mode};
+ghost use Rattle.buffers.specs.Fields.{is_filled};
+ghost use Rattle.syntax.specs.Number.{is_mode};
 ghost use Rattle.syntax.specs.Path.{is_name};
-ghost use Rattle.syntax.specs.Field.{content-byte};
-ghost use Rattle.tree.specs.Layout.{name-offset, name-width, content-width};
-ghost use Rattle.tree.specs.WellFormed.{fits-kind};
-ghost use Rattle.tree.specs.RowAt.{row-bytes-at, row_at};
-ghost use Rattle.tree.specs.TreeBytes.{Has-row};
+ghost use Rattle.syntax.specs.Field.{content_byte};
+ghost use Rattle.tree.specs.Layout.{name_offset, name_width, content_width};
+ghost use Rattle.tree.specs.WellFormed.{fits_kind};
+ghost use Rattle.tree.specs.RowAt.{row_bytes_at, row_at};
+ghost use Rattle.tree.specs.TreeBytes.{HasRow};
 ghost use Rattle.soundness.specs.Sound.{is_row};
-ghost use Rattle.soundness.specs.Tests.{is-kind-byte, has-numbers, has-tag, has-content, may-name, may-stand, neighbours-pass, content-stands};
+ghost use Rattle.soundness.specs.Tests.{is_kind_byte, has_numbers, has_tag, has_content, may_name, may_stand, neighbours_pass, content_stands};
 
 use buffers::is_zero;
 use syntax::has_set_gid;
@@ -25,7 +25,7 @@ const AT_ONCE: usize = 16;
 
 // Whether a byte says what a node is.
 fn is_kind(b: u8) -> bool
-    ensures { result ≡ is-kind-byte b }
+    ensures { result ≡ is_kind_byte b }
 {
     if b == DIRECTORY {
         return true;
@@ -35,7 +35,7 @@ fn is_kind(b: u8) -> bool
 
 // Whether a number is a mode.
 fn is_mode(mode: u16) -> bool
-    ensures { result ≡ is-mode mode }
+    ensures { result ≡ is_mode mode }
 {
     if mode < 512 {
         return true;
@@ -45,7 +45,7 @@ fn is_mode(mode: u16) -> bool
 
 // Whether a kind allows a mode and a content, empty or not: set-gid on directories only, content in files only.
 fn fits_kind(kind: Kind, mode: u16, empty: bool) -> bool
-    ensures { (t : List ℕ) → empty ≡ eqb (length t) 0 → result ≡ fits-kind kind mode t }
+    ensures { (t : List ℕ) → empty ≡ eqb (length t) 0 → result ≡ fits_kind kind mode t }
 {
     match kind {
         Kind::File => !has_set_gid(mode),
@@ -55,8 +55,8 @@ fn fits_kind(kind: Kind, mode: u16, empty: bool) -> bool
 
 // Whether kind, owner, group, mode and revision are in range.
 fn has_numbers(tree: &[u8], i: usize) -> bool
-    requires { Has-row tree.now i }
-    ensures { result ≡ has-numbers (row-bytes-at tree.now i) }
+    requires { HasRow tree.now i }
+    ensures { result ≡ has_numbers (row_bytes_at tree.now i) }
 {
     let at = FIRST + ROW * i;
     if !is_kind(tree[at + KIND]) {
@@ -78,7 +78,7 @@ fn has_numbers(tree: &[u8], i: usize) -> bool
 fn is_filled(s: &[u8], at: usize, width: usize) -> bool
     requires le_width { 1 ≤ width }
     requires width_in_bounds { at + width ≤ length s.now }
-    ensures { result ≡ is-filled at width s.now }
+    ensures { result ≡ is_filled at width s.now }
 {
     let mut all = true;
     let mut k: usize = 0;
@@ -91,23 +91,23 @@ fn is_filled(s: &[u8], at: usize, width: usize) -> bool
 
 // Whether zeros fill up the name.
 fn name_is_filled(tree: &[u8], i: usize) -> bool
-    requires { Has-row tree.now i }
-    ensures { result ≡ is-filled name-offset name-width (row-bytes-at tree.now i) }
+    requires { HasRow tree.now i }
+    ensures { result ≡ is_filled name_offset name_width (row_bytes_at tree.now i) }
 {
     is_filled(tree, FIRST + ROW * i + NAME, NAME_WIDTH)
 }
 
 // Whether a byte may stand in a name filled up: one of a name, or a zero.
 fn may_name(b: u8) -> bool
-    ensures { (next : ℕ) → result ≡ may-name b next }
+    ensures { (next : ℕ) → result ≡ may_name b next }
 {
     (b == 0) | (((97 <= b) & (b <= 122)) | (((48 <= b) & (b <= 57)) | (b == 95)))
 }
 
 // Whether a row has a name, where zeros fill it up. All bytes of the field are looked at, so that no end has to be found first.
 pub fn has_name(tree: &[u8], i: usize) -> bool
-    requires has_row { Has-row tree.now i }
-    requires i_value { is-filled name-offset name-width (row-bytes-at tree.now i) ≡ true }
+    requires has_row { HasRow tree.now i }
+    requires i_value { is_filled name_offset name_width (row_bytes_at tree.now i) ≡ true }
     ensures { result ≡ is_name (row_at tree.now i).name }
 {
     let at = FIRST + ROW * i + NAME;
@@ -123,8 +123,8 @@ pub fn has_name(tree: &[u8], i: usize) -> bool
 // Whether the tag is zeros, or an entry path filled up and a revision. The field is tested first, whether or not it has a text:
 // its length is fixed, that of the zeros behind a path is not.
 fn has_tag(tree: &[u8], i: usize) -> bool
-    requires { Has-row tree.now i }
-    ensures { result ≡ has-tag (row-bytes-at tree.now i) }
+    requires { HasRow tree.now i }
+    ensures { result ≡ has_tag (row_bytes_at tree.now i) }
 {
     let at = FIRST + ROW * i + TAG;
     if !is_filled(tree, at, TAG_WIDTH) {
@@ -142,7 +142,7 @@ fn has_tag(tree: &[u8], i: usize) -> bool
 
 // Whether a byte may stand before the next in a content filled up: a byte of a content before any, a zero before a zero.
 fn may_stand(b: u8, next: u8) -> bool
-    ensures { result ≡ may-stand content-byte b next }
+    ensures { result ≡ may_stand content_byte b next }
 {
     ((b == 0) & (next == 0)) | ((32 <= b) & (b <= 126) & (b != 44))
 }
@@ -150,7 +150,7 @@ fn may_stand(b: u8, next: u8) -> bool
 // Whether n bytes from a place may each stand before the next.
 fn all_stand(s: &[u8], at: usize, n: usize) -> bool
     requires { at + n < length s.now }
-    ensures { result ≡ neighbours-pass (may-stand content-byte) at n s.now }
+    ensures { result ≡ neighbours_pass (may_stand content_byte) at n s.now }
 {
     let mut all = true;
     let mut i: usize = 0;
@@ -164,8 +164,8 @@ fn all_stand(s: &[u8], at: usize, n: usize) -> bool
 // Whether a content filled up stands in the field at a place. Its last byte is judged alone, since another field begins behind it;
 // the others in two stretches that share a byte, since they are one too few to be tested many at once.
 fn content_stands(s: &[u8], at: usize) -> bool
-    requires { at + content-width ≤ length s.now }
-    ensures { result ≡ content-stands at s.now }
+    requires { at + content_width ≤ length s.now }
+    ensures { result ≡ content_stands at s.now }
 {
     let last = at + CONTENT_WIDTH - 1;
     if !all_stand(s, at, CONTENT_WIDTH - AT_ONCE) {
@@ -179,8 +179,8 @@ fn content_stands(s: &[u8], at: usize) -> bool
 
 // Whether the content is one that the kind allows, zeros fill up its field, and the bytes kept for a merge base are zero.
 fn has_content(tree: &[u8], i: usize) -> bool
-    requires { Has-row tree.now i }
-    ensures { result ≡ has-content (row-bytes-at tree.now i) }
+    requires { HasRow tree.now i }
+    ensures { result ≡ has_content (row_bytes_at tree.now i) }
 {
     let at = FIRST + ROW * i;
     if !content_stands(tree, at + CONTENT) {
@@ -198,8 +198,8 @@ fn has_content(tree: &[u8], i: usize) -> bool
 
 // Whether the bytes of a row are those of a node in range.
 pub fn is_row(tree: &[u8], i: usize) -> bool
-    requires { Has-row tree.now i }
-    ensures { result ≡ is_row (row-bytes-at tree.now i) }
+    requires { HasRow tree.now i }
+    ensures { result ≡ is_row (row_bytes_at tree.now i) }
 {
     if !has_numbers(tree, i) {
         return false;

@@ -1,6 +1,6 @@
 // Long stretches of zeros.
 ghost use Rattle.std.specs.Prelude.{◌≡◌, ◌-◌, ◌≤◌, length};
-ghost use Rattle.buffers.specs.Fields.{zeros-at};
+ghost use Rattle.buffers.specs.Fields.{zeros_at};
 
 use buffers::is_zero;
 
@@ -13,7 +13,7 @@ const BLOCK: usize = 256;
 pub fn is_zero_in_blocks(s: &[u8], from: usize, to: usize) -> bool
     requires from_le_to { from ≤ to }
     requires to_in_bounds { to ≤ length s.now }
-    ensures { result ≡ zeros-at from (to - from) s.now }
+    ensures { result ≡ zeros_at from (to - from) s.now }
 {
     let mut end = to;
     while BLOCK <= end - from {

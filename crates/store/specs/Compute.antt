@@ -1,14 +1,14 @@
 -- For computed examples only: whoever unfolds `compute` unfolds every definition of this crate that a run goes through.
-use Rattle.accounts.specs.PairBytes.{pair-bytes}
-use Rattle.store.specs.State.{set-session, working-directory, set-directory}
-use Rattle.store.specs.Initial.{directory-of, top-node, rep-node, home-node, home-name, with-home, homes, initial-tree, no-sessions, first-directory, first-directories, initial-registry, initial-store}
-use Rattle.store.specs.StoreBytes.{store-width, slot-bytes, session-byte, grant-bytes, directory-bytes, path-or-root, directory-from, front_bytes, header-bytes, setup-of, sessions-of, directories-of, registry-of, decode}
+use Rattle.accounts.specs.PairBytes.{pair_bytes}
+use Rattle.store.specs.State.{set_session, working_directory, set_directory}
+use Rattle.store.specs.Initial.{directory_of, top_node, rep_node, home_node, home_name, with_home, homes, initial_tree, no_sessions, first_directory, first_directories, initial_registry, initial_store}
+use Rattle.store.specs.StoreBytes.{store_width, slot_bytes, session_byte, grant_bytes, directory_bytes, path_or_root, directory_from, front_bytes, header_bytes, setup_of, sessions_of, directories_of, registry_of, decode}
 
 unfoldable pub compute : Unit {0}
-unfolding set-session working-directory set-directory directory-of top-node rep-node home-node home-name with-home homes initial-tree no-sessions first-directory first-directories initial-registry initial-store
+unfolding set_session working_directory set_directory directory_of top_node rep_node home_node home_name with_home homes initial_tree no_sessions first_directory first_directories initial_registry initial_store
 compute = tt
 
 -- and those of the store's bytes beside them
-unfoldable pub compute-bytes : Unit {0}
-unfolding store-width slot-bytes session-byte pair-bytes grant-bytes directory-bytes path-or-root directory-from front_bytes header-bytes setup-of sessions-of directories-of registry-of decode
-compute-bytes = tt
+unfoldable pub compute_bytes : Unit {0}
+unfolding store_width slot_bytes session_byte pair_bytes grant_bytes directory_bytes path_or_root directory_from front_bytes header_bytes setup_of sessions_of directories_of registry_of decode
+compute_bytes = tt

@@ -4,103 +4,103 @@ use Rattle.std.proofs.Common.{◌∙◌, ap₂, append-nil, take-append-drop, ta
 use Rattle.std.proofs.Math.Option.{some}
 use Rattle.buffers.specs.Cases.{and_both}
 use Rattle.buffers.specs.Text.{same_text, every}
-use Rattle.buffers.specs.TextLaws.{same-text-refl, same-text-sound}
+use Rattle.buffers.specs.TextLaws.{same_text_refl, same_text_sound}
 use Rattle.buffers.specs.Fields.{text_at, all_from}
-use Rattle.buffers.specs.TableLaws.{length-all-from}
-use Rattle.accounts.specs.ClosureLaws.{one-test}
+use Rattle.buffers.specs.TableLaws.{length_all_from}
+use Rattle.accounts.specs.ClosureLaws.{one_test}
 use Rattle.syntax.specs.Form.{is_some}
-use Rattle.syntax.specs.FormLaws.{both, the-some}
-use Rattle.syntax.specs.Path.{is-path, path}
-use Rattle.syntax.specs.PathLaws.{path-is-path}
-use Rattle.setup.specs.Setup.{Setup, accounts, is-setup}
-use Rattle.tree.specs.Encoding.{encode-tree, decode-tree}
-use Rattle.tree.specs.EncodingLaws.{decode-encode-tree, encode-decode-tree}
-use Rattle.tree.specs.UpdateLaws.{by-option}
+use Rattle.syntax.specs.FormLaws.{both, the_some}
+use Rattle.syntax.specs.Path.{is_path, path}
+use Rattle.syntax.specs.PathLaws.{path_is_path}
+use Rattle.setup.specs.Setup.{Setup, accounts, is_setup}
+use Rattle.tree.specs.Encoding.{encode_tree, decode_tree}
+use Rattle.tree.specs.EncodingLaws.{decode_encode_tree, encode_decode_tree}
+use Rattle.tree.specs.UpdateLaws.{by_option}
 use Rattle.tree.specs.TreeBytes.{Encodes}
 use Rattle.tree.specs.TreeBytesLaws.{encodes}
-use Rattle.store.specs.HeaderLayout.{header-width, sessions-offset, directories-offset, directory-width}
-use Rattle.store.specs.State.{Registry, State, state-of, is-registry, well-formed}
-use Rattle.store.specs.RegistryLaws.{root-is-path, is-registered}
+use Rattle.store.specs.HeaderLayout.{header_width, sessions_offset, directories_offset, directory_width}
+use Rattle.store.specs.State.{Registry, State, state_of, is_registry, well_formed}
+use Rattle.store.specs.RegistryLaws.{root_is_path, is_registered}
 use Rattle.store.specs.StateLaws.{parts, formed}
-use Rattle.store.specs.StoreBytes.{store-width, header-bytes, session-of, path-or-root, directory-from, setup-of, sessions-of, directories-of, registry-of, is-header, encode, decode}
-use Rattle.store.specs.HeaderLaws.{length-header, setup-of-header, registry-of-header}
-use Rattle.store.specs.StoreBytesLaws.{decode-encode, encode-decode, decode-length}
+use Rattle.store.specs.StoreBytes.{store_width, header_bytes, session_of, path_or_root, directory_from, setup_of, sessions_of, directories_of, registry_of, is_header, encode, decode}
+use Rattle.store.specs.HeaderLaws.{length_header, setup_of_header, registry_of_header}
+use Rattle.store.specs.StoreBytesLaws.{decode_encode, encode_decode, decode_length}
 
 -- the bytes of a setup in range and of a well-formed registry are a header
-header_is : (u : Setup) (r : Registry) → is-setup u ≡ true → is-registry r ≡ true → is-header (header-bytes u r) ≡ true
-unfolding is-header
+header_is : (u : Setup) (r : Registry) → is_setup u ≡ true → is_registry r ≡ true → is_header (header_bytes u r) ≡ true
+unfolding is_header
 header_is u r h k =
-    let a : setup-of (header-bytes u r) ≡ u = rw append-nil at (setup-of-header u r h k []) in
-    let b : registry-of (header-bytes u r) ≡ r = rw append-nil at (registry-of-header u r h k []) in
-    rw (a, b, h) (same-text-refl (header-bytes u r))
+    let a : setup_of (header_bytes u r) ≡ u = rw append-nil at (setup_of_header u r h k []) in
+    let b : registry_of (header_bytes u r) ≡ r = rw append-nil at (registry_of_header u r h k []) in
+    rw (a, b, h) (same_text_refl (header_bytes u r))
 
 -- the parts of bytes that are read
-abbrev Read-parts : List ℕ → Type 0
-Read-parts b = (length b ≡ store-width) × ((is-header (take header-width b) ≡ true) × (is_some (decode-tree (drop header-width b)) ≡ true))
+abbrev ReadParts : List ℕ → Type 0
+ReadParts b = (length b ≡ store_width) × ((is_header (take header_width b) ≡ true) × (is_some (decode_tree (drop header_width b)) ≡ true))
 
-read-in-parts : (b : List ℕ) (s : State) → decode b ≡ some s → Read-parts b
+read_in_parts : (b : List ℕ) (s : State) → decode b ≡ some s → ReadParts b
 unfolding encode is_some
-read-in-parts b s e =
-    let i = encode-decode b s e in
+read_in_parts b s e =
+    let i = encode_decode b s e in
     let p = parts s i.1 in
-    let H = header-bytes s.setup s.store.registry in
-    let T = encode-tree s.store.tree in
-    let l = length-header s.setup s.store.registry p.setup p.registry in (
-      decode-length b s e,
+    let H = header_bytes s.setup s.store.registry in
+    let T = encode_tree s.store.tree in
+    let l = length_header s.setup s.store.registry p.setup p.registry in (
+      decode_length b s e,
       (
-        rw (← i.0, take_at H T header-width l) (header_is s.setup s.store.registry p.setup p.registry),
-        rw (← i.0, drop_at H T header-width l, decode-encode-tree s.store.tree p.tree),
+        rw (← i.0, take_at H T header_width l) (header_is s.setup s.store.registry p.setup p.registry),
+        rw (← i.0, drop_at H T header_width l, decode_encode_tree s.store.tree p.tree),
       ),
     )
 
 -- the tree stands behind the header
-pub tree-read : (b : List ℕ) (s : State) → decode b ≡ some s → Encodes (drop header-width b) s.store.tree
+pub tree_read : (b : List ℕ) (s : State) → decode b ≡ some s → Encodes (drop header_width b) s.store.tree
 unfolding encode
-tree-read b s e =
-    let i = encode-decode b s e in
+tree_read b s e =
+    let i = encode_decode b s e in
     let p = parts s i.1 in
-    let H = header-bytes s.setup s.store.registry in
-    let l = length-header s.setup s.store.registry p.setup p.registry in
-    rw (← i.0, drop_at H (encode-tree s.store.tree) header-width l) (encodes p.tree)
+    let H = header_bytes s.setup s.store.registry in
+    let l = length_header s.setup s.store.registry p.setup p.registry in
+    rw (← i.0, drop_at H (encode_tree s.store.tree) header_width l) (encodes p.tree)
 
 -- what is read off any bytes is a well-formed registry: 16 sessions and 16 working directories, what is no path read as `/`
-read-is-path : (b : List ℕ) → is-path (directory-from b) ≡ true
-unfolding directory-from path-or-root
-read-is-path b = by-option (path (text_at 0 directory-width b))
-    (λ e. rw e root-is-path)
-    (λ p e. rw e (path-is-path (text_at 0 directory-width b) p e))
+read_is_path : (b : List ℕ) → is_path (directory_from b) ≡ true
+unfolding directory_from path_or_root
+read_is_path b = by_option (path (text_at 0 directory_width b))
+    (λ e. rw e root_is_path)
+    (λ p e. rw e (path_is_path (text_at 0 directory_width b) p e))
 
-all-read-paths : (n : ℕ) (b : List ℕ) → every is-path (all_from directory-width directory-from n b) ≡ true
+all_read_paths : (n : ℕ) (b : List ℕ) → every is_path (all_from directory_width directory_from n b) ≡ true
 unfolding every all_from
-all-read-paths zero b = refl
-all-read-paths (suc n) b = rw (read-is-path (take directory-width b)) (all-read-paths n (drop directory-width b))
+all_read_paths zero b = refl
+all_read_paths (suc n) b = rw (read_is_path (take directory_width b)) (all_read_paths n (drop directory_width b))
 
-read-registry : (b : List ℕ) → is-registry (registry-of b) ≡ true
-unfolding registry-of sessions-of directories-of accounts
-read-registry b = is-registered (registry-of b) (record {
-  sessions = length-all-from 1 (λ s. session-of (get_or s 0 0)) 16 (drop sessions-offset b);
-  directories = length-all-from directory-width directory-from 16 (drop directories-offset b);
-  kept-paths = all-read-paths 16 (drop directories-offset b);
+read_registry : (b : List ℕ) → is_registry (registry_of b) ≡ true
+unfolding registry_of sessions_of directories_of accounts
+read_registry b = is_registered (registry_of b) (record {
+  sessions = length_all_from 1 (λ s. session_of (get_or s 0 0)) 16 (drop sessions_offset b);
+  directories = length_all_from directory_width directory_from 16 (drop directories_offset b);
+  kept_paths = all_read_paths 16 (drop directories_offset b);
 })
 
 -- bytes that have these parts are read
-parts-are-read : (b : List ℕ) → Read-parts b → is_some (decode b) ≡ true
-unfolding is-header encode is_some
-parts-are-read b (w, (h, t)) =
-    let H = take header-width b in
-    let T = drop header-width b in
-    let i = and_both (is-setup (setup-of H)) (same_text (header-bytes (setup-of H) (registry-of H)) H) h in
-    let j = the-some (decode-tree T) t in
-    let k = encode-decode-tree T j.0 j.1 in
-    let s : State = state-of (setup-of H) (record { tree = j.0; registry = registry-of H }) in
-    let f : well-formed s ≡ true = formed (setup-of H) i.0 s.store (read-registry H) k.1 in
-    let e : encode s ≡ b = ap₂ ◌++◌ (same-text-sound (header-bytes (setup-of H) (registry-of H)) H i.1) k.0 ∙ take-append-drop header-width b in
-    rw (rw e at (decode-encode s f))
+parts_are_read : (b : List ℕ) → ReadParts b → is_some (decode b) ≡ true
+unfolding is_header encode is_some
+parts_are_read b (w, (h, t)) =
+    let H = take header_width b in
+    let T = drop header_width b in
+    let i = and_both (is_setup (setup_of H)) (same_text (header_bytes (setup_of H) (registry_of H)) H) h in
+    let j = the_some (decode_tree T) t in
+    let k = encode_decode_tree T j.0 j.1 in
+    let s : State = state_of (setup_of H) (record { tree = j.0; registry = registry_of H }) in
+    let f : well_formed s ≡ true = formed (setup_of H) i.0 s.store (read_registry H) k.1 in
+    let e : encode s ≡ b = ap₂ ◌++◌ (same_text_sound (header_bytes (setup_of H) (registry_of H)) H i.1) k.0 ∙ take-append-drop header_width b in
+    rw (rw e at (decode_encode s f))
 
-pub decode-in-parts : (b : List ℕ) → is_some (decode b) ≡ (eqb (length b) store-width && (is-header (take header-width b) && is_some (decode-tree (drop header-width b))))
-decode-in-parts b = one-test (is_some (decode b)) (eqb (length b) store-width && (is-header (take header-width b) && is_some (decode-tree (drop header-width b))))
-    (λ e. let s = the-some (decode b) e in let p = read-in-parts b s.0 s.1 in both (eq-eqb (length b) store-width p.0) (both p.1.0 p.1.1))
+pub decode_in_parts : (b : List ℕ) → is_some (decode b) ≡ (eqb (length b) store_width && (is_header (take header_width b) && is_some (decode_tree (drop header_width b))))
+decode_in_parts b = one_test (is_some (decode b)) (eqb (length b) store_width && (is_header (take header_width b) && is_some (decode_tree (drop header_width b))))
+    (λ e. let s = the_some (decode b) e in let p = read_in_parts b s.0 s.1 in both (eq-eqb (length b) store_width p.0) (both p.1.0 p.1.1))
     (λ e.
-    let i = and_both (eqb (length b) store-width) _ e in
-    let j = and_both (is-header (take header-width b)) (is_some (decode-tree (drop header-width b))) i.1 in
-    parts-are-read b (eqb-true (length b) store-width i.0, (j.0, j.1)))
+    let i = and_both (eqb (length b) store_width) _ e in
+    let j = and_both (is_header (take header_width b)) (is_some (decode_tree (drop header_width b))) i.1 in
+    parts_are_read b (eqb-true (length b) store_width i.0, (j.0, j.1)))

@@ -5,10 +5,10 @@ ghost use Rattle.syntax.specs.Path.{Name};
 ghost use Rattle.setup.specs.Setup.{Setup};
 ghost use Rattle.tree.specs.Forest.{Forest, Place};
 ghost use Rattle.tree.specs.Node.{Node};
-ghost use Rattle.tree.specs.Encoding.{encode-tree};
+ghost use Rattle.tree.specs.Encoding.{encode_tree};
 ghost use Rattle.tree.specs.TreeBytes.{Wide};
-ghost use Rattle.store.specs.Initial.{directory-of, home-name, homes, topped};
-ghost use Rattle.store.specs.InitialRows.{slot-value, slot-in-range, Opens, Opens-at, Node-put, Home-put, Initial-written};
+ghost use Rattle.store.specs.Initial.{directory_of, home_name, homes, topped};
+ghost use Rattle.store.specs.InitialRows.{slot_value, slot_in_range, Opens, OpensAt, NodePut, HomePut, InitialWritten};
 
 use crate::Person;
 use accounts::{Account, Gid, Groups, Uid};
@@ -21,8 +21,8 @@ const HOME: u16 = 0o755;
 
 // Puts a directory in at a path of one name that is not used yet. Root finds the room: it may write in every directory.
 fn put_directory(tree: &mut [u8], path: &[u8], owner: Uid, group: Gid, mode: u16)
-    requires { (n : Name) × (t : Place Node) × Opens-at tree.old path.now n t }
-    ensures { Node-put tree.old path.now (directory-of owner group mode) tree.new }
+    requires { (n : Name) × (t : Place Node) × OpensAt tree.old path.now n t }
+    ensures { NodePut tree.old path.now (directory_of owner group mode) tree.new }
 {
     let root = Account {
         uid: Uid(0),
@@ -44,7 +44,7 @@ fn put_directory(tree: &mut [u8], path: &[u8], owner: Uid, group: Gid, mode: u16
 // Writes `/` and `/rep`, whatever stood there.
 fn write_top(tree: &mut [u8])
     requires { Wide tree.old }
-    ensures { (u : Setup) → tree.new ≡ encode-tree (topped (homes u 0)) }
+    ensures { (u : Setup) → tree.new ≡ encode_tree (topped (homes u 0)) }
 {
     let top = Fresh {
         kind: Kind::Directory,
@@ -60,8 +60,8 @@ fn write_top(tree: &mut [u8])
 // Puts the home of an account in, if it is a person's.
 fn put_home(tree: &mut [u8], uid: Uid, person: Person)
     requires uid_bound { uid.0 < 16 }
-    requires opens { (f : Forest Node) × Opens tree.old (home-name uid) (topped f) }
-    ensures { Home-put tree.old uid (slot-value person) tree.new }
+    requires opens { (f : Forest Node) × Opens tree.old (home_name uid) (topped f) }
+    ensures { HomePut tree.old uid (slot_value person) tree.new }
 {
     let group = person.primary;
     if group.0 == 0 {
@@ -79,8 +79,8 @@ fn put_home(tree: &mut [u8], uid: Uid, person: Person)
 // Writes the initial tree: `/`, `/rep`, and a home for each person, whatever stood there.
 pub fn write_initial(tree: &mut [u8], persons: [Person; 16])
     requires wide { Wide tree.old }
-    requires persons_value { every slot-in-range persons ≡ true }
-    ensures { Initial-written (map slot-value persons) tree.new }
+    requires persons_value { every slot_in_range persons ≡ true }
+    ensures { InitialWritten (map slot_value persons) tree.new }
 {
     write_top(tree);
     let mut k: u8 = 0;

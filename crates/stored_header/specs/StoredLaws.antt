@@ -9,163 +9,163 @@ use native.Mathlib.Omega.{arith}
 use Rattle.std.proofs.Math.ListN.{drop, take-append-drop}
 use Rattle.buffers.specs.Text.{Text}
 use Rattle.accounts.specs.declared.Caller.{Caller}
-use Rattle.accounts.specs.Dominance.{Bounded-role}
+use Rattle.accounts.specs.Dominance.{BoundedRole}
 use Rattle.accounts.specs.declared.Uid.{Uid}
 use Rattle.syntax.specs.Path.{Path, path}
-use Rattle.syntax.specs.PathLaws.{path-is-path}
-use Rattle.syntax.specs.ParentLaws.{text-of-path}
+use Rattle.syntax.specs.PathLaws.{path_is_path}
+use Rattle.syntax.specs.ParentLaws.{text_of_path}
 use Rattle.setup.specs.Setup.{Setup}
 use Rattle.tree.specs.declared.Cause.{Cause}
 use Rattle.tree.specs.Result.{Result, refused, done, ◌>>=◌, Outcome}
 use Rattle.tree.specs.Forest.{Place}
 use Rattle.tree.specs.Node.{Node}
-use Rattle.tree.specs.Encoding.{encode-tree}
-use Rattle.tree.specs.ResultLaws.{refused-bind, done-bind}
-use Rattle.tree.specs.TreeBytes.{Encodes, Whole, Path-text}
+use Rattle.tree.specs.Encoding.{encode_tree}
+use Rattle.tree.specs.ResultLaws.{refused_bind, done_bind}
+use Rattle.tree.specs.TreeBytes.{Encodes, Whole, PathText}
 use Rattle.walks.specs.declared.Walked.{Walked}
 use Rattle.walks.specs.declared.Walked.TheVariants.{To, Refused}
 use Rattle.walks.specs.RowWalk.{outcome}
 use Rattle.attributes.specs.declared.Deed.TheVariants.{Enter}
-use Rattle.attributes.specs.Checks.{may-do, may-do-at}
-use Rattle.attributes.specs.ChecksLaws.{enter-checked, decided-refused, decided-there}
+use Rattle.attributes.specs.Checks.{may_do, may_do_at}
+use Rattle.attributes.specs.ChecksLaws.{enter_checked, decided_refused, decided_there}
 use Rattle.shell.specs.declared.Answer.{Answer}
 use Rattle.shell.specs.declared.Answer.TheVariants
-use Rattle.shell.specs.CommandBytesLaws.{refusal-follows, silence-follows}
-use Rattle.shell.specs.Replies.{reply, answer-of, written}
-use Rattle.shell.specs.CommandBytes.{bytes_after, Carries-silently}
-use Rattle.store.specs.HeaderLayout.{header-width}
-use Rattle.store.specs.State.{Registry, set-directory, Store, State, well-formed}
+use Rattle.shell.specs.CommandBytesLaws.{refusal_follows, silence_follows}
+use Rattle.shell.specs.Replies.{reply, answer_of, written}
+use Rattle.shell.specs.CommandBytes.{bytes_after, CarriesSilently}
+use Rattle.store.specs.HeaderLayout.{header_width}
+use Rattle.store.specs.State.{Registry, set_directory, Store, State, well_formed}
 use Rattle.store.specs.StateLaws.{parts, formed}
-use Rattle.store.specs.StoreBytes.{store-width, header-bytes, encode, decode}
-use Rattle.store.specs.HeaderLaws.{length-header}
-use Rattle.store.specs.StoreBytesLaws.{decode-encode, encode-decode, decode-length}
-use Rattle.store.specs.DecodeLaws.{tree-read}
-use Rattle.store.specs.Logins.{logged-in, logged-out}
-use Rattle.header.specs.HeaderBytes.{Headed, Tells-path, Header-follows}
-use Rattle.machine.specs.Machine.{run-login, run-logout, run-cd}
+use Rattle.store.specs.StoreBytes.{store_width, header_bytes, encode, decode}
+use Rattle.store.specs.HeaderLaws.{length_header}
+use Rattle.store.specs.StoreBytesLaws.{decode_encode, encode_decode, decode_length}
+use Rattle.store.specs.DecodeLaws.{tree_read}
+use Rattle.store.specs.Logins.{logged_in, logged_out}
+use Rattle.header.specs.HeaderBytes.{Headed, TellsPath, HeaderFollows}
+use Rattle.machine.specs.Machine.{run_login, run_logout, run_cd}
 use Rattle.machine.specs.StoreMachine.{store}
-use Rattle.machine.specs.LoginLaws.{run-login-is, run-logout-is}
-use Rattle.stored_header.specs.Stored.{Stored, Some-store, bytes-with, moved_to}
+use Rattle.machine.specs.LoginLaws.{run_login_is, run_logout_is}
+use Rattle.stored_header.specs.Stored.{Stored, SomeStore, bytes_with, moved_to}
 
 -- bytes that are read as a state are that store's
-pub read-stored : (b : List ℕ) (s : State) → decode b ≡ some s → Stored b s
+pub read_stored : (b : List ℕ) (s : State) → decode b ≡ some s → Stored b s
 unfolding encode
-read-stored b s e =
-    let i = encode-decode b s e in
+read_stored b s e =
+    let i = encode_decode b s e in
     let p = parts s i.1 in
-    let H = header-bytes s.setup s.store.registry in
-    let T = encode-tree s.store.tree in
-    let l = length-header s.setup s.store.registry p.setup p.registry in
+    let H = header_bytes s.setup s.store.registry in
+    let T = encode_tree s.store.tree in
+    let l = length_header s.setup s.store.registry p.setup p.registry in
     record {
-      wide = decode-length b s e;
+      wide = decode_length b s e;
       header = record {
-        in-range = p.setup;
+        in_range = p.setup;
         registered = p.registry;
-        bytes = ap (take header-width) (sym i.0) ∙ take_at H T header-width l;
+        bytes = ap (take header_width) (sym i.0) ∙ take_at H T header_width l;
       };
-      tree = tree-read b s e;
+      tree = tree_read b s e;
     }
 
 -- a store's bytes are its encoding, and it is well-formed
 module _ {b : List ℕ} {s : State} (h : Stored b s) where
   pub stored_bytes : b ≡ encode s
   unfolding encode
-  stored_bytes = sym (take-append-drop header-width b) ∙ ap₂ ◌++◌ h.header.bytes h.tree.bytes
+  stored_bytes = sym (take-append-drop header_width b) ∙ ap₂ ◌++◌ h.header.bytes h.tree.bytes
 
-  pub stored-formed : well-formed s ≡ true
-  stored-formed = formed s.setup h.header.in-range s.store h.header.registered h.tree.whole
+  pub stored_formed : well_formed s ≡ true
+  stored_formed = formed s.setup h.header.in_range s.store h.header.registered h.tree.whole
 
 -- the encoding of a well-formed state is that store's bytes
-pub formed-stored : {b : List ℕ} (s : State) → well-formed s ≡ true → b ≡ encode s → Stored b s
-formed-stored s w e = rw e (read-stored (encode s) s (decode-encode s w))
+pub formed_stored : {b : List ℕ} (s : State) → well_formed s ≡ true → b ≡ encode s → Stored b s
+formed_stored s w e = rw e (read_stored (encode s) s (decode_encode s w))
 
 -- the bytes behind the header as they are lent
-abbrev pub lent-tree : List ℕ → List ℕ
-lent-tree b = take (length b - header-width) (drop header-width b)
+abbrev pub lent_tree : List ℕ → List ℕ
+lent_tree b = take (length b - header_width) (drop header_width b)
 
-pub lent_is : (b : List ℕ) → lent-tree b ≡ drop header-width b
-lent_is b = take_all (length b - header-width) (drop header-width b) (omega (arith, length-drop header-width b))
+pub lent_is : (b : List ℕ) → lent_tree b ≡ drop header_width b
+lent_is b = take_all (length b - header_width) (drop header_width b) (omega (arith, length-drop header_width b))
 
-pub lent-encodes : {b : List ℕ} {s : State} → Stored b s → Encodes (lent-tree b) s.store.tree
-lent-encodes {b} h = rw (lent_is b) h.tree
+pub lent_encodes : {b : List ℕ} {s : State} → Stored b s → Encodes (lent_tree b) s.store.tree
+lent_encodes {b} h = rw (lent_is b) h.tree
 
-module _ {b : List ℕ} (h : Some-store b) where
-  pub long-enough : header-width ≤ length b
-  unfolding store-width
-  long-enough = let w = h.1.wide in omega arith
+module _ {b : List ℕ} (h : SomeStore b) where
+  pub long_enough : header_width ≤ length b
+  unfolding store_width
+  long_enough = let w = h.1.wide in omega arith
 
-  pub header-length : length (take header-width b) ≡ header-width
-  header-length = length-take-le header-width b long-enough
+  pub header_length : length (take header_width b) ≡ header_width
+  header_length = length-take-le header_width b long_enough
 
   -- what is lent is a header and a tree
-  pub lent-headed : Headed (take header-width b)
-  lent-headed = (h.0.setup, h.0.store.registry, h.1.header)
+  pub lent_headed : Headed (take header_width b)
+  lent_headed = (h.0.setup, h.0.store.registry, h.1.header)
 
-  pub lent-whole : Whole (lent-tree b)
-  lent-whole = (h.0.store.tree, lent-encodes h.1)
+  pub lent_whole : Whole (lent_tree b)
+  lent_whole = (h.0.store.tree, lent_encodes h.1)
 
 -- a text that reads as a path tells one
-pub path-told : {t : Text} → Path-text t → Tells-path t
-path-told {t} h = (h.0, path-is-path t h.0 h.1, sym (text-of-path t h.0 h.1))
+pub path_told : {t : Text} → PathText t → TellsPath t
+path_told {t} h = (h.0, path_is_path t h.0 h.1, sym (text_of_path t h.0 h.1))
 
 -- ---- what follows for the store
 
 module _ {b : List ℕ} {s : State} (h : Stored b s) where
   -- steps on the header
-  header-carries : (steps : Result Registry) (r : Answer) (H : List ℕ) → Header-follows s.setup steps (take header-width b) r H
-      → Carries-silently (bytes-with s.setup) (steps >>= λ z. done (record { text = none; state = record { tree = s.store.tree; registry = z } })) b r
-      (H ++ drop header-width b)
-  unfolding reply answer-of written bytes_after encode
-  header-carries (refused k) r H f a = let g = rw refused-bind at (f a) in rw refused-bind (record {
+  header_carries : (steps : Result Registry) (r : Answer) (H : List ℕ) → HeaderFollows s.setup steps (take header_width b) r H
+      → CarriesSilently (bytes_with s.setup) (steps >>= λ z. done (record { text = none; state = record { tree = s.store.tree; registry = z } })) b r
+      (H ++ drop header_width b)
+  unfolding reply answer_of written bytes_after encode
+  header_carries (refused k) r H f a = let g = rw refused_bind at (f a) in rw refused_bind (record {
     tells = g.tells;
-    bytes = ap (λ (l : List ℕ). l ++ drop header-width b) g.bytes ∙ take-append-drop header-width b;
+    bytes = ap (λ (l : List ℕ). l ++ drop header_width b) g.bytes ∙ take-append-drop header_width b;
     text = g.text;
   })
-  header-carries (done z) r H f a = let g = rw done-bind at (f a) in rw done-bind (record {
+  header_carries (done z) r H f a = let g = rw done_bind at (f a) in rw done_bind (record {
     tells = g.tells;
     bytes = ap₂ ◌++◌ g.bytes h.tree.bytes;
     text = g.text;
   })
 
   -- `login` and `logout`
-  pub login-carries : (c : Caller) (z : Bounded-role) (password : Text) (r : Answer) (H : List ℕ)
-      → Header-follows s.setup (logged-in s.setup s.store.registry c.account.uid z password) (take header-width b) r H
-      → Carries-silently (bytes-with s.setup) (run-login store s.setup s.store c z password) b r (H ++ drop header-width b)
-  login-carries c z password r H f a =
-      rw (run-login-is store s.setup s.store c z password)
-      (header-carries (logged-in s.setup s.store.registry c.account.uid z password) r H f a)
+  pub login_carries : (c : Caller) (z : BoundedRole) (password : Text) (r : Answer) (H : List ℕ)
+      → HeaderFollows s.setup (logged_in s.setup s.store.registry c.account.uid z password) (take header_width b) r H
+      → CarriesSilently (bytes_with s.setup) (run_login store s.setup s.store c z password) b r (H ++ drop header_width b)
+  login_carries c z password r H f a =
+      rw (run_login_is store s.setup s.store c z password)
+      (header_carries (logged_in s.setup s.store.registry c.account.uid z password) r H f a)
 
-  pub logout-carries : (c : Caller) (r : Answer) (H : List ℕ)
-      → Header-follows s.setup (logged-out s.store.registry c.account.uid) (take header-width b) r H
-      → Carries-silently (bytes-with s.setup) (run-logout store s.setup s.store c) b r (H ++ drop header-width b)
-  logout-carries c r H f a =
-      rw (run-logout-is store s.setup s.store c)
-      (header-carries (logged-out s.store.registry c.account.uid) r H f a)
+  pub logout_carries : (c : Caller) (r : Answer) (H : List ℕ)
+      → HeaderFollows s.setup (logged_out s.store.registry c.account.uid) (take header_width b) r H
+      → CarriesSilently (bytes_with s.setup) (run_logout store s.setup s.store c) b r (H ++ drop header_width b)
+  logout_carries c r H f a =
+      rw (run_logout_is store s.setup s.store c)
+      (header_carries (logged_out s.store.registry c.account.uid) r H f a)
 
 -- ---- `cd`
 
 -- what it does once it is decided
-abbrev cd-goes-on : Caller → Path → Store → Place Node → Result (Outcome Store)
-cd-goes-on c p s d = done (record { text = none; state = moved_to c.account.uid p s })
+abbrev cd_goes_on : Caller → Path → Store → Place Node → Result (Outcome Store)
+cd_goes_on c p s d = done (record { text = none; state = moved_to c.account.uid p s })
 
 -- it is the decision on the tree, then that
-cd-checked : (u : Setup) (s : Store) (c : Caller) (p : Path)
-    → run-cd store u s c p ≡ (may-do c.account Enter s.tree p >>= cd-goes-on c p s)
-unfolding run-cd
-cd-checked u s c p = enter-checked c.account s.tree p (cd-goes-on c p s)
+cd_checked : (u : Setup) (s : Store) (c : Caller) (p : Path)
+    → run_cd store u s c p ≡ (may_do c.account Enter s.tree p >>= cd_goes_on c p s)
+unfolding run_cd
+cd_checked u s c p = enter_checked c.account s.tree p (cd_goes_on c p s)
 
 module _ {b : List ℕ} {s : State} (h : Stored b s) where
   -- the header of another working directory, before the tree
-  pub directory-bytes : (uid : Uid) (p : Path) (H : List ℕ) → H ≡ header-bytes s.setup (set-directory uid p s.store.registry)
-      → H ++ drop header-width b ≡ bytes-with s.setup (moved_to uid p s.store)
+  pub directory_bytes : (uid : Uid) (p : Path) (H : List ℕ) → H ≡ header_bytes s.setup (set_directory uid p s.store.registry)
+      → H ++ drop header_width b ≡ bytes_with s.setup (moved_to uid p s.store)
   unfolding encode
-  directory-bytes uid p H e = ap₂ ◌++◌ e h.tree.bytes
+  directory_bytes uid p H e = ap₂ ◌++◌ e h.tree.bytes
 
-  module _ (c : Caller) (p : Path) {r : Walked} (same : outcome r ≡ may-do-at c.account Enter s.store.tree p) where
-    pub cd-refused : {cause : Cause} → r ≡ Refused cause
-        → Carries-silently (bytes-with s.setup) (run-cd store s.setup s.store c p) b (TheVariants.Refused cause) b
-    cd-refused e = refusal-follows b (cd-checked s.setup s.store c p ∙ decided-refused h.tree c.account Enter p same (cd-goes-on c p s.store) e)
+  module _ (c : Caller) (p : Path) {r : Walked} (same : outcome r ≡ may_do_at c.account Enter s.store.tree p) where
+    pub cd_refused : {cause : Cause} → r ≡ Refused cause
+        → CarriesSilently (bytes_with s.setup) (run_cd store s.setup s.store c p) b (TheVariants.Refused cause) b
+    cd_refused e = refusal_follows b (cd_checked s.setup s.store c p ∙ decided_refused h.tree c.account Enter p same (cd_goes_on c p s.store) e)
 
-    pub cd-carries : {row above : ℕ} → r ≡ To row above → (b' : List ℕ) → b' ≡ bytes-with s.setup (moved_to c.account.uid p s.store)
-        → Carries-silently (bytes-with s.setup) (run-cd store s.setup s.store c p) b TheVariants.Done b'
-    cd-carries e b' q = silence-follows b b' (cd-checked s.setup s.store c p ∙ decided-there h.tree c.account Enter p same (cd-goes-on c p s.store) e) q
+    pub cd_carries : {row above : ℕ} → r ≡ To row above → (b' : List ℕ) → b' ≡ bytes_with s.setup (moved_to c.account.uid p s.store)
+        → CarriesSilently (bytes_with s.setup) (run_cd store s.setup s.store c p) b TheVariants.Done b'
+    cd_carries e b' q = silence_follows b b' (cd_checked s.setup s.store c p ∙ decided_there h.tree c.account Enter p same (cd_goes_on c p s.store) e) q

@@ -4,8 +4,8 @@ use Rattle.std.proofs.Math.Option.{Option, none, some}
 use Rattle.buffers.specs.Text.{Text, every}
 use Rattle.accounts.specs.declared.Uid.{Uid}
 use Rattle.accounts.specs.declared.Gid.{Gid}
-use Rattle.accounts.specs.Dominance.{Bounded-role}
-use Rattle.syntax.specs.Number.{decimal, between, mode, set-gid}
+use Rattle.accounts.specs.Dominance.{BoundedRole}
+use Rattle.syntax.specs.Number.{decimal, between, mode, set_gid}
 use Rattle.syntax.specs.Form.{◌>>=◌, ◌>>◌, check}
 use Rattle.syntax.specs.Path.{is_name}
 
@@ -20,23 +20,23 @@ gid t = do
   some (record { 0 = n })
 
 -- a number as a role, where it is 0 to 7
-unfoldable pub bounded-by : (n : ℕ) (small : Bool) → ltb n 8 ≡ small → Option Bounded-role
-bounded-by n true e = some (record { role = record { 0 = n }; bound = e })
-bounded-by n false e = none
+unfoldable pub bounded_by : (n : ℕ) (small : Bool) → ltb n 8 ≡ small → Option BoundedRole
+bounded_by n true e = some (record { role = record { 0 = n }; bound = e })
+bounded_by n false e = none
 
-unfoldable pub bounded : ℕ → Option Bounded-role
-bounded n = bounded-by n (ltb n 8) refl
+unfoldable pub bounded : ℕ → Option BoundedRole
+bounded n = bounded_by n (ltb n 8) refl
 
-unfoldable pub role : Text → Option Bounded-role
+unfoldable pub role : Text → Option BoundedRole
 role t = do
   n ← decimal t
   bounded n
 
 -- the mode of a new file begins with 0
-unfoldable pub plain-mode : Text → Option ℕ
-plain-mode t = do
+unfoldable pub plain_mode : Text → Option ℕ
+plain_mode t = do
   m ← mode t
-  check (not (set-gid m))
+  check (not (set_gid m))
   some m
 
 unfoldable pub password : Text → Option Text
@@ -45,16 +45,16 @@ password t = do
   some t
 
 -- content is 0 to 80 bytes of 32 to 126 without comma
-abbrev pub content-limit : ℕ
-content-limit = 80
+abbrev pub content_limit : ℕ
+content_limit = 80
 
-unfoldable pub content-byte : ℕ → Bool
-content-byte b = (leb 32 b && leb b 126) && not (eqb b 44)
+unfoldable pub content_byte : ℕ → Bool
+content_byte b = (leb 32 b && leb b 126) && not (eqb b 44)
 
-unfoldable pub is-content : Text → Bool
-is-content t = every content-byte t && leb (length t) content-limit
+unfoldable pub is_content : Text → Bool
+is_content t = every content_byte t && leb (length t) content_limit
 
 unfoldable pub content : Text → Option Text
 content t = do
-  check (is-content t)
+  check (is_content t)
   some t

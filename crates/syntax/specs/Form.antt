@@ -38,17 +38,17 @@ one_of read x (s ∷ more) = do
   a ← read s
   none_of (x a) more
 
-unfoldable pub two-of : {A B X : Type 0} → (Text → Option A) → (Text → Option B) → (A → B → X) → List Text → Option X
-two-of read read' x [] = none
-two-of read read' x (s ∷ more) = do
+unfoldable pub two_of : {A B X : Type 0} → (Text → Option A) → (Text → Option B) → (A → B → X) → List Text → Option X
+two_of read read' x [] = none
+two_of read read' x (s ∷ more) = do
   a ← read s
   one_of read' (x a) more
 
-unfoldable pub three-of : {A B C X : Type 0} → (Text → Option A) → (Text → Option B) → (Text → Option C) → (A → B → C → X) → List Text → Option X
-three-of read read' read'' x [] = none
-three-of read read' read'' x (s ∷ more) = do
+unfoldable pub three_of : {A B C X : Type 0} → (Text → Option A) → (Text → Option B) → (Text → Option C) → (A → B → C → X) → List Text → Option X
+three_of read read' read'' x [] = none
+three_of read read' read'' x (s ∷ more) = do
   a ← read s
-  two-of read' read'' (x a) more
+  two_of read' read'' (x a) more
 
 -- the form with that word
 unfoldable pub by_form : {X : Type 0} → List (Form X) → Text → List Text → Option X

@@ -14,14 +14,14 @@ value_after base n [] = n
 value_after base n (d ∷ ds) = value_after base (n * base + (d - 48)) ds
 
 -- `0`, or a digit from 1 with any digits after it
-unfoldable pub no-leading-zero : Text → Bool
-no-leading-zero [] = false
-no-leading-zero (d ∷ []) = true
-no-leading-zero (d ∷ (e ∷ ds)) = not (eqb d 48)
+unfoldable pub no_leading_zero : Text → Bool
+no_leading_zero [] = false
+no_leading_zero (d ∷ []) = true
+no_leading_zero (d ∷ (e ∷ ds)) = not (eqb d 48)
 
 unfoldable pub decimal : Text → Option ℕ
 decimal t = do
-  check (every (digit 10) t && no-leading-zero t)
+  check (every (digit 10) t && no_leading_zero t)
   some (value_after 10 0 t)
 
 -- a decimal number from low to high
@@ -32,37 +32,37 @@ between low high t = do
   some n
 
 -- a mode is four octal digits, the first 0 or 2
-unfoldable pub mode-digits : Text → Bool
-mode-digits [] = false
-mode-digits (d ∷ ds) = (eqb d 48 || eqb d 50) && (every (digit 8) ds && eqb (length ds) 3)
+unfoldable pub mode_digits : Text → Bool
+mode_digits [] = false
+mode_digits (d ∷ ds) = (eqb d 48 || eqb d 50) && (every (digit 8) ds && eqb (length ds) 3)
 
 unfoldable pub mode : Text → Option ℕ
 mode t = do
-  check (mode-digits t)
+  check (mode_digits t)
   some (value_after 8 0 t)
 
 -- the first octal digit is 2
-unfoldable pub set-gid : ℕ → Bool
-set-gid m = eqb (m / 512) 2
+unfoldable pub set_gid : ℕ → Bool
+set_gid m = eqb (m / 512) 2
 
-unfoldable pub is-mode : ℕ → Bool
-is-mode m = ltb m 512 || set-gid m
+unfoldable pub is_mode : ℕ → Bool
+is_mode m = ltb m 512 || set_gid m
 
 -- the mode of four octal digits
 abbrev pub octal : ℕ → ℕ → ℕ → ℕ → ℕ
 octal a b c d = ((a * 8 + b) * 8 + c) * 8 + d
 
 -- digits in front of a text, least significant first; at most `fuel` of them
-unfoldable pub digits-before : ℕ → ℕ → Text → Text
-digits-before zero n t = t
-digits-before (suc fuel) n t =
+unfoldable pub digits_before : ℕ → ℕ → Text → Text
+digits_before zero n t = t
+digits_before (suc fuel) n t =
     let last = (48 + n % 10) ∷ t in
-    let more = digits-before fuel (n / 10) last in
+    let more = digits_before fuel (n / 10) last in
     cond (ltb n 10) last more
 
 -- a number has fewer digits than its value and one
-unfoldable pub decimal-text : ℕ → Text
-decimal-text n = digits-before (suc n) n []
+unfoldable pub decimal_text : ℕ → Text
+decimal_text n = digits_before (suc n) n []
 
-unfoldable pub mode-text : ℕ → Text
-mode-text m = (48 + m / 512) ∷ (48 + m / 64 % 8) ∷ (48 + m / 8 % 8) ∷ (48 + m % 8) ∷ []
+unfoldable pub mode_text : ℕ → Text
+mode_text m = (48 + m / 512) ∷ (48 + m / 64 % 8) ∷ (48 + m / 8 % 8) ∷ (48 + m % 8) ∷ []

@@ -10,18 +10,18 @@ use Rattle.syntax.specs.declared.Number.{Number}
 use Rattle.syntax.specs.declared.Number.TheVariants.{Value, Nothing}
 use Rattle.syntax.specs.declared.NextName.{NextName}
 use Rattle.syntax.specs.declared.NextName.TheVariants
-use Rattle.syntax.specs.Pieces.{comma, piece-length}
+use Rattle.syntax.specs.Pieces.{comma, piece_length}
 use Rattle.syntax.specs.Form.{◌>>◌, check}
 use Rattle.syntax.specs.Number.{digit}
-use Rattle.syntax.specs.Path.{name-byte}
-use Rattle.syntax.specs.Field.{content-byte}
+use Rattle.syntax.specs.Path.{name_byte}
+use Rattle.syntax.specs.Field.{content_byte}
 
 -- the bytes from one place up to another
 unfoldable pub part : Text → ℕ → ℕ → Text
 part t start end = take (end - start) (drop start t)
 
-unfoldable pub span-text : Text → Span → Text
-span-text t s = part t s.start s.end
+unfoldable pub span_text : Text → Span → Text
+span_text t s = part t s.start s.end
 
 -- a part lies inside a text
 pub record Inside (s : Span) (t : Text) : Type 0 where
@@ -29,26 +29,26 @@ pub record Inside (s : Span) (t : Text) : Type 0 where
   pub ends : s.end ≤ length t
 
 -- whether it does, as a test
-unfoldable pub span-inside : Text → Span → Bool
-span-inside t s = leb s.start s.end && leb s.end (length t)
+unfoldable pub span_inside : Text → Span → Bool
+span_inside t s = leb s.start s.end && leb s.end (length t)
 
 -- the text of a part that lies inside a text; a part that does not has none
 unfoldable pub text_in : Text → Span → Option Text
 text_in t s = do
-  check (span-inside t s)
-  some (span-text t s)
+  check (span_inside t s)
+  some (span_text t s)
 
 -- the bytes of a class
-unfoldable pub of-class : Class → ℕ → Bool
-of-class Name = name-byte
-of-class Content = content-byte
-of-class Decimal = digit 10
-of-class Octal = digit 8
+unfoldable pub of_class : Class → ℕ → Bool
+of_class Name = name_byte
+of_class Content = content_byte
+of_class Decimal = digit 10
+of_class Octal = digit 8
 
 -- the field that starts at a place
 unfoldable pub field_at : Text → ℕ → Field
 field_at t at =
-    let end = at + piece-length comma (drop at t) in
+    let end = at + piece_length comma (drop at t) in
     record { start = at; end = end; last = eqb end (length t) }
 
 unfoldable pub number_of : Number → Option ℕ
@@ -56,9 +56,9 @@ number_of (Value n) = some n
 number_of Nothing = none
 
 -- the name that starts at a place of a path, or none where the path ends before
-unfoldable pub next-name : Text → ℕ → NextName
-next-name t at =
-    let end = at + piece-length 47 (drop at t) in
+unfoldable pub next_name : Text → ℕ → NextName
+next_name t at =
+    let end = at + piece_length 47 (drop at t) in
     cond (leb (length t) at) TheVariants.End (TheVariants.Name at end (record { at = end + 1 }))
 
 -- the next name with those that are read behind it
@@ -67,19 +67,19 @@ names_of t behind (TheVariants.Name start end rest) = part t start end ∷ behin
 names_of t behind TheVariants.End = []
 
 -- the names that are read of a path from a place on, at most so many
-unfoldable pub names-read : Text → ℕ → ℕ → List Text
-names-read t at zero = []
-names-read t at (suc n) = names_of t (λ k. names-read t k n) (next-name t at)
+unfoldable pub names_read : Text → ℕ → ℕ → List Text
+names_read t at zero = []
+names_read t at (suc n) = names_of t (λ k. names_read t k n) (next_name t at)
 
 -- the names of a path text in order
 unfoldable pub path_names : Text → List Text
-path_names t = names-read t 1 (length t)
+path_names t = names_read t 1 (length t)
 
 -- where the last `/` among the first so many bytes of a text is, or 0
-unfoldable pub slash-before : Text → ℕ → ℕ
-slash-before t zero = 0
-slash-before t (suc n) = cond (eqb (get_or t n 0) 47) n (slash-before t n)
+unfoldable pub slash_before : Text → ℕ → ℕ
+slash_before t zero = 0
+slash_before t (suc n) = cond (eqb (get_or t n 0) 47) n (slash_before t n)
 
 -- where the last `/` of a text is, or 0 where there is none
-unfoldable pub last-slash : Text → ℕ
-last-slash t = slash-before t (length t)
+unfoldable pub last_slash : Text → ℕ
+last_slash t = slash_before t (length t)

@@ -17,7 +17,7 @@ pub data Path : Type 0 where
   root : Path
   ◌▹◌ : Path → Name → Path
 
-pub record Entry-path : Type 0 where
+pub record EntryPath : Type 0 where
   pub folder : Path
   pub name : Name
 
@@ -33,45 +33,45 @@ unfoldable pub depth : Path → ℕ
 depth root = 0
 depth (p ▹ n) = suc (depth p)
 
-unfoldable pub is-top : Path → Bool
-is-top root = true
-is-top (p ▹ n) = false
+unfoldable pub is_top : Path → Bool
+is_top root = true
+is_top (p ▹ n) = false
 
-unfoldable pub same-path : Path → Path → Bool
-same-path root root = true
-same-path root (q ▹ m) = false
-same-path (p ▹ n) root = false
-same-path (p ▹ n) (q ▹ m) = same_text n m && same-path p q
+unfoldable pub same_path : Path → Path → Bool
+same_path root root = true
+same_path root (q ▹ m) = false
+same_path (p ▹ n) root = false
+same_path (p ▹ n) (q ▹ m) = same_text n m && same_path p q
 
 -- whether b is a or lies below a
 unfoldable pub within : Path → Path → Bool
-within a root = same-path a root
-within a (b ▹ n) = same-path a (b ▹ n) || within a b
+within a root = same_path a root
+within a (b ▹ n) = same_path a (b ▹ n) || within a b
 
 -- whether b lies below a
-unfoldable pub lies-below : Path → Path → Bool
-lies-below a b = within a b && not (same-path a b)
+unfoldable pub lies_below : Path → Path → Bool
+lies_below a b = within a b && not (same_path a b)
 
 -- where p leads after a was moved to b: b and what p has after a, or p if it is not within a
 unfoldable pub carried : Path → Path → Path → Path
-carried a b root = cond (same-path a root) b root
-carried a b (p ▹ n) = cond (same-path a (p ▹ n)) b (carried a b p ▹ n)
+carried a b root = cond (same_path a root) b root
+carried a b (p ▹ n) = cond (same_path a (p ▹ n)) b (carried a b p ▹ n)
 
 -- the directory of the repository
 unfoldable pub rep : Name
 rep = bytes "rep"
 
 -- a path below `/rep`, from `/`
-unfoldable pub in-rep : Path → Path
-in-rep root = root ▹ rep
-in-rep (p ▹ n) = in-rep p ▹ n
+unfoldable pub in_rep : Path → Path
+in_rep root = root ▹ rep
+in_rep (p ▹ n) = in_rep p ▹ n
 
 -- the path of an entry below `/rep`, and from `/`
-unfoldable pub below-rep : Entry-path → Path
-below-rep e = e.folder ▹ e.name
+unfoldable pub below_rep : EntryPath → Path
+below_rep e = e.folder ▹ e.name
 
-unfoldable pub entry-location : Entry-path → Path
-entry-location e = in-rep e.folder ▹ e.name
+unfoldable pub entry_location : EntryPath → Path
+entry_location e = in_rep e.folder ▹ e.name
 
 unfoldable pub reserved : Path → Bool
 reserved root = true
@@ -79,55 +79,55 @@ reserved (root ▹ n) = same_text n rep
 reserved (p ▹ m ▹ n) = false
 
 -- a name is 1 to 8 bytes of a-z, 0-9, `_`
-unfoldable pub name-byte : ℕ → Bool
-name-byte b = (leb 97 b && leb b 122) || ((leb 48 b && leb b 57) || eqb b 95)
+unfoldable pub name_byte : ℕ → Bool
+name_byte b = (leb 97 b && leb b 122) || ((leb 48 b && leb b 57) || eqb b 95)
 
 unfoldable pub is_name : Text → Bool
-is_name t = every name-byte t && (leb 1 (length t) && leb (length t) 8)
+is_name t = every name_byte t && (leb 1 (length t) && leb (length t) 8)
 
-unfoldable pub most-names : ℕ
-most-names = 6
+unfoldable pub most_names : ℕ
+most_names = 6
 
-unfoldable pub has-names : Path → Bool
-has-names root = true
-has-names (p ▹ n) = has-names p && is_name n
+unfoldable pub has_names : Path → Bool
+has_names root = true
+has_names (p ▹ n) = has_names p && is_name n
 
 -- a path is `/`, or 1 to 6 names; an entry path has one to five after its `rep`
-unfoldable pub is-path : Path → Bool
-is-path p = has-names p && leb (depth p) most-names
+unfoldable pub is_path : Path → Bool
+is_path p = has_names p && leb (depth p) most_names
 
-unfoldable pub is-entry-path : Entry-path → Bool
-is-entry-path e = is-path (entry-location e)
+unfoldable pub is_entry_path : EntryPath → Bool
+is_entry_path e = is_path (entry_location e)
 
 unfoldable pub extended : Path → List Name → Path
 extended p [] = p
 extended p (n ∷ ns) = extended (p ▹ n) ns
 
 -- 1 to 6 names
-abbrev pub some-names : List Text → Option Path
-some-names ns = do
-  check (every is_name ns && (leb 1 (length ns) && leb (length ns) most-names))
+abbrev pub some_names : List Text → Option Path
+some_names ns = do
+  check (every is_name ns && (leb 1 (length ns) && leb (length ns) most_names))
   some (extended root ns)
 
 -- 1 to 6 names each after a `/`: the pieces at `/` are nothing and then the names
-unfoldable pub names-from-top : List Text → Option Path
-names-from-top [] = none
-names-from-top ((b ∷ t) ∷ ns) = none
-names-from-top ([] ∷ ns) = some-names ns
+unfoldable pub names_from_top : List Text → Option Path
+names_from_top [] = none
+names_from_top ((b ∷ t) ∷ ns) = none
+names_from_top ([] ∷ ns) = some_names ns
 
 unfoldable pub path : Text → Option Path
-path t = cond (same_text t (bytes "/")) (some root) (names-from-top (pieces 47 t))
+path t = cond (same_text t (bytes "/")) (some root) (names_from_top (pieces 47 t))
 
 -- a path as it is typed: from `/`, or one to six names that follow the working directory
-pub data Typed-path : Type 0 where
-  whole short : Path → Typed-path
+pub data TypedPath : Type 0 where
+  whole short : Path → TypedPath
 
-unfoldable pub begins-with-slash : Text → Bool
-begins-with-slash [] = false
-begins-with-slash (b ∷ t) = eqb b 47
+unfoldable pub begins_with_slash : Text → Bool
+begins_with_slash [] = false
+begins_with_slash (b ∷ t) = eqb b 47
 
-unfoldable pub typed-path : Text → Option Typed-path
-typed-path t = cond (begins-with-slash t) (path t >>= λ p. some (whole p)) (some-names (pieces 47 t) >>= λ p. some (short p))
+unfoldable pub typed_path : Text → Option TypedPath
+typed_path t = cond (begins_with_slash t) (path t >>= λ p. some (whole p)) (some_names (pieces 47 t) >>= λ p. some (short p))
 
 -- the path p behind the path q
 unfoldable pub follows : Path → Path → Path
@@ -135,43 +135,43 @@ follows q root = q
 follows q (p ▹ n) = follows q p ▹ n
 
 -- its names are those of a path
-unfoldable pub is-typed-path : Typed-path → Bool
-is-typed-path (whole p) = is-path p
-is-typed-path (short p) = is-path p
+unfoldable pub is_typed_path : TypedPath → Bool
+is_typed_path (whole p) = is_path p
+is_typed_path (short p) = is_path p
 
 -- an entry path has at least two names, the first `rep`
-unfoldable pub without-rep : Path → Option Path
-without-rep root = none
-without-rep (root ▹ n) = do
+unfoldable pub without_rep : Path → Option Path
+without_rep root = none
+without_rep (root ▹ n) = do
   check (same_text n rep)
   some root
-without-rep (p ▹ m ▹ n) = do
-  q ← without-rep (p ▹ m)
+without_rep (p ▹ m ▹ n) = do
+  q ← without_rep (p ▹ m)
   some (q ▹ n)
 
-unfoldable pub entry_at : Path → Option Entry-path
+unfoldable pub entry_at : Path → Option EntryPath
 entry_at root = none
 entry_at (p ▹ n) = do
-  folder ← without-rep p
+  folder ← without_rep p
   some (record { folder = folder; name = n })
 
-unfoldable pub entry-path : Text → Option Entry-path
-entry-path t = do
+unfoldable pub entry_path : Text → Option EntryPath
+entry_path t = do
   p ← path t
   entry_at p
 
 -- the text of a path
-unfoldable pub names-text : Path → Text
-names-text root = []
-names-text (p ▹ n) = names-text p ++ (47 ∷ n)
+unfoldable pub names_text : Path → Text
+names_text root = []
+names_text (p ▹ n) = names_text p ++ (47 ∷ n)
 
-unfoldable pub path-text : Path → Text
-path-text root = bytes "/"
-path-text (p ▹ n) = names-text (p ▹ n)
+unfoldable pub path_text : Path → Text
+path_text root = bytes "/"
+path_text (p ▹ n) = names_text (p ▹ n)
 
-unfoldable pub entry-text : Entry-path → Text
-entry-text e = path-text (entry-location e)
+unfoldable pub entry_text : EntryPath → Text
+entry_text e = path_text (entry_location e)
 
 -- six names, the first of which is `rep`
-abbrev pub longest-entry-text : ℕ
-longest-entry-text = 49
+abbrev pub longest_entry_text : ℕ
+longest_entry_text = 49

@@ -15,14 +15,14 @@ comma = 44
 unfoldable pub newline : ℕ
 newline = 10
 
-unfoldable pub prefix-first : ℕ → List Text → List Text
-prefix-first b [] = (b ∷ []) ∷ []
-prefix-first b (p ∷ ps) = (b ∷ p) ∷ ps
+unfoldable pub prefix_first : ℕ → List Text → List Text
+prefix_first b [] = (b ∷ []) ∷ []
+prefix_first b (p ∷ ps) = (b ∷ p) ∷ ps
 
 -- the pieces of a text between the separators: one more than there are separators
 unfoldable pub pieces : ℕ → Text → List Text
 pieces separator [] = [] ∷ []
-pieces separator (b ∷ t) = let rest = pieces separator t in cond (eqb b separator) ([] ∷ rest) (prefix-first b rest)
+pieces separator (b ∷ t) = let rest = pieces separator t in cond (eqb b separator) ([] ∷ rest) (prefix_first b rest)
 
 -- the pieces with the separator between each two
 unfoldable pub joined : ℕ → List Text → Text
@@ -31,6 +31,6 @@ joined separator (p ∷ []) = p
 joined separator (p ∷ (q ∷ ps)) = p ++ (separator ∷ joined separator (q ∷ ps))
 
 -- how many bytes come before the first separator, or all
-unfoldable pub piece-length : ℕ → Text → ℕ
-piece-length separator [] = 0
-piece-length separator (b ∷ t) = cond (eqb b separator) 0 (suc (piece-length separator t))
+unfoldable pub piece_length : ℕ → Text → ℕ
+piece_length separator [] = 0
+piece_length separator (b ∷ t) = cond (eqb b separator) 0 (suc (piece_length separator t))

@@ -2,7 +2,7 @@
 // a decimal of more than four digits is refused unread; the unbounded definition is proved to say the same.
 ghost use Rattle.std.specs.Prelude.{◌≡◌, true, ◌≤◌, ◌<◌, length};
 ghost use Rattle.buffers.specs.Text.{every};
-ghost use Rattle.syntax.specs.Number.{digit, value_after, no-leading-zero, between as between-of, mode as Mode-of, set-gid};
+ghost use Rattle.syntax.specs.Number.{digit, value_after, no_leading_zero, between as between_of, mode as mode_of, set_gid};
 ghost use Rattle.syntax.specs.Parts.{number_of};
 
 use crate::text::all_of;
@@ -27,7 +27,7 @@ fn value(s: &[u8], base: u16) -> u16
 
 // Whether a text is one byte, or longer without a zero in front.
 fn no_leading_zero(s: &[u8]) -> bool
-    ensures { result ≡ no-leading-zero s.now }
+    ensures { result ≡ no_leading_zero s.now }
 {
     if s.len() == 0 {
         return false;
@@ -41,7 +41,7 @@ fn no_leading_zero(s: &[u8]) -> bool
 // A decimal number from low to high.
 pub fn between(s: &[u8], low: u16, high: u16) -> Number
     requires { high < 10000 }
-    ensures { number_of result ≡ between-of low high s.now }
+    ensures { number_of result ≡ between_of low high s.now }
 {
     if 4 < s.len() {
         return Number::Nothing;
@@ -64,7 +64,7 @@ pub fn between(s: &[u8], low: u16, high: u16) -> Number
 
 // A mode: four octal digits, the first 0 or 2.
 pub fn mode(s: &[u8]) -> Number
-    ensures { number_of result ≡ Mode-of s.now }
+    ensures { number_of result ≡ mode_of s.now }
 {
     if s.len() != 4 {
         return Number::Nothing;
@@ -82,7 +82,7 @@ pub fn mode(s: &[u8]) -> Number
 
 // Whether a mode has set-gid: its first octal digit is 2.
 pub fn has_set_gid(mode: u16) -> bool
-    ensures { result ≡ set-gid mode }
+    ensures { result ≡ set_gid mode }
 {
     mode / 512 == 2
 }

@@ -1,9 +1,9 @@
 // Parts of a text: read by their places, so that who reads several slices none.
 ghost use Rattle.std.specs.Prelude.{◌≡◌, ◌<◌};
 ghost use Rattle.buffers.specs.Text.{same_text};
-ghost use Rattle.syntax.specs.Number.{between as between-of};
+ghost use Rattle.syntax.specs.Number.{between as between_of};
 ghost use Rattle.syntax.specs.Path.{is_name};
-ghost use Rattle.syntax.specs.Parts.{Inside, span-text, number_of};
+ghost use Rattle.syntax.specs.Parts.{Inside, span_text, number_of};
 
 use crate::numerals::between;
 use crate::text::is_name;
@@ -13,7 +13,7 @@ use buffers::same;
 // Whether a part is that word.
 pub fn word_is(text: &[u8], s: Span, word: &[u8]) -> bool
     requires { Inside s text.now }
-    ensures { result ≡ same_text (span-text text.now s) word.now }
+    ensures { result ≡ same_text (span_text text.now s) word.now }
 {
     let start = s.start;
     let end = s.end;
@@ -23,7 +23,7 @@ pub fn word_is(text: &[u8], s: Span, word: &[u8]) -> bool
 // Whether a part is a name or password.
 pub fn name_at(text: &[u8], s: Span) -> bool
     requires { Inside s text.now }
-    ensures { result ≡ is_name (span-text text.now s) }
+    ensures { result ≡ is_name (span_text text.now s) }
 {
     let start = s.start;
     let end = s.end;
@@ -34,7 +34,7 @@ pub fn name_at(text: &[u8], s: Span) -> bool
 pub fn number_at(text: &[u8], s: Span, low: u16, high: u16) -> Number
     requires inside { Inside s text.now }
     requires high_bound { high < 10000 }
-    ensures { number_of result ≡ between-of low high (span-text text.now s) }
+    ensures { number_of result ≡ between_of low high (span_text text.now s) }
 {
     let start = s.start;
     let end = s.end;

@@ -2,8 +2,8 @@
 ghost use Rattle.std.specs.Prelude.{◌≡◌, ◌≤◌, length, drop};
 ghost use Rattle.syntax.specs.Pieces.{pieces};
 ghost use Rattle.syntax.specs.Form.{is_some};
-ghost use Rattle.syntax.specs.Path.{some-names, path, typed-path, entry-path};
-ghost use Rattle.syntax.specs.Parts.{next-name, last-slash};
+ghost use Rattle.syntax.specs.Path.{some_names, path, typed_path, entry_path};
+ghost use Rattle.syntax.specs.Parts.{next_name, last_slash};
 
 use crate::text::{is_name, piece_end};
 use crate::{MOST_NAMES, Names, NextName};
@@ -12,7 +12,7 @@ use buffers::same;
 // Whether a text from a place on is 1 to 6 names parted by `/`.
 fn are_names(s: &[u8], from: usize) -> bool
     requires { from ≤ length s.now }
-    ensures { result ≡ is_some (some-names (pieces 47 (drop from s.now))) }
+    ensures { result ≡ is_some (some_names (pieces 47 (drop from s.now))) }
 {
     let mut at = from;
     let mut count: usize = 0;
@@ -50,7 +50,7 @@ pub fn is_path(s: &[u8]) -> bool
 
 // Whether a text is a path as it is typed: from `/`, or from the working directory.
 pub fn is_typed_path(s: &[u8]) -> bool
-    ensures { result ≡ is_some (typed-path s.now) }
+    ensures { result ≡ is_some (typed_path s.now) }
 {
     if s.len() == 0 {
         return false;
@@ -63,7 +63,7 @@ pub fn is_typed_path(s: &[u8]) -> bool
 
 // Whether a text is an entry path: a path of at least two names, the first `rep`.
 pub fn is_entry_path(s: &[u8]) -> bool
-    ensures { result ≡ is_some (entry-path s.now) }
+    ensures { result ≡ is_some (entry_path s.now) }
 {
     if s.len() < 6 {
         return false;
@@ -76,7 +76,7 @@ pub fn is_entry_path(s: &[u8]) -> bool
 
 // Where the last `/` of a text is, or 0 where there is none.
 pub fn last_slash(path: &[u8]) -> usize
-    ensures { (result ≡ last-slash path.now) × (result ≤ length path.now) }
+    ensures { (result ≡ last_slash path.now) × (result ≤ length path.now) }
 {
     let mut i = path.len();
     while 0 < i {
@@ -98,7 +98,7 @@ impl Names {
 
     // The next name.
     pub fn next(self, path: &[u8]) -> NextName
-        ensures { result ≡ next-name path.now self.at }
+        ensures { result ≡ next_name path.now self.at }
     {
         let at = self.at;
         if path.len() <= at {

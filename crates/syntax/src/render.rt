@@ -2,14 +2,14 @@
 // its digits alone: the wrong line of a setup may be any number, those of a listing are small.
 ghost use Rattle.std.specs.Prelude.{◌+◌, ◌≤◌, length};
 ghost use Rattle.buffers.specs.Over.{Wrote};
-ghost use Rattle.syntax.specs.Number.{decimal-text, mode-text};
+ghost use Rattle.syntax.specs.Number.{decimal_text, mode_text};
 
 use buffers::write_four;
 
 // Writes a number as decimal digits without leading zeros: all digits but the last, then the last behind them.
 pub fn write_decimal(b: &mut [u8], at: usize, n: usize) -> usize
-    requires { at + length (decimal-text n) ≤ length b.old }
-    ensures { Wrote (decimal-text n) b.old at b.new result }
+    requires { at + length (decimal_text n) ≤ length b.old }
+    ensures { Wrote (decimal_text n) b.old at b.new result }
 {
     if n < 10 {
         b[at] = 48 + n as u8;
@@ -23,7 +23,7 @@ pub fn write_decimal(b: &mut [u8], at: usize, n: usize) -> usize
 // Writes a mode as its four octal digits.
 pub fn write_mode(b: &mut [u8], at: usize, mode: u16) -> usize
     requires { at + 4 ≤ length b.old }
-    ensures { Wrote (mode-text mode) b.old at b.new result }
+    ensures { Wrote (mode_text mode) b.old at b.new result }
 {
     let first = 48 + (mode / 512) as u8;
     let second = 48 + (mode / 64 % 8) as u8;

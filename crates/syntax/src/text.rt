@@ -1,10 +1,10 @@
 // Texts: cut at a byte, and tested byte by byte.
 ghost use Rattle.std.specs.Prelude.{◌≡◌, ◌&&◌, ◌+◌, ◌≤◌, leb, length, drop};
 ghost use Rattle.buffers.specs.Text.{every};
-ghost use Rattle.syntax.specs.Pieces.{piece-length};
-ghost use Rattle.syntax.specs.Path.{name-byte, is_name};
-ghost use Rattle.syntax.specs.Field.{content-byte, is-content};
-ghost use Rattle.syntax.specs.Parts.{of-class, field_at};
+ghost use Rattle.syntax.specs.Pieces.{piece_length};
+ghost use Rattle.syntax.specs.Path.{name_byte, is_name};
+ghost use Rattle.syntax.specs.Field.{content_byte, is_content};
+ghost use Rattle.syntax.specs.Parts.{of_class, field_at};
 
 use crate::{CONTENT_LIMIT, Class, Field, Span};
 
@@ -20,7 +20,7 @@ fn within(b: u8, low: u8, high: u8) -> bool
 
 // Whether a byte is a-z, 0-9 or `_`.
 fn is_name_byte(b: u8) -> bool
-    ensures { result ≡ name-byte b }
+    ensures { result ≡ name_byte b }
 {
     if within(b, 97, 122) {
         return true;
@@ -33,7 +33,7 @@ fn is_name_byte(b: u8) -> bool
 
 // Whether a byte is one of 32 to 126 without comma.
 fn is_content_byte(b: u8) -> bool
-    ensures { result ≡ content-byte b }
+    ensures { result ≡ content_byte b }
 {
     if b == 44 {
         return false;
@@ -43,7 +43,7 @@ fn is_content_byte(b: u8) -> bool
 
 // Whether a byte is of a class.
 fn in_class(b: u8, class: Class) -> bool
-    ensures { result ≡ of-class class b }
+    ensures { result ≡ of_class class b }
 {
     match class {
         Class::Name => is_name_byte(b),
@@ -55,7 +55,7 @@ fn in_class(b: u8, class: Class) -> bool
 
 // Whether every byte is of a class.
 pub fn all_of(s: &[u8], class: Class) -> bool
-    ensures { result ≡ every (of-class class) s.now }
+    ensures { result ≡ every (of_class class) s.now }
 {
     let mut i = 0;
     while i < s.len() {
@@ -70,7 +70,7 @@ pub fn all_of(s: &[u8], class: Class) -> bool
 // Where the piece that starts at a place ends: at the separator, or where the text ends.
 pub fn piece_end(s: &[u8], at: usize, separator: u8) -> usize
     requires { at ≤ length s.now }
-    ensures { (result ≡ at + piece-length separator (drop at s.now)) × (result ≤ length s.now) }
+    ensures { (result ≡ at + piece_length separator (drop at s.now)) × (result ≤ length s.now) }
 {
     bytes::scan::find(s, at, s.len(), separator)
 }
@@ -115,7 +115,7 @@ pub fn is_name(s: &[u8]) -> bool
 
 // Whether a text is a content: no more bytes than its limit, of 32 to 126 without comma.
 pub fn is_content(s: &[u8]) -> bool
-    ensures { result ≡ is-content s.now }
+    ensures { result ≡ is_content s.now }
 {
     if CONTENT_LIMIT < s.len() {
         return false;

@@ -18,9 +18,9 @@ done_first (refusal why) e = not_done e
 done_first (both {x = x} {y = y} r) {x = v} e = let q : v ≡ x = cc in (y, refl, rw q r)
 
 -- and the other way round
-pub done-second : {X Y : Type 0} {R : X → Y → Type 0} {a : Result X} {b : Result Y} → Agree R a b → {y : Y} → b ≡ done y → (x : X) × (a ≡ done x) × R x y
-done-second (refusal why) e = not_done e
-done-second (both {x = x} {y = y} r) {y = v} e = let q : v ≡ y = cc in (x, refl, rw q r)
+pub done_second : {X Y : Type 0} {R : X → Y → Type 0} {a : Result X} {b : Result Y} → Agree R a b → {y : Y} → b ≡ done y → (x : X) × (a ≡ done x) × R x y
+done_second (refusal why) e = not_done e
+done_second (both {x = x} {y = y} r) {y = v} e = let q : v ≡ y = cc in (x, refl, rw q r)
 
 -- steps that agree, each followed by steps that agree on what is related
 pub bind : {X Y C D : Type 0} {R : X → Y → Type 0} {Q : C → D → Type 0} {a : Result X} {b : Result Y} {f : X → Result C} {g : Y → Result D}
@@ -37,20 +37,20 @@ module _ {C D : Type 0} {Q : C → D → Type 0} where
   each (refused why) k = refusal why
   each (done x) k = k x refl
 
-  check-one : {v : Result C} {w : Result D} (why : Cause) (a : Bool) → (a ≡ true → Agree Q v w) → Agree Q (require a why >> v) (require a why >> w)
+  check_one : {v : Result C} {w : Result D} (why : Cause) (a : Bool) → (a ≡ true → Agree Q v w) → Agree Q (require a why >> v) (require a why >> w)
   unfolding ◌>>◌ require
-  check-one why true k = k refl
-  check-one why false k = refusal why
+  check_one why true k = k refl
+  check_one why false k = refusal why
 
   -- a test that comes to the same on both sides
   pub check : {v : Result C} {w : Result D} {a b : Bool} (why : Cause) → a ≡ b → (a ≡ true → Agree Q v w) → Agree Q (require a why >> v) (require b why >> w)
-  check {a} why e k = rw (← e) (check-one why a k)
+  check {a} why e k = rw (← e) (check_one why a k)
 
-  guard-one : {v : Result C} {w : Result D} (a : Result (Unit {0})) → (a ≡ done tt → Agree Q v w) → Agree Q (a >> v) (a >> w)
+  guard_one : {v : Result C} {w : Result D} (a : Result (Unit {0})) → (a ≡ done tt → Agree Q v w) → Agree Q (a >> v) (a >> w)
   unfolding ◌>>◌
-  guard-one (refused why) k = refusal why
-  guard-one (done u) k = k refl
+  guard_one (refused why) k = refusal why
+  guard_one (done u) k = k refl
 
   -- a check that comes to the same on both sides
   pub guard : {v : Result C} {w : Result D} {a b : Result (Unit {0})} → a ≡ b → (a ≡ done tt → Agree Q v w) → Agree Q (a >> v) (b >> w)
-  guard {a} e k = rw (← e) (guard-one a k)
+  guard {a} e k = rw (← e) (guard_one a k)

@@ -15,23 +15,23 @@ use Rattle.std.proofs.Math.Option.{Option, none, some, map}
 use Prim.Native.Nat.{ℕ, suc}
 use Rattle.buffers.specs.Cases.{case}
 use Rattle.buffers.specs.Text.{same_text, precedes}
-use Rattle.buffers.specs.TextLaws.{same-text-sound}
-use Rattle.syntax.specs.Path.{Name, Path, root, ◌▹◌, same-path, extended}
-use Rattle.syntax.specs.PathLaws.{names-from-root}
-use Rattle.syntax.specs.WithinLaws.{Lies, itself, deeper, same-path-sound}
+use Rattle.buffers.specs.TextLaws.{same_text_sound}
+use Rattle.syntax.specs.Path.{Name, Path, root, ◌▹◌, same_path, extended}
+use Rattle.syntax.specs.PathLaws.{names_from_root}
+use Rattle.syntax.specs.WithinLaws.{Lies, itself, deeper, same_path_sound}
 use Rattle.syntax.specs.FormLaws.{no_answer, answered}
-use Rattle.tree.specs.Forest.{Forest, nil, node, Place, get, insert, at, under, update, place_at, alter, put, size, map-forest, map-place}
-use Rattle.tree.specs.ForestLaws.{get-map, size-map, under-map, at_map, at_at, at-twice, differ-sym}
+use Rattle.tree.specs.Forest.{Forest, nil, node, Place, get, insert, at, under, update, place_at, alter, put, size, map_forest, map_place}
+use Rattle.tree.specs.ForestLaws.{get_map, size_map, under_map, at_map, at_at, at_twice, differ_sym}
 use Rattle.tree.specs.Node.{Node}
-use Rattle.tree.specs.WellFormed.{nodes, is-node}
-use Rattle.tree.specs.UpdateLaws.{by-option, update_same, update-none}
-use Rattle.tree.specs.ChangeLaws.{alter-at}
+use Rattle.tree.specs.WellFormed.{nodes, is_node}
+use Rattle.tree.specs.UpdateLaws.{by_option, update_same, update_none}
+use Rattle.tree.specs.ChangeLaws.{alter_at}
 use Rattle.tree.specs.OtherPathLaws.{none_below}
-use Rattle.tree.specs.MapLaws.{map-nil, map-here, map_below}
-use Rattle.tree.specs.HoldsLaws.{holds-altered, holds-alter, place_map}
-use Rattle.tree.specs.RowPlaces.{ahead, children-of, index_of, lesser}
-use Rattle.tree.specs.RowPlacesLaws.{update-at}
-use Rattle.tree.specs.Encoding.{encode-tree}
+use Rattle.tree.specs.MapLaws.{map_nil, map_here, map_below}
+use Rattle.tree.specs.HoldsLaws.{holds_altered, holds_alter, place_map}
+use Rattle.tree.specs.RowPlaces.{ahead, children_of, index_of, lesser}
+use Rattle.tree.specs.RowPlacesLaws.{update_at}
+use Rattle.tree.specs.Encoding.{encode_tree}
 use Rattle.tree.specs.TreeBytes.{At}
 use Rattle.tree.specs.TreeBytesLaws.{encodes}
 
@@ -44,88 +44,88 @@ module _ {A : Type 0} where
   update_twice root f g t = refl
   update_twice (p ▹ n) f g t =
       update_twice p (under (at n f)) (under (at n g)) t
-      ∙ ap (λ (h : Place A → Place A). update p h t) (λ i d. record { here = d.here; below = at-twice n f g d.below i })
+      ∙ ap (λ (h : Place A → Place A). update p h t) (λ i d. record { here = d.here; below = at_twice n f g d.below i })
 
   -- and so are two alterations
-  pub alter-twice : (p : Path) (f g : A → A) (t : Place A) → update p (alter f) (update p (alter g) t) ≡ update p (alter (λ x. f (g x))) t
+  pub alter_twice : (p : Path) (f g : A → A) (t : Place A) → update p (alter f) (update p (alter g) t) ≡ update p (alter (λ x. f (g x))) t
   unfolding alter
-  alter-twice p f g t = update_twice p (alter f) (alter g) t
+  alter_twice p f g t = update_twice p (alter f) (alter g) t
 
   -- alterations that come to the same at the place are one
-  pub alter-alike : (t : Place A) (p : Path) (d : Place A) (f g : A → A) → place_at t p ≡ some d → f d.here ≡ g d.here
+  pub alter_alike : (t : Place A) (p : Path) (d : Place A) (f g : A → A) → place_at t p ≡ some d → f d.here ≡ g d.here
       → update p (alter f) t ≡ update p (alter g) t
   unfolding alter
-  alter-alike t p d f g e q =
-      update-at t p (alter f) d e
+  alter_alike t p d f g e q =
+      update_at t p (alter f) d e
       ∙ ap (λ (x : A). update p (λ y. record { here = x; below = d.below }) t) q
-      ∙ sym (update-at t p (alter g) d e)
+      ∙ sym (update_at t p (alter g) d e)
 
 -- ---- what a map keeps of every payload
 
 module _ {A B : Type 0} (g : A → B) where
-  ahead-map : (n : Name) (F : Forest A) → ahead n (map-forest g F) ≡ map-forest g (ahead n F)
-  unfolding ahead map-forest
-  ahead-map n nil = refl
-  ahead-map n (node m x cs rest) = case (same_text n m) (λ e. rw e) (λ e. rw e (rw (ahead-map n rest)))
+  ahead_map : (n : Name) (F : Forest A) → ahead n (map_forest g F) ≡ map_forest g (ahead n F)
+  unfolding ahead map_forest
+  ahead_map n nil = refl
+  ahead_map n (node m x cs rest) = case (same_text n m) (λ e. rw e) (λ e. rw e (rw (ahead_map n rest)))
 
-  lesser-map : (n : Name) (F : Forest A) → lesser n (map-forest g F) ≡ map-forest g (lesser n F)
-  unfolding lesser map-forest
-  lesser-map n nil = refl
-  lesser-map n (node m x cs rest) = case (precedes m n) (λ e. rw e (rw (lesser-map n rest))) (λ e. rw e)
+  lesser_map : (n : Name) (F : Forest A) → lesser n (map_forest g F) ≡ map_forest g (lesser n F)
+  unfolding lesser map_forest
+  lesser_map n nil = refl
+  lesser_map n (node m x cs rest) = case (precedes m n) (λ e. rw e (rw (lesser_map n rest))) (λ e. rw e)
 
-  children-map : (o : Option (Place A)) → children-of (map (map-place g) o) ≡ map-forest g (children-of o)
-  unfolding children-of
-  children-map none = sym (map-nil g)
-  children-map (some d) = map_below g d
+  children_map : (o : Option (Place A)) → children_of (map (map_place g) o) ≡ map_forest g (children_of o)
+  unfolding children_of
+  children_map none = sym (map_nil g)
+  children_map (some d) = map_below g d
 
   -- rows stand where they stood
-  pub index-map : (t : Place A) (p : Path) → index_of (map-place g t) p ≡ index_of t p
+  pub index_map : (t : Place A) (p : Path) → index_of (map_place g t) p ≡ index_of t p
   unfolding index_of
-  index-map t root = refl
-  index-map t (p ▹ n) =
-      rw (index-map t p, place_map g t p, children-map (place_at t p), ahead-map n (children-of (place_at t p)), size-map g (ahead n (children-of (place_at t p))))
+  index_map t root = refl
+  index_map t (p ▹ n) =
+      rw (index_map t p, place_map g t p, children_map (place_at t p), ahead_map n (children_of (place_at t p)), size_map g (ahead n (children_of (place_at t p))))
 
   -- a change goes through
-  update-map : (f : Place B → Place B) (k : Place A → Place A) → ((d : Place A) → f (map-place g d) ≡ map-place g (k d))
-      → (p : Path) (t : Place A) → update p f (map-place g t) ≡ map-place g (update p k t)
+  update_map : (f : Place B → Place B) (k : Place A → Place A) → ((d : Place A) → f (map_place g d) ≡ map_place g (k d))
+      → (p : Path) (t : Place A) → update p f (map_place g t) ≡ map_place g (update p k t)
   unfolding update
-  update-map f k e root t = e t
-  update-map f k e (p ▹ n) t = update-map (under (at n f)) (under (at n k)) (under-map g (at n f) (at n k) (at_map g f k e n)) p t
+  update_map f k e root t = e t
+  update_map f k e (p ▹ n) t = update_map (under (at n f)) (under (at n k)) (under_map g (at n f) (at n k) (at_map g f k e n)) p t
 
-update-id : {A : Type 0} (p : Path) (t : Place A) → update p (λ d. d) t ≡ t
-update-id p t = by-option (place_at t p) (λ e. update-none t p (λ d. d) e) (λ d e. update_same t p (λ d. d) d e refl)
+update_id : {A : Type 0} (p : Path) (t : Place A) → update p (λ d. d) t ≡ t
+update_id p t = by_option (place_at t p) (λ e. update_none t p (λ d. d) e) (λ d e. update_same t p (λ d. d) d e refl)
 
 module _ {A B : Type 0} (keep : A → B) where
   -- an alteration that leaves what is kept of a payload leaves it of the tree
-  pub map-altered : (g : A → A) → ((x : A) → keep (g x) ≡ keep x) → (p : Path) (t : Place A) → map-place keep (update p (alter g) t) ≡ map-place keep t
-  unfolding alter map-place
-  map-altered g e p t = sym (update-map keep (λ d. d) (alter g) (λ d. rw (e d.here)) p t) ∙ update-id p (map-place keep t)
+  pub map_altered : (g : A → A) → ((x : A) → keep (g x) ≡ keep x) → (p : Path) (t : Place A) → map_place keep (update p (alter g) t) ≡ map_place keep t
+  unfolding alter map_place
+  map_altered g e p t = sym (update_map keep (λ d. d) (alter g) (λ d. rw (e d.here)) p t) ∙ update_id p (map_place keep t)
 
-  module _ (d e : Place A) (s : map-place keep d ≡ map-place keep e) where
+  module _ (d e : Place A) (s : map_place keep d ≡ map_place keep e) where
     -- places of which the same is kept have their rows alike
     pub index_kept : (q : Path) → index_of d q ≡ index_of e q
-    index_kept q = sym (index-map keep d q) ∙ ap (λ (x : Place B). index_of x q) s ∙ index-map keep e q
+    index_kept q = sym (index_map keep d q) ∙ ap (λ (x : Place B). index_of x q) s ∙ index_map keep e q
 
     -- a place for a place
-    place_kept : (q : Path) (x : Place A) → place_at e q ≡ some x → (y : Place A) × (place_at d q ≡ some y) × (map-place keep y ≡ map-place keep x)
+    place_kept : (q : Path) (x : Place A) → place_at e q ≡ some x → (y : Place A) × (place_at d q ≡ some y) × (map_place keep y ≡ map_place keep x)
     place_kept q x there =
-        let both : map (map-place keep) (place_at d q) ≡ some (map-place keep x) =
-        sym (place_map keep d q) ∙ ap (λ (y : Place B). place_at y q) s ∙ place_map keep e q ∙ ap (map (map-place keep)) there in
-        by-option (place_at d q)
-        (λ z. let i : none ≡ some (map-place keep x) = rw z at both in no_answer i)
-        (λ y z. let i : some (map-place keep y) ≡ some (map-place keep x) = rw z at both in (y, z, sym (answered i)))
+        let both : map (map_place keep) (place_at d q) ≡ some (map_place keep x) =
+        sym (place_map keep d q) ∙ ap (λ (y : Place B). place_at y q) s ∙ place_map keep e q ∙ ap (map (map_place keep)) there in
+        by_option (place_at d q)
+        (λ z. let i : none ≡ some (map_place keep x) = rw z at both in no_answer i)
+        (λ y z. let i : some (map_place keep y) ≡ some (map_place keep x) = rw z at both in (y, z, sym (answered i)))
 
     -- the same of the payload
-    pub here-kept : keep d.here ≡ keep e.here
-    here-kept = sym (map-here keep d) ∙ ap (λ (x : Place B). x.here) s ∙ map-here keep e
+    pub here_kept : keep d.here ≡ keep e.here
+    here_kept = sym (map_here keep d) ∙ ap (λ (x : Place B). x.here) s ∙ map_here keep e
 
     -- the same below
-    pub below-kept : map-forest keep d.below ≡ map-forest keep e.below
-    below-kept = sym (map_below keep d) ∙ ap (λ (x : Place B). x.below) s ∙ map_below keep e
+    pub below_kept : map_forest keep d.below ≡ map_forest keep e.below
+    below_kept = sym (map_below keep d) ∙ ap (λ (x : Place B). x.below) s ∙ map_below keep e
 
     -- and as many nodes there
-    pub size-kept : size d.below ≡ size e.below
-    size-kept = sym (size-map keep d.below) ∙ ap size below-kept ∙ size-map keep e.below
+    pub size_kept : size d.below ≡ size e.below
+    size_kept = sym (size_map keep d.below) ∙ ap size below_kept ∙ size_map keep e.below
 
 -- ---- the shape of a tree
 
@@ -135,82 +135,82 @@ blank x = tt
 
 -- a tree without its payloads
 abbrev pub bare : {A : Type 0} → Place A → Place (Unit {0})
-bare d = map-place blank d
+bare d = map_place blank d
 
 module _ {A : Type 0} where
   -- a payload altered leaves it
-  pub bare-altered : (p : Path) (g : A → A) (t : Place A) → bare (update p (alter g) t) ≡ bare t
-  bare-altered p g t = map-altered blank g (λ x. refl) p t
+  pub bare_altered : (p : Path) (g : A → A) (t : Place A) → bare (update p (alter g) t) ≡ bare t
+  bare_altered p g t = map_altered blank g (λ x. refl) p t
 
   module _ (d e : Place A) (s : bare d ≡ bare e) where
     -- as many nodes
-    pub nodes-bare : nodes d ≡ nodes e
+    pub nodes_bare : nodes d ≡ nodes e
     unfolding nodes
-    nodes-bare = ap suc (size-kept blank d e s)
+    nodes_bare = ap suc (size_kept blank d e s)
 
     -- as many before a name
-    pub lesser-bare : (n : Name) → size (lesser n d.below) ≡ size (lesser n e.below)
-    lesser-bare n =
-        sym (size-map blank (lesser n d.below)) ∙ ap size (sym (lesser-map blank n d.below) ∙ ap (lesser n) (below-kept blank d e s) ∙ lesser-map blank n e.below)
-        ∙ size-map blank (lesser n e.below)
+    pub lesser_bare : (n : Name) → size (lesser n d.below) ≡ size (lesser n e.below)
+    lesser_bare n =
+        sym (size_map blank (lesser n d.below)) ∙ ap size (sym (lesser_map blank n d.below) ∙ ap (lesser n) (below_kept blank d e s) ∙ lesser_map blank n e.below)
+        ∙ size_map blank (lesser n e.below)
 
     -- and the same names unused
-    pub unused-bare : (n : Name) → get n e.below ≡ none → get n d.below ≡ none
-    unused-bare n free =
-        let both : map (map-place blank) (get n d.below) ≡ none =
-        sym (get-map blank n d.below) ∙ ap (get n) (below-kept blank d e s) ∙ get-map blank n e.below ∙ ap (map (map-place blank)) free in
-        by-option (get n d.below) (λ z. z) (λ y z. let i : some (map-place blank y) ≡ none = rw z at both in no_answer (sym i))
+    pub unused_bare : (n : Name) → get n e.below ≡ none → get n d.below ≡ none
+    unused_bare n free =
+        let both : map (map_place blank) (get n d.below) ≡ none =
+        sym (get_map blank n d.below) ∙ ap (get n) (below_kept blank d e s) ∙ get_map blank n e.below ∙ ap (map (map_place blank)) free in
+        by_option (get n d.below) (λ z. z) (λ y z. let i : some (map_place blank y) ≡ none = rw z at both in no_answer (sym i))
 
 -- ---- the row of a place after a payload was altered
 
 -- row i is that of the place at q still, which has the shape of d; its payload is altered if q is where that was done
-pub record Altered-place (b : List ℕ) (p : Path) (g : Node → Node) (t : Place Node) (q : Path) (i : ℕ) (d : Place Node) : Type 0 where
+pub record AlteredPlace (b : List ℕ) (p : Path) (g : Node → Node) (t : Place Node) (q : Path) (i : ℕ) (d : Place Node) : Type 0 where
   pub place : Place Node
   pub at : At b (update p (alter g) t) q i place
   pub shape : bare place ≡ bare d
-  pub here : place.here ≡ cond (same-path q p) (g d.here) d.here
+  pub here : place.here ≡ cond (same_path q p) (g d.here) d.here
 
 module _ {b : List ℕ} {t : Place Node} {q : Path} {i : ℕ} {d : Place Node} (a : At b t q i d) where
-  altered-here : (p : Path) (g : Node → Node) (c : Place Node) → place_at (update p (alter g) t) q ≡ some c → c.here ≡ cond (same-path q p) (g d.here) d.here
-  altered-here p g c e = case (same-path q p)
+  altered_here : (p : Path) (g : Node → Node) (c : Place Node) → place_at (update p (alter g) t) q ≡ some c → c.here ≡ cond (same_path q p) (g d.here) d.here
+  altered_here p g c e = case (same_path q p)
       (λ s.
-      let k = holds-altered q (record { place = d; stands = a.there; here = refl }) g in
-      let there : place_at (update q (alter g) t) q ≡ some c = rw (← same-path-sound q p s) at e in
+      let k = holds_altered q (record { place = d; stands = a.there; here = refl }) g in
+      let there : place_at (update q (alter g) t) q ≡ some c = rw (← same_path_sound q p s) at e in
       rw s (ap (λ (x : Place Node). x.here) (answered (sym k.stands ∙ there)) ∙ k.here))
       (λ s.
-      let k = holds-alter q p (record { place = d; stands = a.there; here = refl }) g s in
+      let k = holds_alter q p (record { place = d; stands = a.there; here = refl }) g s in
       rw s (ap (λ (x : Place Node). x.here) (answered (sym k.stands ∙ e)) ∙ k.here))
 
   -- the bytes of the altered tree have it at its row
-  pub altered-at : {p : Path} {e : Place Node} (g : Node → Node) → place_at t p ≡ some e → is-node (g e.here) ≡ true → (g e.here).kind ≡ e.here.kind
-      → {b₁ : List ℕ} → b₁ ≡ encode-tree (update p (alter g) t) → Altered-place b₁ p g t q i d
-  altered-at {p} {e} g there own kind {b₁} bytes =
+  pub altered_at : {p : Path} {e : Place Node} (g : Node → Node) → place_at t p ≡ some e → is_node (g e.here) ≡ true → (g e.here).kind ≡ e.here.kind
+      → {b₁ : List ℕ} → b₁ ≡ encode_tree (update p (alter g) t) → AlteredPlace b₁ p g t q i d
+  altered_at {p} {e} g there own kind {b₁} bytes =
       let t₁ = update p (alter g) t in
-      let s = bare-altered p g t in
+      let s = bare_altered p g t in
       let w = place_kept blank t₁ t s q d a.there in
       record {
         place = w.0;
         at = record {
-          tree = rw bytes (encodes (alter-at t p e g a.tree.whole there own kind));
+          tree = rw bytes (encodes (alter_at t p e g a.tree.whole there own kind));
           there = w.1;
           row = a.row ∙ sym (index_kept blank t₁ t s q);
         };
         shape = w.2;
-        here = altered-here p g w.0 w.1;
+        here = altered_here p g w.0 w.1;
       }
 
-module _ {b : List ℕ} {p : Path} {g : Node → Node} {t : Place Node} {q : Path} {i : ℕ} {d : Place Node} (k : Altered-place b p g t q i d) where
+module _ {b : List ℕ} {p : Path} {g : Node → Node} {t : Place Node} {q : Path} {i : ℕ} {d : Place Node} (k : AlteredPlace b p g t q i d) where
   -- what the alteration keeps of a payload stays
-  pub kept-part : {B : Type 0} (f : Node → B) → f (g d.here) ≡ f d.here → f k.place.here ≡ f d.here
-  kept-part f e = ap f k.here ∙ case (same-path q p) (λ s. rw s e) (λ s. rw s)
+  pub kept_part : {B : Type 0} (f : Node → B) → f (g d.here) ≡ f d.here → f k.place.here ≡ f d.here
+  kept_part f e = ap f k.here ∙ case (same_path q p) (λ s. rw s e) (λ s. rw s)
 
 -- ---- a child put in beside an altered payload
 
 -- what lies in or below a path does so with more names
-lies-on : {p q : Path} → Lies p q → (ns : List Name) → Lies p (extended q ns)
+lies_on : {p q : Path} → Lies p q → (ns : List Name) → Lies p (extended q ns)
 unfolding extended
-lies-on l [] = l
-lies-on l (n ∷ ns) = lies-on (deeper l) ns
+lies_on l [] = l
+lies_on l (n ∷ ns) = lies_on (deeper l) ns
 
 module _ {A : Type 0} where
   -- a change down a list of names
@@ -218,48 +218,48 @@ module _ {A : Type 0} where
   down [] f = f
   down (n ∷ ns) f = under (at n (down ns f))
 
-  update-down : (p : Path) (ns : List Name) (f : Place A → Place A) (t : Place A) → update (extended p ns) f t ≡ update p (down ns f) t
+  update_down : (p : Path) (ns : List Name) (f : Place A → Place A) (t : Place A) → update (extended p ns) f t ≡ update p (down ns f) t
   unfolding update extended down
-  update-down p [] f t = refl
-  update-down p (n ∷ ns) f t = update-down (p ▹ n) ns f t
+  update_down p [] f t = refl
+  update_down p (n ∷ ns) f t = update_down (p ▹ n) ns f t
 
   -- a new child and a change of one of another name
-  insert-at : (n : Name) (x : Place A) (m : Name) (f : Place A → Place A) → same_text m n ≡ false → (F : Forest A) → insert n x (at m f F) ≡ at m f (insert n x F)
+  insert_at : (n : Name) (x : Place A) (m : Name) (f : Place A → Place A) → same_text m n ≡ false → (F : Forest A) → insert n x (at m f F) ≡ at m f (insert n x F)
   unfolding insert at
-  insert-at n x m f e nil = rw e
-  insert-at n x m f e (node k y ds rest) = case (same_text m k)
+  insert_at n x m f e nil = rw e
+  insert_at n x m f e (node k y ds rest) = case (same_text m k)
       (λ s. case (precedes n k) (λ l. rw (s, l) (rw (e, s))) (λ l. rw (s, l) (rw s)))
-      (λ s. case (precedes n k) (λ l. rw (s, l) (rw (e, s))) (λ l. rw (s, l) (rw (s, insert-at n x m f e rest))))
+      (λ s. case (precedes n k) (λ l. rw (s, l) (rw (e, s))) (λ l. rw (s, l) (rw (s, insert_at n x m f e rest))))
 
-  put-down : (q : Path) (ms ns : List Name) (n : Name) (x : Place A) (g : A → A) → (Lies (extended q ms ▹ n) (extended q ns) → ⊥)
+  put_down : (q : Path) (ms ns : List Name) (n : Name) (x : Place A) (g : A → A) → (Lies (extended q ms ▹ n) (extended q ns) → ⊥)
       → (t : Place A) → down ms (put n x) (down ns (alter g) t) ≡ down ns (alter g) (down ms (put n x) t)
   unfolding down under alter put extended
-  put-down q [] [] n x g off t = refl
-  put-down q (m ∷ ms) [] n x g off t = refl
-  put-down q [] (a ∷ ns) n x g off t =
-      ap (λ (F : Forest A). record { here = t.here; below = F }) (insert-at n x a (down ns (alter g))
-      (case (same_text a n) (λ s. absurd (off (rw (same-text-sound a n s) (lies-on itself ns)))) (λ s. s)) t.below)
-  put-down q (m ∷ ms) (a ∷ ns) n x g off t = ap (λ (F : Forest A). record { here = t.here; below = F }) (case (same_text a m)
+  put_down q [] [] n x g off t = refl
+  put_down q (m ∷ ms) [] n x g off t = refl
+  put_down q [] (a ∷ ns) n x g off t =
+      ap (λ (F : Forest A). record { here = t.here; below = F }) (insert_at n x a (down ns (alter g))
+      (case (same_text a n) (λ s. absurd (off (rw (same_text_sound a n s) (lies_on itself ns)))) (λ s. s)) t.below)
+  put_down q (m ∷ ms) (a ∷ ns) n x g off t = ap (λ (F : Forest A). record { here = t.here; below = F }) (case (same_text a m)
       (λ s.
-      let e = same-text-sound a m s in
-      let one = put-down (q ▹ m) ms ns n x g (rw e at off) in
-      rw e (at-twice m (down ms (put n x)) (down ns (alter g)) t.below
+      let e = same_text_sound a m s in
+      let one = put_down (q ▹ m) ms ns n x g (rw e at off) in
+      rw e (at_twice m (down ms (put n x)) (down ns (alter g)) t.below
       ∙ ap (λ (f : Place A → Place A). at m f t.below) (λ i d. one d i)
-      ∙ sym (at-twice m (down ns (alter g)) (down ms (put n x)) t.below)))
-      (λ s. at_at a (down ns (alter g)) m (down ms (put n x)) (differ-sym a m s) t.below))
+      ∙ sym (at_twice m (down ns (alter g)) (down ms (put n x)) t.below)))
+      (λ s. at_at a (down ns (alter g)) m (down ms (put n x)) (differ_sym a m s) t.below))
 
-  from-root : (p : Path) (ns : List Name) → extended root ns ≡ p → (f : Place A → Place A) (t : Place A) → update p f t ≡ down ns f t
+  from_root : (p : Path) (ns : List Name) → extended root ns ≡ p → (f : Place A → Place A) (t : Place A) → update p f t ≡ down ns f t
   unfolding update
-  from-root p ns e f t = ap (λ (q : Path). update q f t) (sym e) ∙ update-down root ns f t
+  from_root p ns e f t = ap (λ (q : Path). update q f t) (sym e) ∙ update_down root ns f t
 
   -- a child put in where there was none leaves the alteration of what was there
-  pub put-altered : (t : Place A) (p : Path) (n : Name) (x : Place A) (q : Path) (d : Place A) (g : A → A) → place_at t (p ▹ n) ≡ none → place_at t q ≡ some d
+  pub put_altered : (t : Place A) (p : Path) (n : Name) (x : Place A) (q : Path) (d : Place A) (g : A → A) → place_at t (p ▹ n) ≡ none → place_at t q ≡ some d
       → update p (put n x) (update q (alter g) t) ≡ update q (alter g) (update p (put n x) t)
-  put-altered t p n x q d g free there =
-      let P = names-from-root p in
-      let Q = names-from-root q in
-      let put_in = from-root p P.0 P.1 (put n x) in
-      let altered = from-root q Q.0 Q.1 (alter g) in
+  put_altered t p n x q d g free there =
+      let P = names_from_root p in
+      let Q = names_from_root q in
+      let put_in = from_root p P.0 P.1 (put n x) in
+      let altered = from_root q Q.0 Q.1 (alter g) in
       put_in (update q (alter g) t) ∙ ap (down P.0 (put n x)) (altered t)
-      ∙ put-down root P.0 Q.0 n x g (λ l. no_answer (sym (none_below t (rw (P.1, Q.1) at l) free) ∙ there)) t
+      ∙ put_down root P.0 Q.0 n x g (λ l. no_answer (sym (none_below t (rw (P.1, Q.1) at l) free) ∙ there)) t
       ∙ ap (down Q.0 (alter g)) (sym (put_in t)) ∙ sym (altered (update p (put n x) t))

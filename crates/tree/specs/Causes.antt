@@ -25,5 +25,5 @@ number TooDeep = 19
 number ShortAnswer = 20
 
 -- a wrong setup line, which is answered with its number and has no cause of its own
-unfoldable pub wrong-setup : ℕ
-wrong-setup = 17
+unfoldable pub wrong_setup : ℕ
+wrong_setup = 17

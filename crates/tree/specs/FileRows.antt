@@ -4,7 +4,7 @@ use Rattle.std.specs.Prelude.{◌≡◌, List, [], ◌∷◌, true, false, ℕ, 
 use Rattle.syntax.specs.Path.{Path}
 use Rattle.tree.specs.Result.{done}
 use Rattle.tree.specs.Forest.{Place, size}
-use Rattle.tree.specs.Node.{is-directory}
+use Rattle.tree.specs.Node.{is_directory}
 use Rattle.tree.specs.Walk.{Judge, walk}
 use Rattle.tree.specs.RowPlaces.{index_of}
 
@@ -15,11 +15,11 @@ pub record Met {A : Type 0} (j : Judge A) (t : Place A) (i : ℕ) (q : Path) (d 
 
 -- the files still to be met from row i on, up to the row `end`: one row after another, and past all that lies below a directory
 -- that may not be read
-pub data Files-from {A : Type 0} (j : Judge A) (t : Place A) (end : ℕ) : ℕ → List Path → Type 0 where
-  no_more : Files-from j t end end []
-  a-file : {i : ℕ} {q : Path} {d : Place A} {qs : List Path} → i < end → Met j t i q d → is-directory (j.kind d.here) ≡ false
-      → Files-from j t end (suc i) qs → Files-from j t end i (q ∷ qs)
-  into : {i : ℕ} {q : Path} {d : Place A} {qs : List Path} → i < end → Met j t i q d → is-directory (j.kind d.here) ≡ true
-      → j.readable d.here ≡ true → Files-from j t end (suc i) qs → Files-from j t end i qs
-  past : {i : ℕ} {q : Path} {d : Place A} {qs : List Path} → i < end → Met j t i q d → is-directory (j.kind d.here) ≡ true
-      → j.readable d.here ≡ false → Files-from j t end (suc i + size d.below) qs → Files-from j t end i qs
+pub data FilesFrom {A : Type 0} (j : Judge A) (t : Place A) (end : ℕ) : ℕ → List Path → Type 0 where
+  no_more : FilesFrom j t end end []
+  a_file : {i : ℕ} {q : Path} {d : Place A} {qs : List Path} → i < end → Met j t i q d → is_directory (j.kind d.here) ≡ false
+      → FilesFrom j t end (suc i) qs → FilesFrom j t end i (q ∷ qs)
+  into : {i : ℕ} {q : Path} {d : Place A} {qs : List Path} → i < end → Met j t i q d → is_directory (j.kind d.here) ≡ true
+      → j.readable d.here ≡ true → FilesFrom j t end (suc i) qs → FilesFrom j t end i qs
+  past : {i : ℕ} {q : Path} {d : Place A} {qs : List Path} → i < end → Met j t i q d → is_directory (j.kind d.here) ≡ true
+      → j.readable d.here ≡ false → FilesFrom j t end (suc i + size d.below) qs → FilesFrom j t end i qs

@@ -13,8 +13,8 @@ pub data Forest (A : Type 0) : Type 0 where
   node : Name → A → (children siblings : Forest A) → Forest A
 
 -- no node at all, as a value: the crates above name this, and not how a forest is made
-abbrev pub no-nodes : {A : Type 0} → Forest A
-no-nodes = nil
+abbrev pub no_nodes : {A : Type 0} → Forest A
+no_nodes = nil
 
 -- a payload with all that lies below it; the whole tree is the place of `/`
 pub record Place (A : Type 0) : Type 0 where
@@ -26,9 +26,9 @@ unfoldable pub get : {A : Type 0} → Name → Forest A → Option (Place A)
 get n nil = none
 get n (node m x cs rest) = cond (same_text n m) (some (record { here = x; below = cs })) (get n rest)
 
-unfoldable pub is-empty : {A : Type 0} → Forest A → Bool
-is-empty nil = true
-is-empty (node n x cs rest) = false
+unfoldable pub is_empty : {A : Type 0} → Forest A → Bool
+is_empty nil = true
+is_empty (node n x cs rest) = false
 
 -- a new child at its place in the order
 unfoldable pub insert : {A : Type 0} → Name → Place A → Forest A → Forest A
@@ -57,9 +57,9 @@ update root f d = f d
 update (p ▹ n) f d = update p (under (at n f)) d
 
 -- the children of the place at a path changed by g, in a forest that stands below a place
-unfoldable pub update-forest : {A : Type 0} → Path → (Forest A → Forest A) → Forest A → Forest A
-update-forest root g f = g f
-update-forest (p ▹ n) g f = update-forest p (at n (under g)) f
+unfoldable pub update_forest : {A : Type 0} → Path → (Forest A → Forest A) → Forest A → Forest A
+update_forest root g f = g f
+update_forest (p ▹ n) g f = update_forest p (at n (under g)) f
 
 -- the place at a path, if there is one
 unfoldable pub place_at : {A : Type 0} → Place A → Path → Option (Place A)
@@ -96,16 +96,16 @@ names nil = []
 names (node n x cs rest) = n ∷ names rest
 
 -- another payload at each node
-unfoldable pub map-forest : {A B : Type 0} → (A → B) → Forest A → Forest B
-map-forest g nil = nil
-map-forest g (node n x cs rest) = node n (g x) (map-forest g cs) (map-forest g rest)
+unfoldable pub map_forest : {A B : Type 0} → (A → B) → Forest A → Forest B
+map_forest g nil = nil
+map_forest g (node n x cs rest) = node n (g x) (map_forest g cs) (map_forest g rest)
 
-unfoldable pub map-place : {A B : Type 0} → (A → B) → Place A → Place B
-map-place g d = record { here = g d.here; below = map-forest g d.below }
+unfoldable pub map_place : {A B : Type 0} → (A → B) → Place A → Place B
+map_place g d = record { here = g d.here; below = map_forest g d.below }
 
 -- a place with the payload x above a forest whose payloads are mapped
 unfoldable pub rooted : {A B : Type 0} → (A → B) → B → Forest A → Place B
-rooted g x f = record { here = x; below = map-forest g f }
+rooted g x f = record { here = x; below = map_forest g f }
 
 -- the place at a path has that payload
 pub record Holds {A : Type 0} (t : Place A) (p : Path) (x : A) : Type 0 where

@@ -16,63 +16,63 @@ use Rattle.std.proofs.Math.Option.{none, some, map}
 use native.Mathlib.Omega.{arith}
 use Rattle.buffers.specs.Cases.{case, contra}
 use Rattle.buffers.specs.Text.{same_text, precedes}
-use Rattle.buffers.specs.TextLaws.{same-text-refl, same-text-sound}
+use Rattle.buffers.specs.TextLaws.{same_text_refl, same_text_sound}
 use Rattle.syntax.specs.Path.{Name}
-use Rattle.tree.specs.Forest.{Forest, nil, node, Place, get, is-empty, insert, remove, at, under, alter, leaf, size, larger, height, names, map-forest, map-place}
+use Rattle.tree.specs.Forest.{Forest, nil, node, Place, get, is_empty, insert, remove, at, under, alter, leaf, size, larger, height, names, map_forest, map_place}
 
 -- ---- all forests
 
 -- what holds of no node, and of siblings where it holds of the first one's children and of the others, holds of every forest
-pub forest-induction : {A : Type 0} (P : Forest A → Type 0) → P nil
+pub forest_induction : {A : Type 0} (P : Forest A → Type 0) → P nil
     → ((n : Name) (x : A) (cs rest : Forest A) → P cs → P rest → P (node n x cs rest)) → (F : Forest A) → P F
-forest-induction P bare more nil = bare
-forest-induction P bare more (node n x cs rest) = more n x cs rest (forest-induction P bare more cs) (forest-induction P bare more rest)
+forest_induction P bare more nil = bare
+forest_induction P bare more (node n x cs rest) = more n x cs rest (forest_induction P bare more cs) (forest_induction P bare more rest)
 
 -- ---- names
 
 -- names that are the same as a third are the same
-same-join : (n m k : Name) → same_text n k ≡ true → same_text m k ≡ true → same_text n m ≡ true
-same-join n m k i e = rw (same-text-sound n k i, same-text-sound m k e) (same-text-refl k)
+same_join : (n m k : Name) → same_text n k ≡ true → same_text m k ≡ true → same_text n m ≡ true
+same_join n m k i e = rw (same_text_sound n k i, same_text_sound m k e) (same_text_refl k)
 
 -- names differ both ways round
-pub differ-sym : (n m : Name) → same_text n m ≡ false → same_text m n ≡ false
-differ-sym n m e = case (same_text m n) (λ t. contra (same-join n m n (same-text-refl n) t) e) (λ t. t)
+pub differ_sym : (n m : Name) → same_text n m ≡ false → same_text m n ≡ false
+differ_sym n m e = case (same_text m n) (λ t. contra (same_join n m n (same_text_refl n) t) e) (λ t. t)
 
 -- ---- the larger of two
 
 -- the larger is no smaller than either
-pub larger-bounds : (a b : ℕ) → (a ≤ larger a b) × (b ≤ larger a b)
+pub larger_bounds : (a b : ℕ) → (a ≤ larger a b) × (b ≤ larger a b)
 unfolding larger
-larger-bounds a b = case (leb a b) (λ t. rw t (leb-true a b t, omega arith)) (λ t. rw t (omega arith, omega (arith, leb-false a b t)))
+larger_bounds a b = case (leb a b) (λ t. rw t (leb-true a b t, omega arith)) (λ t. rw t (omega arith, omega (arith, leb-false a b t)))
 
 -- what is no smaller than both is no smaller than the larger
-pub larger-least : (a b k : ℕ) → a ≤ k → b ≤ k → larger a b ≤ k
+pub larger_least : (a b k : ℕ) → a ≤ k → b ≤ k → larger a b ≤ k
 unfolding larger
-larger-least a b k p q = case (leb a b) (λ t. rw t q) (λ t. rw t p)
+larger_least a b k p q = case (leb a b) (λ t. rw t q) (λ t. rw t p)
 
 -- ---- no siblings, and the first of some
 
 module _ {A : Type 0} where
   -- no child is found where there is none
-  pub get-nil : (n : Name) → get {A = A} n nil ≡ none
+  pub get_nil : (n : Name) → get {A = A} n nil ≡ none
   unfolding get
-  get-nil n = refl
+  get_nil n = refl
 
   -- the first is found under its own name
   pub get_first : (n : Name) (x : A) (cs rest : Forest A) → get n (node n x cs rest) ≡ some (record { here = x; below = cs })
   unfolding get
-  get_first n x cs rest = rw (same-text-refl n)
+  get_first n x cs rest = rw (same_text_refl n)
 
   -- what is empty has no sibling
-  pub empty-is-nil : (F : Forest A) → is-empty F ≡ true → F ≡ nil
-  unfolding is-empty
-  empty-is-nil nil h = refl
-  empty-is-nil (node n x cs rest) h = contra refl (sym h)
+  pub empty_is_nil : (F : Forest A) → is_empty F ≡ true → F ≡ nil
+  unfolding is_empty
+  empty_is_nil nil h = refl
+  empty_is_nil (node n x cs rest) h = contra refl (sym h)
 
   -- a forest is higher than its first node's children, and no lower than the others
-  pub height-node : (n : Name) (x : A) (cs rest : Forest A) → (suc (height cs) ≤ height (node n x cs rest)) × (height rest ≤ height (node n x cs rest))
+  pub height_node : (n : Name) (x : A) (cs rest : Forest A) → (suc (height cs) ≤ height (node n x cs rest)) × (height rest ≤ height (node n x cs rest))
   unfolding height
-  height-node n x cs rest = larger-bounds (suc (height cs)) (height rest)
+  height_node n x cs rest = larger_bounds (suc (height cs)) (height rest)
 
 -- ---- a child found
 
@@ -112,12 +112,12 @@ module _ {A : Type 0} (m : Name) (f : Place A → Place A) where
       (λ t. rw t (rw t (get_at rest d (rw t at e))))
 
   -- and a child of another name as it was
-  pub get-at-other : (n : Name) (F : Forest A) → same_text n m ≡ false → get n (at m f F) ≡ get n F
+  pub get_at_other : (n : Name) (F : Forest A) → same_text n m ≡ false → get n (at m f F) ≡ get n F
   unfolding get at
-  get-at-other n nil t = refl
-  get-at-other n (node k y ds rest) t = case (same_text m k)
-      (λ e. case (same_text n k) (λ i. contra (same-join n m k i e) t) (λ i. rw e (rw i)))
-      (λ e. rw e (rw (get-at-other n rest t)))
+  get_at_other n nil t = refl
+  get_at_other n (node k y ds rest) t = case (same_text m k)
+      (λ e. case (same_text n k) (λ i. contra (same_join n m k i e) t) (λ i. rw e (rw i)))
+      (λ e. rw e (rw (get_at_other n rest t)))
 
   -- the names stay
   pub names_at : (F : Forest A) → names (at m f F) ≡ names F
@@ -126,61 +126,61 @@ module _ {A : Type 0} (m : Name) (f : Place A → Place A) where
   names_at (node k y ds rest) = case (same_text m k) (λ e. rw e) (λ e. rw e (rw (names_at rest)))
 
   -- a forest stays empty or not
-  pub empty-at : (F : Forest A) → is-empty (at m f F) ≡ is-empty F
-  unfolding is-empty at
-  empty-at nil = refl
-  empty-at (node k y ds rest) = case (same_text m k) (λ e. rw e) (λ e. rw e)
+  pub empty_at : (F : Forest A) → is_empty (at m f F) ≡ is_empty F
+  unfolding is_empty at
+  empty_at nil = refl
+  empty_at (node k y ds rest) = case (same_text m k) (λ e. rw e) (λ e. rw e)
 
   -- changes of children of different names commute
   pub at_at : (n : Name) (g : Place A → Place A) → same_text n m ≡ false → (F : Forest A) → at n g (at m f F) ≡ at m f (at n g F)
   unfolding at
   at_at n g t nil = refl
   at_at n g t (node k y ds rest) = case (same_text m k)
-      (λ e. case (same_text n k) (λ i. contra (same-join n m k i e) t) (λ i. rw (e, i) (rw e)))
+      (λ e. case (same_text n k) (λ i. contra (same_join n m k i e) t) (λ i. rw (e, i) (rw e)))
       (λ e. case (same_text n k) (λ i. rw (e, i) (rw e)) (λ i. rw (e, i) (rw (e, at_at n g t rest))))
 
   -- the size changes as the child's does
-  pub size-at : (F : Forest A) (d : Place A) → get m F ≡ some d → size (at m f F) + size d.below ≡ size F + size (f d).below
+  pub size_at : (F : Forest A) (d : Place A) → get m F ≡ some d → size (at m f F) + size d.below ≡ size F + size (f d).below
   unfolding size at get
-  size-at nil d e = contra {b = true} refl (cc)
-  size-at (node k y ds rest) d e = case (same_text m k)
+  size_at nil d e = contra {b = true} refl (cc)
+  size_at (node k y ds rest) d e = case (same_text m k)
       (λ t. rw (found_first m k y ds rest d t e) (rw t (omega arith)))
-      (λ t. let i = size-at rest d (rw t at e) in rw t (omega arith))
+      (λ t. let i = size_at rest d (rw t at e) in rw t (omega arith))
 
   -- the height is bounded as before if the changed child's is
-  pub height-at : (k : ℕ) (F : Forest A) → height F ≤ k → ((d : Place A) → get m F ≡ some d → suc (height (f d).below) ≤ k) → height (at m f F) ≤ k
+  pub height_at : (k : ℕ) (F : Forest A) → height F ≤ k → ((d : Place A) → get m F ≡ some d → suc (height (f d).below) ≤ k) → height (at m f F) ≤ k
   unfolding height at get
-  height-at k nil b h = b
-  height-at k (node j y ds rest) b h =
-      let w = larger-bounds (suc (height ds)) (height rest) in
+  height_at k nil b h = b
+  height_at k (node j y ds rest) b h =
+      let w = larger_bounds (suc (height ds)) (height rest) in
       case (same_text m j)
-      (λ t. rw t (larger-least _ _ k (h (record { here = y; below = ds }) (rw t refl)) (omega arith)))
-      (λ t. rw t (larger-least _ _ k (omega arith) (height-at k rest (omega arith) (λ d e. h d (rw t e)))))
+      (λ t. rw t (larger_least _ _ k (h (record { here = y; below = ds }) (rw t refl)) (omega arith)))
+      (λ t. rw t (larger_least _ _ k (omega arith) (height_at k rest (omega arith) (λ d e. h d (rw t e)))))
 
 -- two changes of one child are one
-pub at-twice : {A : Type 0} (n : Name) (f g : Place A → Place A) (F : Forest A) → at n f (at n g F) ≡ at n (λ d. f (g d)) F
+pub at_twice : {A : Type 0} (n : Name) (f g : Place A → Place A) (F : Forest A) → at n f (at n g F) ≡ at n (λ d. f (g d)) F
 unfolding at
-at-twice n f g nil = refl
-at-twice n f g (node k y ds rest) = case (same_text n k) (λ e. rw e (rw e)) (λ e. rw e (rw (e, at-twice n f g rest)))
+at_twice n f g nil = refl
+at_twice n f g (node k y ds rest) = case (same_text n k) (λ e. rw e (rw e)) (λ e. rw e (rw (e, at_twice n f g rest)))
 
 -- a change that leaves the child as it was leaves the forest
-pub at-id : {A : Type 0} (n : Name) (f : Place A → Place A) (d : Place A) → f d ≡ d → (F : Forest A) → get n F ≡ some d → at n f F ≡ F
+pub at_id : {A : Type 0} (n : Name) (f : Place A → Place A) (d : Place A) → f d ≡ d → (F : Forest A) → get n F ≡ some d → at n f F ≡ F
 unfolding at get
-at-id n f d e nil l = refl
-at-id n f d e (node k y ds rest) l = case (same_text n k)
+at_id n f d e nil l = refl
+at_id n f d e (node k y ds rest) l = case (same_text n k)
     (λ t. rw t (ap (λ c. node k c.here c.below rest) (rw (found_first n k y ds rest d t l) at e)))
-    (λ t. rw t (rw (at-id n f d e rest (rw t at l))))
+    (λ t. rw t (rw (at_id n f d e rest (rw t at l))))
 
 -- ---- a child put in
 
 module _ {A : Type 0} (n : Name) (e : Place A) where
   -- a new child is found
-  pub get-insert : (F : Forest A) → get n F ≡ none → get n (insert n e F) ≡ some e
+  pub get_insert : (F : Forest A) → get n F ≡ none → get n (insert n e F) ≡ some e
   unfolding get insert
-  get-insert nil a = rw (same-text-refl n)
-  get-insert (node k y ds rest) a = case (precedes n k)
-      (λ i. rw i (rw (same-text-refl n)))
-      (λ i. let t = found_none n k y ds rest a in rw i (rw t.0 (get-insert rest t.1)))
+  get_insert nil a = rw (same_text_refl n)
+  get_insert (node k y ds rest) a = case (precedes n k)
+      (λ i. rw i (rw (same_text_refl n)))
+      (λ i. let t = found_none n k y ds rest a in rw i (rw t.0 (get_insert rest t.1)))
 
   -- a child of another name is found as before
   pub get_insert_other : (m : Name) → same_text m n ≡ false → (F : Forest A) → get m (insert n e F) ≡ get m F
@@ -189,20 +189,20 @@ module _ {A : Type 0} (n : Name) (e : Place A) where
   get_insert_other m t (node k y ds rest) = case (precedes n k) (λ i. rw i (rw t)) (λ i. rw i (rw (get_insert_other m t rest)))
 
   -- the child and all below it are counted
-  pub size-insert : (F : Forest A) → size (insert n e F) ≡ size F + suc (size e.below)
+  pub size_insert : (F : Forest A) → size (insert n e F) ≡ size F + suc (size e.below)
   unfolding size insert
-  size-insert nil = omega arith
-  size-insert (node k y ds rest) = case (precedes n k) (λ t. rw t (omega arith)) (λ t. rw t (omega (arith, size-insert rest)))
+  size_insert nil = omega arith
+  size_insert (node k y ds rest) = case (precedes n k) (λ t. rw t (omega arith)) (λ t. rw t (omega (arith, size_insert rest)))
 
   -- the height is bounded by what bounds the forest and the child
-  pub height-insert : (k : ℕ) (F : Forest A) → height F ≤ k → suc (height e.below) ≤ k → height (insert n e F) ≤ k
+  pub height_insert : (k : ℕ) (F : Forest A) → height F ≤ k → suc (height e.below) ≤ k → height (insert n e F) ≤ k
   unfolding height insert
-  height-insert k nil b h = larger-least _ _ k h b
-  height-insert k (node j y ds rest) b h =
-      let w = larger-bounds (suc (height ds)) (height rest) in
+  height_insert k nil b h = larger_least _ _ k h b
+  height_insert k (node j y ds rest) b h =
+      let w = larger_bounds (suc (height ds)) (height rest) in
       case (precedes n j)
-      (λ t. rw t (larger-least _ _ k h b))
-      (λ t. rw t (larger-least _ _ k (omega arith) (height-insert k rest (omega arith) h)))
+      (λ t. rw t (larger_least _ _ k h b))
+      (λ t. rw t (larger_least _ _ k (omega arith) (height_insert k rest (omega arith) h)))
 
 -- ---- a child taken out
 
@@ -212,96 +212,96 @@ module _ {A : Type 0} (n : Name) where
   unfolding get remove
   get_remove_other m t nil = refl
   get_remove_other m t (node k y ds rest) = case (same_text n k)
-      (λ i. case (same_text m k) (λ s. contra (same-join m n k s i) t) (λ s. rw (i, s)))
+      (λ i. case (same_text m k) (λ s. contra (same_join m n k s i) t) (λ s. rw (i, s)))
       (λ i. rw i (rw (get_remove_other m t rest)))
 
   -- an empty forest stays empty
-  pub empty-remove : (F : Forest A) → is-empty F ≡ true → is-empty (remove n F) ≡ true
-  unfolding is-empty remove
-  empty-remove nil e = refl
-  empty-remove (node k y ds rest) e = contra {b = true} refl (sym e)
+  pub empty_remove : (F : Forest A) → is_empty F ≡ true → is_empty (remove n F) ≡ true
+  unfolding is_empty remove
+  empty_remove nil e = refl
+  empty_remove (node k y ds rest) e = contra {b = true} refl (sym e)
 
   -- the child and all below it are no longer counted
-  pub size-remove : (F : Forest A) (d : Place A) → get n F ≡ some d → size (remove n F) + suc (size d.below) ≡ size F
+  pub size_remove : (F : Forest A) (d : Place A) → get n F ≡ some d → size (remove n F) + suc (size d.below) ≡ size F
   unfolding size remove get
-  size-remove nil d e = contra {b = true} refl (cc)
-  size-remove (node k y ds rest) d e = case (same_text n k)
+  size_remove nil d e = contra {b = true} refl (cc)
+  size_remove (node k y ds rest) d e = case (same_text n k)
       (λ t. rw (found_first n k y ds rest d t e) (rw t (omega arith)))
-      (λ t. let i = size-remove rest d (rw t at e) in rw t (omega arith))
+      (λ t. let i = size_remove rest d (rw t at e) in rw t (omega arith))
 
   -- the height does not grow
-  pub height-remove : (F : Forest A) → height (remove n F) ≤ height F
+  pub height_remove : (F : Forest A) → height (remove n F) ≤ height F
   unfolding height remove
-  height-remove nil = omega arith
-  height-remove (node k y ds rest) =
-      let w = larger-bounds (suc (height ds)) (height rest) in
+  height_remove nil = omega arith
+  height_remove (node k y ds rest) =
+      let w = larger_bounds (suc (height ds)) (height rest) in
       case (same_text n k)
       (λ t. rw t w.1)
-      (λ t. rw t (larger-least _ _ _ w.0 (omega (arith, height-remove rest))))
+      (λ t. rw t (larger_least _ _ _ w.0 (omega (arith, height_remove rest))))
 
   -- a child lies lower than the forest is high
-  pub height-get : (F : Forest A) (d : Place A) → get n F ≡ some d → suc (height d.below) ≤ height F
+  pub height_get : (F : Forest A) (d : Place A) → get n F ≡ some d → suc (height d.below) ≤ height F
   unfolding height get
-  height-get nil d e = contra {b = true} refl (cc)
-  height-get (node k y ds rest) d e =
-      let w = larger-bounds (suc (height ds)) (height rest) in
+  height_get nil d e = contra {b = true} refl (cc)
+  height_get (node k y ds rest) d e =
+      let w = larger_bounds (suc (height ds)) (height rest) in
       case (same_text n k)
       (λ t. rw (found_first n k y ds rest d t e) w.0)
-      (λ t. let i = height-get rest d (rw t at e) in omega arith)
+      (λ t. let i = height_get rest d (rw t at e) in omega arith)
 
 -- ---- a map of the payloads
 
 module _ {A B : Type 0} (g : A → B) where
   -- the children are those mapped
-  pub get-map : (n : Name) (F : Forest A) → get n (map-forest g F) ≡ map (map-place g) (get n F)
-  unfolding get map-forest map-place
-  get-map n nil = refl
-  get-map n (node k y ds rest) = case (same_text n k) (λ t. rw t) (λ t. rw t (get-map n rest))
+  pub get_map : (n : Name) (F : Forest A) → get n (map_forest g F) ≡ map (map_place g) (get n F)
+  unfolding get map_forest map_place
+  get_map n nil = refl
+  get_map n (node k y ds rest) = case (same_text n k) (λ t. rw t) (λ t. rw t (get_map n rest))
 
   -- a forest stays empty or not
-  pub empty-map : (F : Forest A) → is-empty (map-forest g F) ≡ is-empty F
-  unfolding is-empty map-forest
-  empty-map nil = refl
-  empty-map (node k y ds rest) = refl
+  pub empty_map : (F : Forest A) → is_empty (map_forest g F) ≡ is_empty F
+  unfolding is_empty map_forest
+  empty_map nil = refl
+  empty_map (node k y ds rest) = refl
 
   -- the size stays
-  pub size-map : (F : Forest A) → size (map-forest g F) ≡ size F
-  unfolding size map-forest
-  size-map nil = refl
-  size-map (node k y ds rest) = rw (size-map ds, size-map rest)
+  pub size_map : (F : Forest A) → size (map_forest g F) ≡ size F
+  unfolding size map_forest
+  size_map nil = refl
+  size_map (node k y ds rest) = rw (size_map ds, size_map rest)
 
   -- through putting a child in
-  pub insert-map : (n : Name) (d : Place A) (F : Forest A) → insert n (map-place g d) (map-forest g F) ≡ map-forest g (insert n d F)
-  unfolding insert map-forest map-place
-  insert-map n d nil = refl
-  insert-map n d (node k y ds rest) = case (precedes n k) (λ e. rw e) (λ e. rw e (rw (insert-map n d rest)))
+  pub insert_map : (n : Name) (d : Place A) (F : Forest A) → insert n (map_place g d) (map_forest g F) ≡ map_forest g (insert n d F)
+  unfolding insert map_forest map_place
+  insert_map n d nil = refl
+  insert_map n d (node k y ds rest) = case (precedes n k) (λ e. rw e) (λ e. rw e (rw (insert_map n d rest)))
 
   -- through taking a child out
-  pub remove-map : (n : Name) (F : Forest A) → remove n (map-forest g F) ≡ map-forest g (remove n F)
-  unfolding remove map-forest
-  remove-map n nil = refl
-  remove-map n (node k y ds rest) = case (same_text n k) (λ e. rw e) (λ e. rw e (rw (remove-map n rest)))
+  pub remove_map : (n : Name) (F : Forest A) → remove n (map_forest g F) ≡ map_forest g (remove n F)
+  unfolding remove map_forest
+  remove_map n nil = refl
+  remove_map n (node k y ds rest) = case (same_text n k) (λ e. rw e) (λ e. rw e (rw (remove_map n rest)))
 
   -- through a change of the children
-  pub under-map : (f : Forest B → Forest B) (k : Forest A → Forest A) → ((F : Forest A) → f (map-forest g F) ≡ map-forest g (k F))
-      → (d : Place A) → under f (map-place g d) ≡ map-place g (under k d)
-  unfolding under map-place
-  under-map f k e d = rw (e d.below)
+  pub under_map : (f : Forest B → Forest B) (k : Forest A → Forest A) → ((F : Forest A) → f (map_forest g F) ≡ map_forest g (k F))
+      → (d : Place A) → under f (map_place g d) ≡ map_place g (under k d)
+  unfolding under map_place
+  under_map f k e d = rw (e d.below)
 
   -- through a change of the payload
-  pub alter-map : (f : B → B) (k : A → A) → ((x : A) → f (g x) ≡ g (k x)) → (d : Place A) → alter f (map-place g d) ≡ map-place g (alter k d)
-  unfolding alter map-place
-  alter-map f k e d = rw (e d.here)
+  pub alter_map : (f : B → B) (k : A → A) → ((x : A) → f (g x) ≡ g (k x)) → (d : Place A) → alter f (map_place g d) ≡ map_place g (alter k d)
+  unfolding alter map_place
+  alter_map f k e d = rw (e d.here)
 
   -- of a leaf
-  pub leaf-map : (x : A) → leaf (g x) ≡ map-place g (leaf x)
-  unfolding leaf map-place map-forest
-  leaf-map x = refl
+  pub leaf_map : (x : A) → leaf (g x) ≡ map_place g (leaf x)
+  unfolding leaf map_place map_forest
+  leaf_map x = refl
 
   -- through the change f of a child that is k's image
-  pub at_map : (f : Place B → Place B) (k : Place A → Place A) → ((d : Place A) → f (map-place g d) ≡ map-place g (k d))
-      → (n : Name) (F : Forest A) → at n f (map-forest g F) ≡ map-forest g (at n k F)
-  unfolding at map-forest map-place
+  pub at_map : (f : Place B → Place B) (k : Place A → Place A) → ((d : Place A) → f (map_place g d) ≡ map_place g (k d))
+      → (n : Name) (F : Forest A) → at n f (map_forest g F) ≡ map_forest g (at n k F)
+  unfolding at map_forest map_place
   at_map f k e n nil = refl
   at_map f k e n (node m y ds rest) = case (same_text n m)
       (λ t. rw (t, e (record { here = y; below = ds })))

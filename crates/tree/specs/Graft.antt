@@ -17,7 +17,7 @@ pub data Outside : Path → Type 0 where
 -- the places at a path in the grafted tree and in the tree itself, where a walk that may not pass `/rep` leads
 pub data Seen {A : Type 0} (e f t : Place A) : Path → Place A → Place A → Type 0 where
   at_top : Seen e f t root (graft e t) t
-  at-rep : {n : Name} → same_text n rep ≡ true → Seen e f t (root ▹ n) e f
+  at_rep : {n : Name} → same_text n rep ≡ true → Seen e f t (root ▹ n) e f
   outside : {p : Path} {d : Place A} → Outside p → Seen e f t p d d
 
 -- and the judge lets the walk pass there

@@ -2,19 +2,19 @@
 use Rattle.std.specs.Prelude.{◌≡◌, refl, [], ◌∷◌, true, ℕ, zero, suc, ◌+◌, ◌/◌, ◌%◌, length, replicate}
 use Rattle.std.proofs.Math.Option.{none, some}
 use Rattle.syntax.specs.Pieces.{comma, joined}
-use Rattle.syntax.specs.Compute.{compute as compute-syntax}
-use Rattle.syntax.specs.Number.{octal, is-mode}
-use Rattle.syntax.specs.Path.{Name, root, ◌▹◌, has-names, is-path, is-entry-path}
-use Rattle.syntax.specs.Field.{content-limit}
+use Rattle.syntax.specs.Compute.{compute as compute_syntax}
+use Rattle.syntax.specs.Number.{octal, is_mode}
+use Rattle.syntax.specs.Path.{Name, root, ◌▹◌, has_names, is_path, is_entry_path}
+use Rattle.syntax.specs.Field.{content_limit}
 use Rattle.tree.specs.Compute.{compute}
 use Rattle.tree.specs.declared.Kind.{Kind}
 use Rattle.tree.specs.declared.Kind.TheVariants.{File, Directory}
 use Rattle.tree.specs.Forest.{Forest, nil, node, Place, names}
 use Rattle.tree.specs.Node.{Node}
-use Rattle.tree.specs.WellFormed.{is-tag, fits-kind, is-node, leads, is-forest, is-tree}
+use Rattle.tree.specs.WellFormed.{is_tag, fits_kind, is_node, leads, is_forest, is_tree}
 
-of-kind : Kind → Node
-of-kind k = record { kind = k; owner = record { 0 = 0 }; group = record { 0 = 0 }; mode = 0; revision = 0; tag = none; content = [] }
+of_kind : Kind → Node
+of_kind k = record { kind = k; owner = record { 0 = 0 }; group = record { 0 = 0 }; mode = 0; revision = 0; tag = none; content = [] }
 
 -- `aaaaaaaa` to `aaaaaapo`
 name_of : ℕ → Name
@@ -22,20 +22,20 @@ name_of i = 97 ∷ 97 ∷ 97 ∷ 97 ∷ 97 ∷ 97 ∷ (97 + i / 16) ∷ (97 + i 
 
 files : ℕ → ℕ → Forest Node
 files i zero = nil
-files i (suc k) = node (name_of i) (of-kind File) nil (files (suc i) k)
+files i (suc k) = node (name_of i) (of_kind File) nil (files (suc i) k)
 
 pub full : Place Node
-full = record { here = of-kind Directory; below = files 0 255 }
+full = record { here = of_kind Directory; below = files 0 255 }
 
 -- it is well-formed
-pub full-is-tree : is-tree full ≡ true
-unfolding full of-kind name_of files compute-syntax compute is-mode is-tag fits-kind is-node leads is-forest is-tree
-full-is-tree = refl
+pub full_is_tree : is_tree full ≡ true
+unfolding full of_kind name_of files compute_syntax compute is_mode is_tag fits_kind is_node leads is_forest is_tree
+full_is_tree = refl
 
 -- its names and the commas between them are 2294 bytes
-pub full-names : length (joined comma (names full.below)) ≡ 2294
-unfolding full name_of files compute-syntax compute
-full-names = refl
+pub full_names : length (joined comma (names full.below)) ≡ 2294
+unfolding full name_of files compute_syntax compute
+full_names = refl
 
 -- `/aaaaaaaa/aaaaaaaa/aaaaaaaa/aaaaaaaa/aaaaaaaa/aaaaaaaa`
 abbrev pub deep : Place Node
@@ -49,11 +49,11 @@ deep =
       mode = octal 0 7 7 7;
       revision = 9999;
       tag = some (record { path = record { folder = root ▹ a ▹ a ▹ a ▹ a; name = a }; revision = 9999 });
-      content = replicate content-limit 97;
+      content = replicate content_limit 97;
     } in
     record { here = d; below = node a d (node a d (node a d (node a d (node a d (node a f nil nil) nil) nil) nil) nil) nil }
 
 -- it is well-formed
-pub deep-is-tree : is-tree deep ≡ true
-unfolding compute-syntax compute has-names is-path is-entry-path is-mode is-tag fits-kind is-node leads is-forest is-tree
-deep-is-tree = refl
+pub deep_is_tree : is_tree deep ≡ true
+unfolding compute_syntax compute has_names is_path is_entry_path is_mode is_tag fits_kind is_node leads is_forest is_tree
+deep_is_tree = refl

@@ -8,92 +8,92 @@
 -- | content | 67 | 80 |
 -- | kept for a merge base | 147 | 80 |
 use Rattle.std.specs.Prelude.{ℕ, ◌+◌, ◌*◌}
-use Rattle.syntax.specs.Path.{longest-entry-text}
-use Rattle.syntax.specs.Field.{content-limit}
+use Rattle.syntax.specs.Path.{longest_entry_text}
+use Rattle.syntax.specs.Field.{content_limit}
 
-abbrev pub row-width : ℕ
-row-width = 227
+abbrev pub row_width : ℕ
+row_width = 227
 
-abbrev pub most-rows : ℕ
-most-rows = 256
+abbrev pub most_rows : ℕ
+most_rows = 256
 
 -- how many rows the arrays have room for that hold some on the way
-abbrev pub few-rows : ℕ
-few-rows = 4
+abbrev pub few_rows : ℕ
+few_rows = 4
 
-abbrev pub some-rows : ℕ
-some-rows = 16
+abbrev pub some_rows : ℕ
+some_rows = 16
 
-abbrev pub many-rows : ℕ
-many-rows = 64
+abbrev pub many_rows : ℕ
+many_rows = 64
 
-abbrev pub half-rows : ℕ
-half-rows = 128
+abbrev pub half_rows : ℕ
+half_rows = 128
 
 -- the number of rows, and all rows
-abbrev pub tree-width : ℕ
-tree-width = 58114
+abbrev pub tree_width : ℕ
+tree_width = 58114
 
 -- all rows but the first
-abbrev pub later-rows-width : ℕ
-later-rows-width = 57885
+abbrev pub later_rows_width : ℕ
+later_rows_width = 57885
 
 -- where the row at an index begins
-abbrev pub row-start : ℕ → ℕ
-row-start i = 2 + row-width * i
+abbrev pub row_start : ℕ → ℕ
+row_start i = 2 + row_width * i
 
-abbrev pub kind-offset : ℕ
-kind-offset = 1
+abbrev pub kind_offset : ℕ
+kind_offset = 1
 
-abbrev pub owner-offset : ℕ
-owner-offset = 2
+abbrev pub owner_offset : ℕ
+owner_offset = 2
 
-abbrev pub group-offset : ℕ
-group-offset = 3
+abbrev pub group_offset : ℕ
+group_offset = 3
 
-abbrev pub mode-offset : ℕ
-mode-offset = 4
+abbrev pub mode_offset : ℕ
+mode_offset = 4
 
-abbrev pub revision-offset : ℕ
-revision-offset = 6
+abbrev pub revision_offset : ℕ
+revision_offset = 6
 
 -- the fields before the name
-abbrev pub head-width : ℕ
-head-width = 8
+abbrev pub head_width : ℕ
+head_width = 8
 
-abbrev pub name-offset : ℕ
-name-offset = 8
+abbrev pub name_offset : ℕ
+name_offset = 8
 
-abbrev pub name-width : ℕ
-name-width = 8
+abbrev pub name_width : ℕ
+name_width = 8
 
 -- what stands behind the name: tag, content and merge base
-abbrev pub behind-name-width : ℕ
-behind-name-width = 211
+abbrev pub behind_name_width : ℕ
+behind_name_width = 211
 
-abbrev pub tag-offset : ℕ
-tag-offset = 16
+abbrev pub tag_offset : ℕ
+tag_offset = 16
 
 -- the longest entry path
-abbrev pub tag-width : ℕ
-tag-width = longest-entry-text
+abbrev pub tag_width : ℕ
+tag_width = longest_entry_text
 
-abbrev pub tag-revision-offset : ℕ
-tag-revision-offset = 65
+abbrev pub tag_revision_offset : ℕ
+tag_revision_offset = 65
 
 -- the path and the revision
-abbrev pub whole-tag-width : ℕ
-whole-tag-width = 51
+abbrev pub whole_tag_width : ℕ
+whole_tag_width = 51
 
-abbrev pub content-offset : ℕ
-content-offset = 67
+abbrev pub content_offset : ℕ
+content_offset = 67
 
 -- the longest content
-abbrev pub content-width : ℕ
-content-width = content-limit
+abbrev pub content_width : ℕ
+content_width = content_limit
 
-abbrev pub base-offset : ℕ
-base-offset = 147
+abbrev pub base_offset : ℕ
+base_offset = 147
 
-abbrev pub base-width : ℕ
-base-width = content-limit
+abbrev pub base_width : ℕ
+base_width = content_limit

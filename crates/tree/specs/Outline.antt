@@ -1,7 +1,7 @@
 -- What filing leaves of a node and of a tree: all but revision, tag and content.
 use Rattle.std.specs.Prelude.{[]}
 use Rattle.std.proofs.Math.Option.{none}
-use Rattle.tree.specs.Forest.{Place, map-place}
+use Rattle.tree.specs.Forest.{Place, map_place}
 use Rattle.tree.specs.Node.{Node}
 
 -- a node without its revision, tag and content, which filing changes
@@ -10,4 +10,4 @@ outline n = record { kind = n.kind; owner = n.owner; group = n.group; mode = n.m
 
 -- a tree of them
 unfoldable pub outlines : Place Node → Place Node
-outlines t = map-place outline t
+outlines t = map_place outline t

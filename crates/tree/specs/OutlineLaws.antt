@@ -15,75 +15,75 @@ use Rattle.accounts.specs.declared.Right.TheVariants.{R, X}
 use Rattle.accounts.specs.declared.Account.{Account}
 use Rattle.syntax.specs.Path.{Path}
 use Rattle.tree.specs.Result.{done}
-use Rattle.tree.specs.AgreeLaws.{done_first, done-second}
+use Rattle.tree.specs.AgreeLaws.{done_first, done_second}
 use Rattle.tree.specs.Forest.{Place, size, update, alter}
-use Rattle.tree.specs.Node.{Tag, Node, allows, set-revision, set-tag, set-content}
-use Rattle.tree.specs.Walk.{by-modes, walk}
-use Rattle.tree.specs.MapLaws.{walk-map}
+use Rattle.tree.specs.Node.{Tag, Node, allows, set_revision, set_tag, set_content}
+use Rattle.tree.specs.Walk.{by_modes, walk}
+use Rattle.tree.specs.MapLaws.{walk_map}
 use Rattle.tree.specs.RowPlaces.{index_of}
-use Rattle.tree.specs.AlterLaws.{map-altered, index_kept, here-kept, size-kept}
+use Rattle.tree.specs.AlterLaws.{map_altered, index_kept, here_kept, size_kept}
 use Rattle.tree.specs.Outline.{outline, outlines}
 
 -- ---- a node
 
 -- another tag leaves the outline
-pub outline-tag : (t : Tag) (n : Node) → outline (set-tag t n) ≡ outline n
-unfolding outline set-tag
-outline-tag t n = refl
+pub outline_tag : (t : Tag) (n : Node) → outline (set_tag t n) ≡ outline n
+unfolding outline set_tag
+outline_tag t n = refl
 
 -- another revision too
-pub outline-revision : (v : ℕ) (n : Node) → outline (set-revision v n) ≡ outline n
-unfolding outline set-revision
-outline-revision v n = refl
+pub outline_revision : (v : ℕ) (n : Node) → outline (set_revision v n) ≡ outline n
+unfolding outline set_revision
+outline_revision v n = refl
 
 -- and other content
-pub outline-content : (c : Text) (n : Node) → outline (set-content c n) ≡ outline n
-unfolding outline set-content
-outline-content c n = refl
+pub outline_content : (c : Text) (n : Node) → outline (set_content c n) ≡ outline n
+unfolding outline set_content
+outline_content c n = refl
 
 -- the outline is of the node's kind
-pub outline-kind : (n : Node) → (outline n).kind ≡ n.kind
+pub outline_kind : (n : Node) → (outline n).kind ≡ n.kind
 unfolding outline
-outline-kind n = refl
+outline_kind n = refl
 
 -- the access test comes to the same
-pub allows-outline : (a : Account) (r : Right) (n : Node) → allows a r (outline n) ≡ allows a r n
+pub allows_outline : (a : Account) (r : Right) (n : Node) → allows a r (outline n) ≡ allows a r n
 unfolding allows outline
-allows-outline a r n = refl
+allows_outline a r n = refl
 
 -- ---- the judge
 
 module _ (a : Account) (n : Node) where
   -- an outline is judged as the node: its kind
-  pub kind-outline : (by-modes a).kind (outline n) ≡ (by-modes a).kind n
-  unfolding by-modes
-  kind-outline = outline-kind n
+  pub kind_outline : (by_modes a).kind (outline n) ≡ (by_modes a).kind n
+  unfolding by_modes
+  kind_outline = outline_kind n
 
   -- whether it may be passed
-  pub passes-outline : (by-modes a).passes (outline n) ≡ (by-modes a).passes n
-  unfolding by-modes
-  passes-outline = allows-outline a X n
+  pub passes_outline : (by_modes a).passes (outline n) ≡ (by_modes a).passes n
+  unfolding by_modes
+  passes_outline = allows_outline a X n
 
   -- and read
-  pub readable-outline : (by-modes a).readable (outline n) ≡ (by-modes a).readable n
-  unfolding by-modes
-  readable-outline = rw (allows-outline a R n, allows-outline a X n, outline-kind n)
+  pub readable_outline : (by_modes a).readable (outline n) ≡ (by_modes a).readable n
+  unfolding by_modes
+  readable_outline = rw (allows_outline a R n, allows_outline a X n, outline_kind n)
 
 -- ---- trees
 
 -- an alteration that leaves each outline leaves those of the tree
-pub outlines-altered : (g : Node → Node) → ((x : Node) → outline (g x) ≡ outline x) → (p : Path) (t : Place Node) → outlines (update p (alter g) t) ≡ outlines t
+pub outlines_altered : (g : Node → Node) → ((x : Node) → outline (g x) ≡ outline x) → (p : Path) (t : Place Node) → outlines (update p (alter g) t) ≡ outlines t
 unfolding outlines
-outlines-altered g e p t = map-altered outline g e p t
+outlines_altered g e p t = map_altered outline g e p t
 
 module _ (t u : Place Node) (s : outlines t ≡ outlines u) where
   -- a walk leads to places of the same outlines
-  pub same-walk : (a : Account) (p : Path) {d : Place Node} → walk (by-modes a) t p ≡ done d → (e : Place Node) × (walk (by-modes a) u p ≡ done e) × (outlines e ≡ outlines d)
+  pub same_walk : (a : Account) (p : Path) {d : Place Node} → walk (by_modes a) t p ≡ done d → (e : Place Node) × (walk (by_modes a) u p ≡ done e) × (outlines e ≡ outlines d)
   unfolding outlines
-  same-walk a p led =
-      let j = by-modes a in
-      let w = done-second (walk-map outline j j (kind-outline a) (passes-outline a) t p) led in
-      let v = done_first (walk-map outline j j (kind-outline a) (passes-outline a) u p) (ap (λ (x : Place Node). walk j x p) (sym s) ∙ w.1) in
+  same_walk a p led =
+      let j = by_modes a in
+      let w = done_second (walk_map outline j j (kind_outline a) (passes_outline a) t p) led in
+      let v = done_first (walk_map outline j j (kind_outline a) (passes_outline a) u p) (ap (λ (x : Place Node). walk j x p) (sym s) ∙ w.1) in
       (v.0, v.1, sym v.2 ∙ w.2)
 
   -- rows stand alike
@@ -95,17 +95,17 @@ module _ (d e : Place Node) (s : outlines d ≡ outlines e) where
   -- as many nodes are below
   pub same_size : size d.below ≡ size e.below
   unfolding outlines
-  same_size = size-kept outline d e s
+  same_size = size_kept outline d e s
 
   -- the outline above is one
-  same-outline : outline d.here ≡ outline e.here
+  same_outline : outline d.here ≡ outline e.here
   unfolding outlines
-  same-outline = here-kept outline d e s
+  same_outline = here_kept outline d e s
 
   -- so the kind
-  pub same-kind-of : d.here.kind ≡ e.here.kind
-  same-kind-of = sym (outline-kind d.here) ∙ ap (λ (n : Node). n.kind) same-outline ∙ outline-kind e.here
+  pub same_kind_of : d.here.kind ≡ e.here.kind
+  same_kind_of = sym (outline_kind d.here) ∙ ap (λ (n : Node). n.kind) same_outline ∙ outline_kind e.here
 
   -- and whether it may be read
-  pub same-readable : (a : Account) → (by-modes a).readable d.here ≡ (by-modes a).readable e.here
-  same-readable a = sym (readable-outline a d.here) ∙ ap (by-modes a).readable same-outline ∙ readable-outline a e.here
+  pub same_readable : (a : Account) → (by_modes a).readable d.here ≡ (by_modes a).readable e.here
+  same_readable a = sym (readable_outline a d.here) ∙ ap (by_modes a).readable same_outline ∙ readable_outline a e.here

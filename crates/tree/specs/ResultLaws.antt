@@ -18,16 +18,16 @@ by_result (done a) f g = g a refl
 -- ---- what has been done
 
 -- what is done as present is there
-pub present-some : {A : Type 0} {a : A} (c : Option A) (why : Cause) → present c why ≡ done a → c ≡ some a
+pub present_some : {A : Type 0} {a : A} (c : Option A) (why : Cause) → present c why ≡ done a → c ≡ some a
 unfolding present
-present-some none why e = not_done e
-present-some (some b) why e = cc
+present_some none why e = not_done e
+present_some (some b) why e = cc
 
 -- where absence is done there is nothing
-pub was-absent : {A : Type 0} (c : Option A) (why : Cause) → absent c why ≡ done tt → c ≡ none
+pub was_absent : {A : Type 0} (c : Option A) (why : Cause) → absent c why ≡ done tt → c ≡ none
 unfolding absent
-was-absent none why e = refl
-was-absent (some a) why e = not_done e
+was_absent none why e = refl
+was_absent (some a) why e = not_done e
 
 -- a test that was required passed
 pub required : (b : Bool) (why : Cause) → require b why ≡ done tt → b ≡ true
@@ -42,88 +42,88 @@ bind_done (refused why) f e = not_done e
 bind_done (done x) f e = (x, refl, e)
 
 -- a check and a step that are done were both done
-pub then-done : {A : Type 0} (a : Result (Unit {0})) (r : Result A) {y : A} → (a >> r) ≡ done y → (a ≡ done tt) × (r ≡ done y)
+pub then_done : {A : Type 0} (a : Result (Unit {0})) (r : Result A) {y : A} → (a >> r) ≡ done y → (a ≡ done tt) × (r ≡ done y)
 unfolding ◌>>◌
-then-done (refused why) r e = not_done e
-then-done (done u) r e = (refl, e)
+then_done (refused why) r e = not_done e
+then_done (done u) r e = (refl, e)
 
 -- a step that is never refused is refused only before
-pub refused-before : {A B : Type 0} (w : Result A) (f : A → B) {why : Cause} → (w >>= λ d. done (f d)) ≡ refused why → w ≡ refused why
+pub refused_before : {A B : Type 0} (w : Result A) (f : A → B) {why : Cause} → (w >>= λ d. done (f d)) ≡ refused why → w ≡ refused why
 unfolding ◌>>=◌
-refused-before (refused c) f {why} e = let q : c ≡ why = cc in ap refused q
-refused-before (done d) f e = not_done (sym e)
+refused_before (refused c) f {why} e = let q : c ≡ why = cc in ap refused q
+refused_before (done d) f e = not_done (sym e)
 
 -- ---- how outcomes go on
 
 -- what is there is done as present
-pub present-of : {A : Type 0} (a : A) (why : Cause) → present (some a) why ≡ done a
+pub present_of : {A : Type 0} (a : A) (why : Cause) → present (some a) why ≡ done a
 unfolding present
-present-of a why = refl
+present_of a why = refl
 
 -- what is missing is refused as present
-pub present-none : {A : Type 0} (why : Cause) → present {A = A} none why ≡ refused why
+pub present_none : {A : Type 0} (why : Cause) → present {A = A} none why ≡ refused why
 unfolding present
-present-none why = refl
+present_none why = refl
 
 -- after a check that is done comes the step
-pub done-then : {A : Type 0} (r : Result A) → (done tt >> r) ≡ r
+pub done_then : {A : Type 0} (r : Result A) → (done tt >> r) ≡ r
 unfolding ◌>>◌
-done-then r = refl
+done_then r = refl
 
 -- after a refused check the refusal stays
-pub refused-then : {A : Type 0} (why : Cause) (r : Result A) → (refused why >> r) ≡ refused why
+pub refused_then : {A : Type 0} (why : Cause) (r : Result A) → (refused why >> r) ≡ refused why
 unfolding ◌>>◌
-refused-then why r = refl
+refused_then why r = refl
 
 -- what is done is handed on
-pub done-bind : {A B : Type 0} (a : A) (f : A → Result B) → (done a >>= f) ≡ f a
+pub done_bind : {A B : Type 0} (a : A) (f : A → Result B) → (done a >>= f) ≡ f a
 unfolding ◌>>=◌
-done-bind a f = refl
+done_bind a f = refl
 
 -- a refusal stays
-pub refused-bind : {A B : Type 0} (why : Cause) (f : A → Result B) → (refused why >>= f) ≡ refused why
+pub refused_bind : {A B : Type 0} (why : Cause) (f : A → Result B) → (refused why >>= f) ≡ refused why
 unfolding ◌>>=◌
-refused-bind why f = refl
+refused_bind why f = refl
 
 -- a test that passes is done
-pub require-true : (why : Cause) → require true why ≡ done tt
+pub require_true : (why : Cause) → require true why ≡ done tt
 unfolding require
-require-true why = refl
+require_true why = refl
 
 -- a test that fails is refused
-pub require-false : (why : Cause) → require false why ≡ refused why
+pub require_false : (why : Cause) → require false why ≡ refused why
 unfolding require
-require-false why = refl
+require_false why = refl
 
 -- two checks for one cause are one
-pub both-checked : {A : Type 0} (x y : Bool) (why : Cause) (r : Result A) → (require x why >> (require y why >> r)) ≡ (require (x && y) why >> r)
+pub both_checked : {A : Type 0} (x y : Bool) (why : Cause) (r : Result A) → (require x why >> (require y why >> r)) ≡ (require (x && y) why >> r)
 unfolding ◌>>◌ require
-both-checked true y why r = refl
-both-checked false y why r = refl
+both_checked true y why r = refl
+both_checked false y why r = refl
 
 -- checks one after another are grouped either way
-pub then-then : {A : Type 0} (a b : Result (Unit {0})) (c : Result A) → ((a >> b) >> c) ≡ (a >> (b >> c))
+pub then_then : {A : Type 0} (a b : Result (Unit {0})) (c : Result A) → ((a >> b) >> c) ≡ (a >> (b >> c))
 unfolding ◌>>◌
-then-then (refused why) b c = refl
-then-then (done u) b c = refl
+then_then (refused why) b c = refl
+then_then (done u) b c = refl
 
 -- and so are a check and steps
-pub then-bind : {A B : Type 0} (a : Result (Unit {0})) (c : Result A) (k : A → Result B) → ((a >> c) >>= k) ≡ (a >> (c >>= k))
+pub then_bind : {A B : Type 0} (a : Result (Unit {0})) (c : Result A) (k : A → Result B) → ((a >> c) >>= k) ≡ (a >> (c >>= k))
 unfolding ◌>>=◌ ◌>>◌
-then-bind (refused why) c k = refl
-then-bind (done u) c k = refl
+then_bind (refused why) c k = refl
+then_bind (done u) c k = refl
 
 -- and steps
-pub bind-bind : {A B C : Type 0} (a : Result A) (f : A → Result B) (g : B → Result C) → ((a >>= f) >>= g) ≡ (a >>= λ d. f d >>= g)
+pub bind_bind : {A B C : Type 0} (a : Result A) (f : A → Result B) (g : B → Result C) → ((a >>= f) >>= g) ≡ (a >>= λ d. f d >>= g)
 unfolding ◌>>=◌
-bind-bind (refused why) f g = refl
-bind-bind (done d) f g = refl
+bind_bind (refused why) f g = refl
+bind_bind (done d) f g = refl
 
 -- what holds of every refusal and of all that follows a value holds of both together
-pub holds-bind : {A B : Type 0} (P : Result B → Type 0) (m : Result A) (f : A → Result B) → ((why : Cause) → P (refused why)) → ((a : A) → P (f a)) → P (m >>= f)
+pub holds_bind : {A B : Type 0} (P : Result B → Type 0) (m : Result A) (f : A → Result B) → ((why : Cause) → P (refused why)) → ((a : A) → P (f a)) → P (m >>= f)
 unfolding ◌>>=◌
-holds-bind P (refused why) f h k = h why
-holds-bind P (done a) f h k = k a
+holds_bind P (refused why) f h k = h why
+holds_bind P (done a) f h k = k a
 
 -- and so after a check
 pub holds_then : {B : Type 0} (P : Result B → Type 0) (m : Result (Unit {0})) (r : Result B) → ((why : Cause) → P (refused why)) → P r → P (m >> r)

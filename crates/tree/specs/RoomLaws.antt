@@ -5,67 +5,67 @@ use Rattle.std.proofs.Math.Option.{none, some}
 use Rattle.std.proofs.lemmas.Bool.{not-true}
 use Rattle.accounts.specs.declared.Right.TheVariants.{W}
 use Rattle.accounts.specs.declared.Account.{Account}
-use Rattle.accounts.specs.Access.{is-root, may-root}
-use Rattle.syntax.specs.Path.{Name, Path, root, ◌▹◌, parent, last, is-top}
+use Rattle.accounts.specs.Access.{is_root, may_root}
+use Rattle.syntax.specs.Path.{Name, Path, root, ◌▹◌, parent, last, is_top}
 use Rattle.syntax.specs.FormLaws.{answered}
 use Rattle.tree.specs.declared.Cause.TheVariants.{Access, Exists}
 use Rattle.tree.specs.Result.{refused, done, absent}
-use Rattle.tree.specs.ResultLaws.{done-then, done-bind, require-true}
+use Rattle.tree.specs.ResultLaws.{done_then, done_bind, require_true}
 use Rattle.tree.specs.Outcomes.{gives, Ensures}
-use Rattle.tree.specs.GivesLaws.{any-outcome, done-with, then-check, then-guard, then-do}
+use Rattle.tree.specs.GivesLaws.{any_outcome, done_with, then_check, then_guard, then_do}
 use Rattle.tree.specs.Forest.{Forest, Place, get, place_at}
-use Rattle.tree.specs.Node.{is-directory, Node}
-use Rattle.tree.specs.Walk.{Judge, by-modes, unused, walk, room}
-use Rattle.tree.specs.JudgeLaws.{allows-is, room-by-modes}
-use Rattle.tree.specs.StepLaws.{walk-root, walked, was-unused, parent-walked}
-use Rattle.tree.specs.UpdateLaws.{place-at-root, walked_at}
-use Rattle.tree.specs.WellFormed.{is-tree}
-use Rattle.tree.specs.WellFormedLaws.{entered-directory}
-use Rattle.tree.specs.OtherPathLaws.{root-parent-walks}
+use Rattle.tree.specs.Node.{is_directory, Node}
+use Rattle.tree.specs.Walk.{Judge, by_modes, unused, walk, room}
+use Rattle.tree.specs.JudgeLaws.{allows_is, room_by_modes}
+use Rattle.tree.specs.StepLaws.{walk_root, walked, was_unused, parent_walked}
+use Rattle.tree.specs.UpdateLaws.{place_at_root, walked_at}
+use Rattle.tree.specs.WellFormed.{is_tree}
+use Rattle.tree.specs.WellFormedLaws.{entered_directory}
+use Rattle.tree.specs.OtherPathLaws.{root_parent_walks}
 
 module _ {A : Type 0} (n : Name) (F : Forest A) where
   -- a name that names no child is unused
-  pub is-unused : get n F ≡ none → unused n F ≡ done tt
+  pub is_unused : get n F ≡ none → unused n F ≡ done tt
   unfolding unused absent
-  is-unused e = rw e
+  is_unused e = rw e
 
   -- one that names a child is not
-  pub is-used : {d : Place A} → get n F ≡ some d → unused n F ≡ refused Exists
+  pub is_used : {d : Place A} → get n F ≡ some d → unused n F ≡ refused Exists
   unfolding unused absent
-  is-used e = rw e
+  is_used e = rw e
 
 -- a walk came through the place above its path
-pub walked-above : {A : Type 0} (j : Judge A) (t : Place A) (p : Path) {d e : Place A} → walk j t p ≡ done d → place_at t (parent p) ≡ some e
+pub walked_above : {A : Type 0} (j : Judge A) (t : Place A) (p : Path) {d e : Place A} → walk j t p ≡ done d → place_at t (parent p) ≡ some e
     → walk j t (parent p) ≡ done e
 unfolding parent
-walked-above j t root w a = walk-root j t ∙ ap done (answered (sym a ∙ place-at-root t))
-walked-above j t (p ▹ n) w a = let i = walked j t p n w in i.1 ∙ ap done (answered (sym a ∙ walked_at t j p i.0 i.1))
+walked_above j t root w a = walk_root j t ∙ ap done (answered (sym a ∙ place_at_root t))
+walked_above j t (p ▹ n) w a = let i = walked j t p n w in i.1 ∙ ap done (answered (sym a ∙ walked_at t j p i.0 i.1))
 
 -- a directory for a new node at p: the walk to the parent leads there, and the name is not used
 pub record Roomed (a : Account) (t : Place Node) (p : Path) (d : Place Node) : Type 0 where
-  pub led : walk (by-modes a) t (parent p) ≡ done d
-  pub enterable : is-directory d.here.kind ≡ true
+  pub led : walk (by_modes a) t (parent p) ≡ done d
+  pub enterable : is_directory d.here.kind ≡ true
   pub free : get (last p) d.below ≡ none
-  pub below_top : is-top p ≡ false
+  pub below_top : is_top p ≡ false
 
 module _ (a : Account) (t : Place Node) (p : Path) where
-  room-ensures : Ensures (Roomed a t p) (room (by-modes a) t p)
-  room-ensures = rw (room-by-modes a t p) (
-      then-check Exists tt _ λ x.
-      then-do _ λ d e.
-      then-guard (any-outcome _) λ b.
-      then-check Access tt _ λ _.
-      let i = parent-walked (by-modes a) t p e in
-      gives (record { led = i.0; enterable = entered-directory a d.here i.1; free = was-unused (last p) d.below b; below_top = not-true (is-top p) x }))
+  room_ensures : Ensures (Roomed a t p) (room (by_modes a) t p)
+  room_ensures = rw (room_by_modes a t p) (
+      then_check Exists tt _ λ x.
+      then_do _ λ d e.
+      then_guard (any_outcome _) λ b.
+      then_check Access tt _ λ _.
+      let i = parent_walked (by_modes a) t p e in
+      gives (record { led = i.0; enterable = entered_directory a d.here i.1; free = was_unused (last p) d.below b; below_top = not-true (is_top p) x }))
 
   -- the room that was found is one
-  pub room-found : {d : Place Node} → room (by-modes a) t p ≡ done d → Roomed a t p d
-  room-found e = done-with room-ensures e
+  pub room_found : {d : Place Node} → room (by_modes a) t p ≡ done d → Roomed a t p d
+  room_found e = done_with room_ensures e
 
   -- root finds a room in every directory where the name is not used
-  pub root-room : is-root a.uid ≡ true → is-tree t ≡ true → {d : Place Node} → place_at t (parent p) ≡ some d → is-directory d.here.kind ≡ true
-      → get (last p) d.below ≡ none → is-top p ≡ false → room (by-modes a) t p ≡ done d
-  root-room top whole {d} there directory free below =
-      let may = allows-is a d.here W ∙ may-root a W d.here.owner d.here.group d.here.mode top in
-      rw (room-by-modes a t p, below, require-true, done-then, root-parent-walks a top t whole p d there directory, done-bind)
-      (rw (is-unused (last p) d.below free, done-then, may, require-true, done-then))
+  pub root_room : is_root a.uid ≡ true → is_tree t ≡ true → {d : Place Node} → place_at t (parent p) ≡ some d → is_directory d.here.kind ≡ true
+      → get (last p) d.below ≡ none → is_top p ≡ false → room (by_modes a) t p ≡ done d
+  root_room top whole {d} there directory free below =
+      let may = allows_is a d.here W ∙ may_root a W d.here.owner d.here.group d.here.mode top in
+      rw (room_by_modes a t p, below, require_true, done_then, root_parent_walks a top t whole p d there directory, done_bind)
+      (rw (is_unused (last p) d.below free, done_then, may, require_true, done_then))

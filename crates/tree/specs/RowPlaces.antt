@@ -11,8 +11,8 @@ use Rattle.tree.specs.Rows.{Row, flatten, rows}
 -- ---- a place
 
 -- a place's rows, its own first
-unfoldable pub place-rows : {A : Type 0} → ℕ → Name → Place A → List (Row A)
-place-rows k n d = record { depth = k; name = n; here = d.here } ∷ flatten (suc k) d.below
+unfoldable pub place_rows : {A : Type 0} → ℕ → Name → Place A → List (Row A)
+place_rows k n d = record { depth = k; name = n; here = d.here } ∷ flatten (suc k) d.below
 
 -- no row, or the first no deeper than k
 unfoldable pub ends : {A : Type 0} → ℕ → List (Row A) → Bool
@@ -30,22 +30,22 @@ behind n nil = nil
 behind n (node m x cs rest) = cond (same_text n m) rest (behind n rest)
 
 -- the children of a place, if there is one
-unfoldable pub children-of : {A : Type 0} → Option (Place A) → Forest A
-children-of none = nil
-children-of (some d) = d.below
+unfoldable pub children_of : {A : Type 0} → Option (Place A) → Forest A
+children_of none = nil
+children_of (some d) = d.below
 
 -- how many rows stand before that of the place at a path
 unfoldable pub index_of : {A : Type 0} → Place A → Path → ℕ
 index_of t root = 0
-index_of t (p ▹ n) = suc (index_of t p + size (ahead n (children-of (place_at t p))))
+index_of t (p ▹ n) = suc (index_of t p + size (ahead n (children_of (place_at t p))))
 
 -- the place d at p, with the rows before and after its own
 pub record Around {A : Type 0} (t : Place A) (p : Path) (d : Place A) : Type 0 where
   pub there : place_at t p ≡ some d
   pub pre : List (Row A)
   pub post : List (Row A)
-  pub same : (e : Place A) → rows (update p (λ x. e) t) ≡ pre ++ (place-rows (depth p) (last p) e ++ post)
-  pub was : rows t ≡ pre ++ (place-rows (depth p) (last p) d ++ post)
+  pub same : (e : Place A) → rows (update p (λ x. e) t) ≡ pre ++ (place_rows (depth p) (last p) e ++ post)
+  pub was : rows t ≡ pre ++ (place_rows (depth p) (last p) d ++ post)
   pub stops : ends (depth p) post ≡ true
   pub index : length pre ≡ index_of t p
 
@@ -62,14 +62,14 @@ lesser n nil = nil
 lesser n (node m x cs rest) = cond (precedes m n) (node m x cs (lesser n rest)) nil
 
 -- and the others
-unfoldable pub not-lesser : {A : Type 0} → Name → Forest A → Forest A
-not-lesser n nil = nil
-not-lesser n (node m x cs rest) = cond (precedes m n) (not-lesser n rest) (node m x cs rest)
+unfoldable pub not_lesser : {A : Type 0} → Name → Forest A → Forest A
+not_lesser n nil = nil
+not_lesser n (node m x cs rest) = cond (precedes m n) (not_lesser n rest) (node m x cs rest)
 
 -- the rows before the place of a child of a name, there or not
 unfoldable pub rows_before : {A : Type 0} {t : Place A} {p : Path} {d : Place A} → Around t p d → Name → List (Row A)
 rows_before {p = p} {d = d} c n = c.pre ++ record { depth = depth p; name = last p; here = d.here } ∷ flatten (suc (depth p)) (lesser n d.below)
 
 -- and those after it
-unfoldable pub rows-after : {A : Type 0} {t : Place A} {p : Path} {d : Place A} → Around t p d → Name → List (Row A)
-rows-after {p = p} {d = d} c n = flatten (suc (depth p)) (remove n (not-lesser n d.below)) ++ c.post
+unfoldable pub rows_after : {A : Type 0} {t : Place A} {p : Path} {d : Place A} → Around t p d → Name → List (Row A)
+rows_after {p = p} {d = d} c n = flatten (suc (depth p)) (remove n (not_lesser n d.below)) ++ c.post

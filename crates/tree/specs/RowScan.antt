@@ -17,43 +17,43 @@ first_passes f [] = false
 first_passes f (r ∷ rs) = f r
 
 -- a row below depth k
-unfoldable pub is-deeper : {A : Type 0} → ℕ → Row A → Bool
-is-deeper k r = ltb k r.depth
+unfoldable pub is_deeper : {A : Type 0} → ℕ → Row A → Bool
+is_deeper k r = ltb k r.depth
 
-unfoldable pub first-depth : {A : Type 0} → List (Row A) → ℕ
-first-depth [] = 0
-first-depth (r ∷ rs) = r.depth
+unfoldable pub first_depth : {A : Type 0} → List (Row A) → ℕ
+first_depth [] = 0
+first_depth (r ∷ rs) = r.depth
 
 -- the depth of the row at an index; past the last there is none, and 0 stands for it
-unfoldable pub depth-of : {A : Type 0} → List (Row A) → ℕ → ℕ
-depth-of rs at = first-depth (drop at rs)
+unfoldable pub depth_of : {A : Type 0} → List (Row A) → ℕ → ℕ
+depth_of rs at = first_depth (drop at rs)
 
 -- where the rows below a row end
-unfoldable pub end-of-subtree : {A : Type 0} → List (Row A) → ℕ → ℕ
-end-of-subtree rs at = suc (at + span (is-deeper (depth-of rs at)) (drop (suc at) rs))
+unfoldable pub end_of_subtree : {A : Type 0} → List (Row A) → ℕ → ℕ
+end_of_subtree rs at = suc (at + span (is_deeper (depth_of rs at)) (drop (suc at) rs))
 
 -- how a name stands to another
 pub data Order : Type 0 where
   Before Same After : Order
 
-unfoldable pub order-of : Text → Text → Order
-order-of s t = cond (same_text s t) Same (cond (precedes s t) Before After)
+unfoldable pub order_of : Text → Text → Order
+order_of s t = cond (same_text s t) Same (cond (precedes s t) Before After)
 
 -- how a row stands to that of the child named n at depth k: what lies deeper is below a sibling, what is less deep ends the children
-unfoldable pub order-in : {A : Type 0} → ℕ → Name → Row A → Order
-order-in k n r = cond (ltb k r.depth) Before (cond (ltb r.depth k) After (order-of r.name n))
+unfoldable pub order_in : {A : Type 0} → ℕ → Name → Row A → Order
+order_in k n r = cond (ltb k r.depth) Before (cond (ltb r.depth k) After (order_of r.name n))
 
 -- what the search answers at index i, by how the row there stands and what the rows behind it answer
-unfoldable pub child-by : Order → ℕ → Child → Child
-child-by Before i behind = behind
-child-by Same i behind = Found i
-child-by After i behind = Missing i
+unfoldable pub child_by : Order → ℕ → Child → Child
+child_by Before i behind = behind
+child_by Same i behind = Found i
+child_by After i behind = Missing i
 
 -- the child named n at depth k among rows of which the first has index i, or where it would stand
-unfoldable pub child-from : {A : Type 0} → ℕ → Name → ℕ → List (Row A) → Child
-child-from k n i [] = Missing i
-child-from k n i (r ∷ rs) = child-by (order-in k n r) i (child-from k n (suc i) rs)
+unfoldable pub child_from : {A : Type 0} → ℕ → Name → ℕ → List (Row A) → Child
+child_from k n i [] = Missing i
+child_from k n i (r ∷ rs) = child_by (order_in k n r) i (child_from k n (suc i) rs)
 
 -- the child of a name of the place whose row has an index
-unfoldable pub child-in : {A : Type 0} → List (Row A) → ℕ → Name → Child
-child-in rs at n = child-from (suc (depth-of rs at)) n (suc at) (drop (suc at) rs)
+unfoldable pub child_in : {A : Type 0} → List (Row A) → ℕ → Name → Child
+child_in rs at n = child_from (suc (depth_of rs at)) n (suc at) (drop (suc at) rs)

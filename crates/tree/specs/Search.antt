@@ -8,7 +8,7 @@ use Rattle.syntax.specs.Path.{Name}
 use Rattle.tree.specs.declared.Search.{Search}
 use Rattle.tree.specs.Forest.{Forest, nil, node}
 use Rattle.tree.specs.Rows.{Row}
-use Rattle.tree.specs.RowScan.{Order, Before, Same, After, depth-of, order-in, child-in}
+use Rattle.tree.specs.RowScan.{Order, Before, Same, After, depth_of, order_in, child_in}
 
 -- how many bytes of two texts are alike from the front
 unfoldable pub alike : Text → Text → ℕ
@@ -17,31 +17,31 @@ alike (a ∷ s) [] = 0
 alike (a ∷ s) (b ∷ t) = cond (eqb a b) (suc (alike s t)) 0
 
 -- the steps among children in order: of each, up to the first that is not less, the bytes alike and one more
-unfoldable pub steps-among : {A : Type 0} → Name → Forest A → ℕ
-steps-among n nil = 0
-steps-among n (node m x cs rest) = suc (alike m n) + cond (precedes m n) (steps-among n rest) 0
+unfoldable pub steps_among : {A : Type 0} → Name → Forest A → ℕ
+steps_among n nil = 0
+steps_among n (node m x cs rest) = suc (alike m n) + cond (precedes m n) (steps_among n rest) 0
 
 -- The same over rows, so that it is said of any bytes.
 
 -- the steps at a row: of a child of depth k the bytes alike and one more, of what lies below a child or behind the last none
-unfoldable pub steps-at : {A : Type 0} → ℕ → Name → Row A → ℕ
-steps-at k n r = cond (eqb r.depth k) (suc (alike r.name n)) 0
+unfoldable pub steps_at : {A : Type 0} → ℕ → Name → Row A → ℕ
+steps_at k n r = cond (eqb r.depth k) (suc (alike r.name n)) 0
 
 -- the search goes on behind a row that stands before the child's
-unfoldable pub steps-by : Order → ℕ → ℕ → ℕ
-steps-by Before here behind = here + behind
-steps-by Same here behind = here
-steps-by After here behind = here
+unfoldable pub steps_by : Order → ℕ → ℕ → ℕ
+steps_by Before here behind = here + behind
+steps_by Same here behind = here
+steps_by After here behind = here
 
 -- the steps among rows to the child named n at depth k
-unfoldable pub steps-from : {A : Type 0} → ℕ → Name → List (Row A) → ℕ
-steps-from k n [] = 0
-steps-from k n (r ∷ rs) = steps-by (order-in k n r) (steps-at k n r) (steps-from k n rs)
+unfoldable pub steps_from : {A : Type 0} → ℕ → Name → List (Row A) → ℕ
+steps_from k n [] = 0
+steps_from k n (r ∷ rs) = steps_by (order_in k n r) (steps_at k n r) (steps_from k n rs)
 
 -- the steps to the child of a name of the place whose row has an index
-unfoldable pub steps-in : {A : Type 0} → List (Row A) → ℕ → Name → ℕ
-steps-in rs at n = steps-from (suc (depth-of rs at)) n (drop (suc at) rs)
+unfoldable pub steps_in : {A : Type 0} → List (Row A) → ℕ → Name → ℕ
+steps_in rs at n = steps_from (suc (depth_of rs at)) n (drop (suc at) rs)
 
 -- that child, or where it would stand, and the steps
-unfoldable pub search-in : {A : Type 0} → List (Row A) → ℕ → Name → Search
-search-in rs at n = record { child = child-in rs at n; steps = steps-in rs at n }
+unfoldable pub search_in : {A : Type 0} → List (Row A) → ℕ → Name → Search
+search_in rs at n = record { child = child_in rs at n; steps = steps_in rs at n }

@@ -5,8 +5,8 @@ use Rattle.buffers.specs.Text.{Text, same_text, precedes}
 use Rattle.syntax.specs.Pieces.{bytes}
 use Rattle.tree.specs.Forest.{Forest, nil, node, Place}
 use Rattle.tree.specs.Rows.{flatten, rows}
-use Rattle.tree.specs.RowScan.{order-of, first-depth, depth-of, order-in}
-use Rattle.tree.specs.Search.{alike, steps-among, steps-at, steps-by, steps-from, steps-in}
+use Rattle.tree.specs.RowScan.{order_of, first_depth, depth_of, order_in}
+use Rattle.tree.specs.Search.{alike, steps_among, steps_at, steps_by, steps_from, steps_in}
 
 -- a name sought, and the steps
 record Case : Type 0 where
@@ -22,11 +22,11 @@ Counts : (Text → ℕ) → List Case → Type 0
 Counts f cs = map (λ c. f c.sought) cs ≡ map (λ c. c.steps) cs
 
 -- ash, elm with two below it, elmwood, oak
-elm-below : Forest ℕ
-elm-below = node (bytes "ash") 0 nil (node (bytes "elms") 0 nil nil)
+elm_below : Forest ℕ
+elm_below = node (bytes "ash") 0 nil (node (bytes "elms") 0 nil nil)
 
 woods : Place ℕ
-woods = record { here = 0; below = node (bytes "ash") 0 nil (node (bytes "elm") 0 elm-below (node (bytes "elmwood") 0 nil (node (bytes "oak") 0 nil nil))) }
+woods = record { here = 0; below = node (bytes "ash") 0 nil (node (bytes "elm") 0 elm_below (node (bytes "elmwood") 0 nil (node (bytes "oak") 0 nil nil))) }
 
 -- below the top, a summand for each child tried, in order; first the names that are there
 below_top : List Case
@@ -41,19 +41,19 @@ below_top =
     "" takes 1 ∷
     "zebrano" takes (1 + 1 + 1 + 1) ∷ []
 
-children-counted : Counts (λ n. steps-among n woods.below) below_top
-unfolding Counts ◌takes◌ elm-below woods below_top bytes same_text precedes alike steps-among
-children-counted = refl
+children_counted : Counts (λ n. steps_among n woods.below) below_top
+unfolding Counts ◌takes◌ elm_below woods below_top bytes same_text precedes alike steps_among
+children_counted = refl
 
-rows-counted : Counts (steps-in (rows woods) 0) below_top
-unfolding Counts ◌takes◌ elm-below woods below_top bytes same_text precedes order-of flatten rows first-depth depth-of order-in alike steps-at steps-by steps-from steps-in
-rows-counted = refl
+rows_counted : Counts (steps_in (rows woods) 0) below_top
+unfolding Counts ◌takes◌ elm_below woods below_top bytes same_text precedes order_of flatten rows first_depth depth_of order_in alike steps_at steps_by steps_from steps_in
+rows_counted = refl
 
 -- below elm, whose row is the third; and below oak, where nothing is tried
-rows-below-counted : Counts (steps-in (rows woods) 2) ("elm" takes (1 + 4) ∷ "elms" takes (1 + 5) ∷ [])
-unfolding Counts ◌takes◌ elm-below woods bytes same_text precedes order-of flatten rows first-depth depth-of order-in alike steps-at steps-by steps-from steps-in
-rows-below-counted = refl
+rows_below_counted : Counts (steps_in (rows woods) 2) ("elm" takes (1 + 4) ∷ "elms" takes (1 + 5) ∷ [])
+unfolding Counts ◌takes◌ elm_below woods bytes same_text precedes order_of flatten rows first_depth depth_of order_in alike steps_at steps_by steps_from steps_in
+rows_below_counted = refl
 
-nothing-counted : Counts (steps-in (rows woods) 6) ("oak" takes 0 ∷ [])
-unfolding Counts ◌takes◌ elm-below woods bytes flatten rows first-depth depth-of steps-from steps-in
-nothing-counted = refl
+nothing_counted : Counts (steps_in (rows woods) 6) ("oak" takes 0 ∷ [])
+unfolding Counts ◌takes◌ elm_below woods bytes flatten rows first_depth depth_of steps_from steps_in
+nothing_counted = refl

@@ -2,10 +2,10 @@
 ghost use Rattle.std.specs.Prelude.{◌≡◌, ◌≤◌, length, get_or};
 ghost use Rattle.tree.specs.declared.Child.TheVariants.{Found, Missing};
 ghost use Rattle.tree.specs.declared.Search.{Search};
-ghost use Rattle.tree.specs.RowScan.{child-in};
-ghost use Rattle.tree.specs.Search.{search-in};
-ghost use Rattle.tree.specs.RowAt.{row_at, all-rows};
-ghost use Rattle.tree.specs.TreeBytes.{Has-row, Used};
+ghost use Rattle.tree.specs.RowScan.{child_in};
+ghost use Rattle.tree.specs.Search.{search_in};
+ghost use Rattle.tree.specs.RowAt.{row_at, all_rows};
+ghost use Rattle.tree.specs.TreeBytes.{HasRow, Used};
 
 use crate::layout::{FIRST, NAME, NAME_WIDTH, ROW};
 use crate::rows::{count, depth_at};
@@ -13,7 +13,7 @@ use crate::{Child, Search};
 
 // A byte of a row's name; 0 where the name has ended.
 fn name_byte(tree: &[u8], i: usize, k: usize) -> u8
-    requires has_row { Has-row tree.now i }
+    requires has_row { HasRow tree.now i }
     requires k_in_bounds { k ≤ length (row_at tree.now i).name }
     ensures { result ≡ get_or (row_at tree.now i).name k 0 }
 {
@@ -47,7 +47,7 @@ fn missing(i: usize, steps: usize) -> Search
 // a lesser one is passed, and behind a greater one there is none.
 pub fn search_child(tree: &[u8], at: usize, name: &[u8]) -> Search
     requires { Used tree.now at }
-    ensures { result ≡ search-in (all-rows tree.now) at name.now }
+    ensures { result ≡ search_in (all_rows tree.now) at name.now }
 {
     let n = count(tree);
     let depth = depth_at(tree, at) as usize + 1;
@@ -88,7 +88,7 @@ pub fn search_child(tree: &[u8], at: usize, name: &[u8]) -> Search
 // The child of a place, or where it would stand.
 pub fn find_child(tree: &[u8], at: usize, name: &[u8]) -> Child
     requires { Used tree.now at }
-    ensures { result ≡ child-in (all-rows tree.now) at name.now }
+    ensures { result ≡ child_in (all_rows tree.now) at name.now }
 {
     let answer = search_child(tree, at, name);
     answer.child

@@ -1,12 +1,12 @@
 // What a node is.
 ghost use Rattle.std.specs.Prelude.{◌≡◌};
-ghost use Rattle.tree.specs.Node.{is-directory};
+ghost use Rattle.tree.specs.Node.{is_directory};
 
 use crate::Kind;
 
 // Whether a kind is that of a directory.
 pub fn is_directory(kind: Kind) -> bool
-    ensures { result ≡ is-directory kind }
+    ensures { result ≡ is_directory kind }
 {
     match kind {
         Kind::File => false,

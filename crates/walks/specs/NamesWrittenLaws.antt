@@ -8,32 +8,32 @@ use Rattle.std.proofs.Math.Numerals.{add-one}
 use Rattle.std.proofs.Math.ListN.{length, set, drop, length-append}
 use Rattle.buffers.specs.Text.{Text}
 use Rattle.buffers.specs.Over.{over}
-use Rattle.buffers.specs.OverLaws.{over-byte, over-more}
+use Rattle.buffers.specs.OverLaws.{over_byte, over_more}
 use Rattle.syntax.specs.Pieces.{comma, joined}
-use Rattle.walks.specs.NamesWritten.{next_place, Names-written}
+use Rattle.walks.specs.NamesWritten.{next_place, NamesWritten}
 
 -- what is joined, part by part
-regroup-joined : (n : Text) (c : ℕ) (t m : Text) → n ++ (c ∷ ((t ++ (c ∷ [])) ++ m)) ≡ ((n ++ (c ∷ t)) ++ (c ∷ [])) ++ m
-regroup-joined n c t m = simp append_assoc
+regroup_joined : (n : Text) (c : ℕ) (t m : Text) → n ++ (c ∷ ((t ++ (c ∷ [])) ++ m)) ≡ ((n ++ (c ∷ t)) ++ (c ∷ [])) ++ m
+regroup_joined n c t m = simp append_assoc
 
 -- one more text joined to others
-joined-behind : (c : ℕ) (n : Text) (ns : List Text) (m : Text) → joined c ((n ∷ ns) ++ (m ∷ [])) ≡ (joined c (n ∷ ns) ++ (c ∷ [])) ++ m
+joined_behind : (c : ℕ) (n : Text) (ns : List Text) (m : Text) → joined c ((n ∷ ns) ++ (m ∷ [])) ≡ (joined c (n ∷ ns) ++ (c ∷ [])) ++ m
 unfolding joined
-joined-behind c n [] m = sym (append_assoc n (c ∷ []) m)
-joined-behind c n (q ∷ qs) m =
-    ap (λ (l : Text). n ++ (c ∷ l)) (joined-behind c q qs m)
-    ∙ regroup-joined n c (joined c (q ∷ qs)) m
+joined_behind c n [] m = sym (append_assoc n (c ∷ []) m)
+joined_behind c n (q ∷ qs) m =
+    ap (λ (l : Text). n ++ (c ∷ l)) (joined_behind c q qs m)
+    ∙ regroup_joined n c (joined c (q ∷ qs)) m
 
 module _ (a b z : List ℕ) (m : Text) (place : ℕ) where
   -- the first name is written without a comma
-  pub named-first : (ns : List Text) → Names-written a ns b place → place ≡ 0 → z ≡ over 0 m b → Names-written a (ns ++ (m ∷ [])) z (length m + 1)
+  pub named_first : (ns : List Text) → NamesWritten a ns b place → place ≡ 0 → z ≡ over 0 m b → NamesWritten a (ns ++ (m ∷ [])) z (length m + 1)
   unfolding next_place joined
-  named-first [] v h e = record { holds = e ∙ rw v.holds (over-more [] m a); next = add-one (length m) }
-  named-first (n ∷ ns) v h e = let x : ⊥ = omega (arith, v.next) in absurd x
+  named_first [] v h e = record { holds = e ∙ rw v.holds (over_more [] m a); next = add-one (length m) }
+  named_first (n ∷ ns) v h e = let x : ⊥ = omega (arith, v.next) in absurd x
 
   -- another behind a comma
-  pub named_more : (ns : List Text) → Names-written a ns b place → (place ≡ 0 → ⊥) → place ≤ length b → z ≡ over place m (set b (place - 1) 44)
-      → Names-written a (ns ++ (m ∷ [])) z (place + length m + 1)
+  pub named_more : (ns : List Text) → NamesWritten a ns b place → (place ≡ 0 → ⊥) → place ≤ length b → z ≡ over place m (set b (place - 1) 44)
+      → NamesWritten a (ns ++ (m ∷ [])) z (place + length m + 1)
   unfolding next_place comma
   named_more [] v h l e = absurd (h v.next)
   named_more (n ∷ ns) v h l e =
@@ -42,20 +42,20 @@ module _ (a b z : List ℕ) (m : Text) (place : ℕ) where
       let p : place - 1 ≡ length t = omega (arith, v.next) in
       let q : place ≡ length u = omega (arith, v.next, length-append t (44 ∷ [])) in
       let first : set b (place - 1) 44 ≡ u ++ drop (length u) a =
-      over-byte b (place - 1) 44 (omega (arith, v.next)) ∙ rw (p, v.holds) (over-more t (44 ∷ []) a) in
-      let all = joined-behind 44 n ns m in
+      over_byte b (place - 1) 44 (omega (arith, v.next)) ∙ rw (p, v.holds) (over_more t (44 ∷ []) a) in
+      let all = joined_behind 44 n ns m in
       record {
-        holds = e ∙ rw (first, all, q) (over-more u m a);
+        holds = e ∙ rw (first, all, q) (over_more u m a);
         next = ap (λ (k : ℕ). k + length m + 1) q ∙ add-one (length u + length m) ∙ ap suc (sym (length-append u m) ∙ ap length (sym all));
       }
 
 -- no name is written yet
-pub named-nothing : (a : List ℕ) → Names-written a [] a 0
+pub named_nothing : (a : List ℕ) → NamesWritten a [] a 0
 unfolding next_place joined
-named-nothing a = record { holds = refl; next = refl }
+named_nothing a = record { holds = refl; next = refl }
 
 -- the bytes of the names are those before the comma of the next
-pub named-length : (ns : List Text) → length (joined comma ns) ≡ next_place ns - 1
+pub named_length : (ns : List Text) → length (joined comma ns) ≡ next_place ns - 1
 unfolding next_place joined
-named-length [] = refl
-named-length (n ∷ ns) = omega arith
+named_length [] = refl
+named_length (n ∷ ns) = omega arith

@@ -1,16 +1,16 @@
 // What an account may do at a row.
 ghost use Rattle.std.specs.Prelude.{◌≡◌};
 ghost use Rattle.tree.specs.Node.{allows, owns};
-ghost use Rattle.tree.specs.Walk.{by-modes};
+ghost use Rattle.tree.specs.Walk.{by_modes};
 ghost use Rattle.tree.specs.RowAt.{row_at};
-ghost use Rattle.tree.specs.TreeBytes.{Has-row};
+ghost use Rattle.tree.specs.TreeBytes.{HasRow};
 
 use accounts::{Account, Right};
 use tree::{Kind, group_at, kind_at, mode_at, owner_at};
 
 // The access test.
 pub fn may_at(tree: &[u8], i: usize, account: Account, right: Right) -> bool
-    requires { Has-row tree.now i }
+    requires { HasRow tree.now i }
     ensures { result ≡ allows account right (row_at tree.now i).here }
 {
     let owner = owner_at(tree, i);
@@ -21,8 +21,8 @@ pub fn may_at(tree: &[u8], i: usize, account: Account, right: Right) -> bool
 
 // Whether a file may be read, with r, or a directory listed, with r and x.
 pub fn readable_at(tree: &[u8], i: usize, account: Account) -> bool
-    requires { Has-row tree.now i }
-    ensures { result ≡ (by-modes account).readable (row_at tree.now i).here }
+    requires { HasRow tree.now i }
+    ensures { result ≡ (by_modes account).readable (row_at tree.now i).here }
 {
     if !may_at(tree, i, account, Right::R) {
         return false;
@@ -35,7 +35,7 @@ pub fn readable_at(tree: &[u8], i: usize, account: Account) -> bool
 
 // Whether the account is the owner or root.
 pub fn owns_at(tree: &[u8], i: usize, account: Account) -> bool
-    requires { Has-row tree.now i }
+    requires { HasRow tree.now i }
     ensures { result ≡ owns account (row_at tree.now i).here }
 {
     let uid = account.uid;

@@ -2,9 +2,9 @@
 // answered too, since `rm`, `rmdir` and `mv` test w there. The parent walk is the walk along the text before the last `/`,
 // and then the x test.
 ghost use Rattle.std.specs.Prelude.{◌≡◌};
-ghost use Rattle.tree.specs.RowAt.{all-rows};
+ghost use Rattle.tree.specs.RowAt.{all_rows};
 ghost use Rattle.tree.specs.TreeBytes.{Sized, Used};
-ghost use Rattle.walks.specs.RowWalk.{spot, outcome, enter-in, step_in, walk-in, parent-walk-in};
+ghost use Rattle.walks.specs.RowWalk.{spot, outcome, enter_in, step_in, walk_in, parent_walk_in};
 
 use crate::Walked;
 use crate::access::may_at;
@@ -15,7 +15,7 @@ use tree::{Cause, Child, Kind, find_child, kind_at};
 // Into a directory: refused at a file, and without x.
 fn enter(tree: &[u8], account: Account, row: usize, above: usize) -> Walked
     requires { Used tree.now row }
-    ensures { outcome result ≡ enter-in account (all-rows tree.now) (spot row above) }
+    ensures { outcome result ≡ enter_in account (all_rows tree.now) (spot row above) }
 {
     match kind_at(tree, row) {
         Kind::File => Walked::Refused(Cause::NotDirectory),
@@ -31,7 +31,7 @@ fn enter(tree: &[u8], account: Account, row: usize, above: usize) -> Walked
 // From a place to its child of a name.
 fn step(tree: &[u8], account: Account, row: usize, above: usize, name: &[u8]) -> Walked
     requires { Used tree.now row }
-    ensures { outcome result ≡ step_in account (all-rows tree.now) (spot row above) name.now }
+    ensures { outcome result ≡ step_in account (all_rows tree.now) (spot row above) name.now }
 {
     match enter(tree, account, row, above) {
         Walked::To { row: _, above: _ } => match find_child(tree, row, name) {
@@ -45,7 +45,7 @@ fn step(tree: &[u8], account: Account, row: usize, above: usize, name: &[u8]) ->
 // The walk to the place at a path.
 pub fn walk(tree: &[u8], account: Account, path: &[u8]) -> Walked
     requires { Sized tree.now }
-    ensures { outcome result ≡ walk-in account (all-rows tree.now) path.now }
+    ensures { outcome result ≡ walk_in account (all_rows tree.now) path.now }
 {
     let mut row: usize = 0;
     let mut above: usize = 0;
@@ -78,7 +78,7 @@ pub fn walk(tree: &[u8], account: Account, path: &[u8]) -> Walked
 // The walk to the directory that the last name of a path is in.
 pub fn parent_walk(tree: &[u8], account: Account, path: &[u8]) -> Walked
     requires { Sized tree.now }
-    ensures { outcome result ≡ parent-walk-in account (all-rows tree.now) path.now }
+    ensures { outcome result ≡ parent_walk_in account (all_rows tree.now) path.now }
 {
     let slash = syntax::last_slash(path);
     match walk(tree, account, &path[..slash]) {

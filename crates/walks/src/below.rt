@@ -1,11 +1,11 @@
 // What lies below a row: whether anything does, how far down it goes, and the names of the children.
 ghost use Rattle.std.specs.Prelude.{◌≡◌, [], ◌∷◌, ◌+◌, ◌-◌, ◌≤◌, ◌<◌, length};
-ghost use Rattle.tree.specs.Layout.{name-width};
+ghost use Rattle.tree.specs.Layout.{name_width};
 ghost use Rattle.tree.specs.Forest.{larger};
-ghost use Rattle.tree.specs.RowAt.{row_at, all-rows};
-ghost use Rattle.tree.specs.TreeBytes.{Has-row, Used};
-ghost use Rattle.walks.specs.RowBelow.{has-children-in, height-in, names_in, child-text-in};
-ghost use Rattle.walks.specs.NamesWritten.{all-names-width, Writes-one, Answers};
+ghost use Rattle.tree.specs.RowAt.{row_at, all_rows};
+ghost use Rattle.tree.specs.TreeBytes.{HasRow, Used};
+ghost use Rattle.walks.specs.RowBelow.{has_children_in, height_in, names_in, child_text_in};
+ghost use Rattle.walks.specs.NamesWritten.{all_names_width, WritesOne, Answers};
 
 use buffers::write;
 use tree::{count, depth_at, name_at};
@@ -13,7 +13,7 @@ use tree::{count, depth_at, name_at};
 // Whether a row has children: the first would be the next row.
 pub fn has_children(tree: &[u8], at: usize) -> bool
     requires { Used tree.now at }
-    ensures { result ≡ has-children-in (all-rows tree.now) at }
+    ensures { result ≡ has_children_in (all_rows tree.now) at }
 {
     if count(tree) <= at + 1 {
         return false;
@@ -33,7 +33,7 @@ pub fn larger_of(a: u8, b: u8) -> u8
 // How many levels of rows lie below a row.
 pub fn height_below(tree: &[u8], at: usize) -> usize
     requires { Used tree.now at }
-    ensures { (result ≡ height-in (all-rows tree.now) at) × (result ≤ 255) }
+    ensures { (result ≡ height_in (all_rows tree.now) at) × (result ≤ 255) }
 {
     let n = count(tree);
     let depth = depth_at(tree, at);
@@ -53,8 +53,8 @@ pub fn height_below(tree: &[u8], at: usize) -> usize
 // Adds a name to those written, with a comma before it unless it is the first; tells where the next would stand.
 fn add_name(answer: &mut [u8], place: usize, name: &[u8]) -> usize
     requires name_in_bounds { place + length name.now ≤ length answer.old }
-    requires name_len_bound { length name.now ≤ name-width }
-    ensures { Writes-one (name.now ∷ []) answer.old place answer.new result }
+    requires name_len_bound { length name.now ≤ name_width }
+    ensures { WritesOne (name.now ∷ []) answer.old place answer.new result }
 {
     if place == 0 {
         write(answer, 0, name, name.len());
@@ -67,9 +67,9 @@ fn add_name(answer: &mut [u8], place: usize, name: &[u8]) -> usize
 
 // Adds the name of a row to those written if the row lies at a depth.
 fn add_child(tree: &[u8], i: usize, depth: usize, answer: &mut [u8], place: usize) -> usize
-    requires has_row { Has-row tree.now i }
-    requires name_width_in_bounds { place + name-width ≤ length answer.old }
-    ensures { Writes-one (names_in depth (row_at tree.now i ∷ [])) answer.old place answer.new result }
+    requires has_row { HasRow tree.now i }
+    requires name_width_in_bounds { place + name_width ≤ length answer.old }
+    ensures { WritesOne (names_in depth (row_at tree.now i ∷ [])) answer.old place answer.new result }
 {
     if depth_at(tree, i) as usize != depth {
         return place;
@@ -90,8 +90,8 @@ fn bytes_before(place: usize) -> usize
 // Writes the names of the children, parted by commas, over the answer, and tells how many bytes they take.
 pub fn child_names(tree: &[u8], at: usize, answer: &mut [u8]) -> usize
     requires used { Used tree.now at }
-    requires all_names_width_in_bounds { all-names-width ≤ length answer.old }
-    ensures { Answers (child-text-in (all-rows tree.now) at) answer.old result answer.new }
+    requires all_names_width_in_bounds { all_names_width ≤ length answer.old }
+    ensures { Answers (child_text_in (all_rows tree.now) at) answer.old result answer.new }
 {
     let n = count(tree);
     let depth = depth_at(tree, at) as usize + 1;

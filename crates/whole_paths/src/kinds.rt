@@ -1,8 +1,8 @@
 // Which arguments are paths, which have a text, and which paths are short or too deep.
 ghost use Rattle.std.specs.Prelude.{◌≡◌};
-ghost use Rattle.syntax.specs.Path.{begins-with-slash};
-ghost use Rattle.commands.specs.Parsed.{Typed-read};
-ghost use Rattle.whole_paths.specs.WholeText.{is-path-kind, has-text, is-short, is-deep, found, any-argument, any-short, Arguments-inside};
+ghost use Rattle.syntax.specs.Path.{begins_with_slash};
+ghost use Rattle.commands.specs.Parsed.{TypedRead};
+ghost use Rattle.whole_paths.specs.WholeText.{is_path_kind, has_text, is_short, is_deep, found, any_argument, any_short, ArgumentsInside};
 
 use crate::Sought;
 use arguments::ArgumentKind;
@@ -11,7 +11,7 @@ use syntax::is_path;
 
 // Whether an argument of this kind is a path, which may be short; an entry path is always whole.
 fn is_path_kind(kind: ArgumentKind) -> bool
-    ensures { result ≡ is-path-kind kind }
+    ensures { result ≡ is_path_kind kind }
 {
     match kind {
         ArgumentKind::Path => true,
@@ -21,7 +21,7 @@ fn is_path_kind(kind: ArgumentKind) -> bool
 
 // Whether one of this kind is a text; any other is its number.
 pub fn has_text(kind: ArgumentKind) -> bool
-    ensures { result ≡ has-text kind }
+    ensures { result ≡ has_text kind }
 {
     match kind {
         ArgumentKind::Path | ArgumentKind::Entry | ArgumentKind::Password | ArgumentKind::Content =>
@@ -32,7 +32,7 @@ pub fn has_text(kind: ArgumentKind) -> bool
 
 // Whether a text begins with `/`.
 fn begins_with_slash(s: &[u8]) -> bool
-    ensures { result ≡ begins-with-slash s.now }
+    ensures { result ≡ begins_with_slash s.now }
 {
     if s.len() == 0 {
         return false;
@@ -42,7 +42,7 @@ fn begins_with_slash(s: &[u8]) -> bool
 
 // Whether an argument is a short path.
 pub fn is_short(kind: ArgumentKind, s: &[u8]) -> bool
-    ensures { result ≡ is-short kind s.now }
+    ensures { result ≡ is_short kind s.now }
 {
     if is_path_kind(kind) {
         return !begins_with_slash(s);
@@ -52,7 +52,7 @@ pub fn is_short(kind: ArgumentKind, s: &[u8]) -> bool
 
 // Whether an argument is a path that does not read as one: behind the directory it has too many names.
 fn is_deep(kind: ArgumentKind, s: &[u8]) -> bool
-    ensures { result ≡ is-deep kind s.now }
+    ensures { result ≡ is_deep kind s.now }
 {
     if is_path_kind(kind) {
         return !is_path(s);
@@ -72,8 +72,8 @@ fn is_found(sought: Sought, kind: ArgumentKind, s: &[u8]) -> bool
 
 // Whether one of a command's arguments is.
 pub fn any_found(sought: Sought, text: &[u8], typed: Typed) -> bool
-    requires { Arguments-inside text.now typed }
-    ensures { result ≡ any-argument (found sought) text.now typed }
+    requires { ArgumentsInside text.now typed }
+    ensures { result ≡ any_argument (found sought) text.now typed }
 {
     let shape = typed.shape;
     let f = typed.fields;
@@ -91,8 +91,8 @@ pub fn any_found(sought: Sought, text: &[u8], typed: Typed) -> bool
 
 // Whether an argument of a command is a short path.
 pub fn any_short(line: &[u8], typed: Typed) -> bool
-    requires { Typed-read line.now typed }
-    ensures { result ≡ any-short line.now typed }
+    requires { TypedRead line.now typed }
+    ensures { result ≡ any_short line.now typed }
 {
     any_found(Sought::Short, line, typed)
 }

@@ -1,8 +1,8 @@
 // A typed command with its arguments in the second text.
 ghost use Rattle.std.specs.Prelude.{◌≡◌, length};
-ghost use Rattle.commands.specs.Parsed.{Typed-read};
-ghost use Rattle.tree.specs.TreeBytes.{Path-text};
-ghost use Rattle.whole_paths.specs.WholeText.{text-width, whole_typed, whole-text, whole-or-deep};
+ghost use Rattle.commands.specs.Parsed.{TypedRead};
+ghost use Rattle.tree.specs.TreeBytes.{PathText};
+ghost use Rattle.whole_paths.specs.WholeText.{text_width, whole_typed, whole_text, whole_or_deep};
 
 use crate::kinds::any_found;
 use crate::writing::place;
@@ -12,11 +12,11 @@ use line_fields::Fields;
 
 // Writes a command's arguments, each into its own room, and tells the command of which they are now.
 fn write_arguments(directory: &[u8], line: &[u8], typed: Typed, text: &mut [u8]) -> Typed
-    requires path_text { Path-text directory.now }
-    requires typed_read { Typed-read line.now typed }
-    requires text_len { length text.old ≡ text-width }
+    requires path_text { PathText directory.now }
+    requires typed_read { TypedRead line.now typed }
+    requires text_len { length text.old ≡ text_width }
     ensures value { result ≡ whole_typed directory.now line.now typed }
-    ensures text_after { text.new ≡ whole-text directory.now line.now typed text.old }
+    ensures text_after { text.new ≡ whole_text directory.now line.now typed text.old }
 {
     let word = typed.word;
     let shape = typed.shape;
@@ -48,11 +48,11 @@ fn write_arguments(directory: &[u8], line: &[u8], typed: Typed, text: &mut [u8])
 
 // The typed command whose paths are whole in the text, or that one would be too deep.
 pub fn make_whole(directory: &[u8], line: &[u8], typed: Typed, text: &mut [u8]) -> Whole
-    requires path_text { Path-text directory.now }
-    requires typed_read { Typed-read line.now typed }
-    requires text_len { length text.old ≡ text-width }
-    ensures value { result ≡ whole-or-deep directory.now line.now typed text.old }
-    ensures text_after { text.new ≡ whole-text directory.now line.now typed text.old }
+    requires path_text { PathText directory.now }
+    requires typed_read { TypedRead line.now typed }
+    requires text_len { length text.old ≡ text_width }
+    ensures value { result ≡ whole_or_deep directory.now line.now typed text.old }
+    ensures text_after { text.new ≡ whole_text directory.now line.now typed text.old }
 {
     let moved = write_arguments(directory, line, typed, text);
     if any_found(Sought::Deep, text, moved) {

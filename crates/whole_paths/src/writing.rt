@@ -1,8 +1,8 @@
 // An argument written into the second text, behind the working directory where it is a short path.
 ghost use Rattle.std.specs.Prelude.{◌≡◌, ◌+◌, ◌≤◌, length};
 ghost use Rattle.buffers.specs.Over.{over, Wrote};
-ghost use Rattle.syntax.specs.Parts.{Inside, span-text};
-ghost use Rattle.whole_paths.specs.WholeText.{front_length, joined-text, argument-text, span-from};
+ghost use Rattle.syntax.specs.Parts.{Inside, span_text};
+ghost use Rattle.whole_paths.specs.WholeText.{front_length, joined_text, argument_text, span_from};
 
 use crate::kinds::{has_text, is_short};
 use arguments::ArgumentKind;
@@ -22,8 +22,8 @@ fn front_length(directory: &[u8]) -> usize
 
 // Writes a short path behind the directory.
 fn write_joined(directory: &[u8], s: &[u8], text: &mut [u8], at: usize) -> usize
-    requires { at + length (joined-text directory.now s.now) ≤ length text.old }
-    ensures { Wrote (joined-text directory.now s.now) text.old at text.new result }
+    requires { at + length (joined_text directory.now s.now) ≤ length text.old }
+    ensures { Wrote (joined_text directory.now s.now) text.old at text.new result }
 {
     let n = front_length(directory);
     write(text, at, directory, n);
@@ -40,8 +40,8 @@ fn write_argument(
     text: &mut [u8],
     at: usize,
 ) -> usize
-    requires { at + length (argument-text directory.now kind s.now) ≤ length text.old }
-    ensures { Wrote (argument-text directory.now kind s.now) text.old at text.new result }
+    requires { at + length (argument_text directory.now kind s.now) ≤ length text.old }
+    ensures { Wrote (argument_text directory.now kind s.now) text.old at text.new result }
 {
     if is_short(kind, s) {
         return write_joined(directory, s, text, at);
@@ -63,9 +63,9 @@ pub fn place(
     at: usize,
 ) -> Span
     requires inside { Inside span line.now }
-    requires span_in_bounds { at + length (argument-text directory.now kind (span-text line.now span)) ≤ length text.old }
-    ensures value { result ≡ span-from at (argument-text directory.now kind (span-text line.now span)) }
-    ensures text_after { text.new ≡ over at (argument-text directory.now kind (span-text line.now span)) text.old }
+    requires span_in_bounds { at + length (argument_text directory.now kind (span_text line.now span)) ≤ length text.old }
+    ensures value { result ≡ span_from at (argument_text directory.now kind (span_text line.now span)) }
+    ensures text_after { text.new ≡ over at (argument_text directory.now kind (span_text line.now span)) text.old }
 {
     let end = write_argument(directory, kind, part(line, span), text, at);
     Span { start: at, end }

@@ -2,23 +2,23 @@
 -- Assumes nothing.
 use mathlib.Core.Path.{sym}
 use borrow.Author.Rules.{rules}
-use Rattle.accounts.specs.Closure.{has-role}
-use Rattle.accounts.proofs.Bits.{no-bit, by_bit, bit-above}
+use Rattle.accounts.specs.Closure.{has_role}
+use Rattle.accounts.proofs.Bits.{no_bit, by_bit, bit_above}
 use Rattle.accounts.proofs.has_role.Statement.{statement}
 use Rattle.accounts.proofs.has_role.Tie as tie
 
 returns : tie.Need-returns
-unfolding has-role
-returns c = sym (no-bit 8 c.before.args.role.0 c.before.args.row c.before.ranges.row.fits c.if1.true)
+unfolding has_role
+returns c = sym (no_bit 8 c.before.args.role.0 c.before.args.row c.before.ranges.row.fits c.if1.true)
 
 bit-requires : tie.Need-bit-requires
 bit-requires c κs = search rules
 
 div-result : tie.Need-nonzero-div-result
-div-result c = bit-above c.before.before.args.role.0 c.bit.result c.bit.ensures
+div-result c = bit_above c.before.before.args.role.0 c.bit.result c.bit.ensures
 
 returns-2 : tie.Need-returns-2
-unfolding has-role
+unfolding has_role
 returns-2 c = by_bit c.before.before.args.row c.before.before.args.role.0 c.bit.result c.bit.ensures
 
 pub has-role-spec : {M : Type 1} → statement M

@@ -1,8 +1,8 @@
 -- `adding::add` meets its contract: the row and the gap that it acts on are those that the steps lead to, and a refusal leaves all.
-use Rattle.shell.specs.CommandBytesLaws.{refusal-follows, silence-follows}
-use Rattle.adding.specs.AddSteps.{add-tests}
-use Rattle.entries.specs.LinkLaws.{judged-to, judged-not}
-use Rattle.adding.specs.AddLaws.{add-stands, add-not, addition-of, add-unwalked, add-unroomed, add-made}
+use Rattle.shell.specs.CommandBytesLaws.{refusal_follows, silence_follows}
+use Rattle.adding.specs.AddSteps.{add_tests}
+use Rattle.entries.specs.LinkLaws.{judged_to, judged_not}
+use Rattle.adding.specs.AddLaws.{add_stands, add_not, addition_of, add_unwalked, add_unroomed, add_made}
 use borrow.Author.Rules.{rules}
 use Rattle.adding.proofs.add.Statement.{statement}
 use Rattle.adding.proofs.add.Tie as tie
@@ -30,9 +30,9 @@ file-entry-requires c κs = let s = c.before.before.before.before.before.before.
     let room = c.before.before.before.before in
     let row = room.before.before.before in
     let came = row.before.before.walk-add.ensures t w tree p.1.0.1 in
-    let x = judged-to a.caller.account (add-tests a.caller.account a.dominated) t w tree came row.row.given.1 in
-    let g = add-stands a.account t e tree (room.entry-room.ensures t e tree p.1.1.0.1) c.before.before.at.given.1 in
-    (addition-of a.entry.now x.at p.1.1.0.1 g.0 g.1.1, p.1.1.1)
+    let x = judged_to a.caller.account (add_tests a.caller.account a.dominated) t w tree came row.row.given.1 in
+    let g = add_stands a.account t e tree (room.entry-room.ensures t e tree p.1.1.0.1) c.before.before.at.given.1 in
+    (addition_of a.entry.now x.at p.1.1.0.1 g.0 g.1.1, p.1.1.1)
 
 enum-known-cause : tie.Need-enum-known-cause
 enum-known-cause c = search rules
@@ -51,10 +51,10 @@ returns c = let s = c.before.before.before.before.before.before.before.before.be
     let room = gap.before.before in
     let row = room.before.before.before in
     let came = row.before.before.walk-add.ensures t w tree reads in
-    let x = judged-to a.caller.account (add-tests a.caller.account a.dominated) t w tree came row.row.given.1 in
-    let g = add-stands a.account t e tree (room.entry-room.ensures t e tree read) gap.at.given.1 in
-    silence-follows a.tree.now c.before.before.file-entry.new.0 (add-made a.caller.account a.account a.dominated z t w e x.walked g.1.0)
-    (c.before.before.file-entry.ensures (addition-of a.entry.now x.at read g.0 g.1.1) z q)
+    let x = judged_to a.caller.account (add_tests a.caller.account a.dominated) t w tree came row.row.given.1 in
+    let g = add_stands a.account t e tree (room.entry-room.ensures t e tree read) gap.at.given.1 in
+    silence_follows a.tree.now c.before.before.file-entry.new.0 (add_made a.caller.account a.account a.dominated z t w e x.walked g.1.0)
+    (c.before.before.file-entry.ensures (addition_of a.entry.now x.at read g.0 g.1.1) z q)
 
 same-length-2 : tie.Need-same-length-2
 same-length-2 c = search rules
@@ -64,9 +64,9 @@ returns-2 c = let a = c.before.before.before.before.before.before.before.before.
     λ w e reads read t z tree q.
     let row = c.before.before.before.before.before.before in
     let came = row.before.before.walk-add.ensures t w tree reads in
-    let x = judged-to a.caller.account (add-tests a.caller.account a.dominated) t w tree came row.row.given.1 in
-    refusal-follows a.tree.now (add-unroomed a.caller.account a.account a.dominated z t w e x.walked
-    (add-not a.account t e tree (c.before.before.before.entry-room.ensures t e tree read) c.before.cause.given.1))
+    let x = judged_to a.caller.account (add_tests a.caller.account a.dominated) t w tree came row.row.given.1 in
+    refusal_follows a.tree.now (add_unroomed a.caller.account a.account a.dominated z t w e x.walked
+    (add_not a.account t e tree (c.before.before.before.entry-room.ensures t e tree read) c.before.cause.given.1))
 
 same-length-3 : tie.Need-same-length-3
 same-length-3 c = search rules
@@ -75,8 +75,8 @@ returns-3 : tie.Need-returns-3
 returns-3 c = let a = c.before.before.before.before.before.before.before.before.before.args in
     λ w e reads read t z tree q.
     let came = c.before.before.before.walk-add.ensures t w tree reads in
-    refusal-follows a.tree.now (add-unwalked a.caller.account a.account a.dominated z t w e
-    (judged-not a.caller.account (add-tests a.caller.account a.dominated) t w tree came c.before.cause2.given.1))
+    refusal_follows a.tree.now (add_unwalked a.caller.account a.account a.dominated z t w e
+    (judged_not a.caller.account (add_tests a.caller.account a.dominated) t w tree came c.before.cause2.given.1))
 
 pub add_spec : {M : Type 1} → statement M
 add_spec =

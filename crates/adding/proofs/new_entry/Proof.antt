@@ -1,6 +1,6 @@
 -- `adding::new_entry` meets its contract: owner and group are counted from 16 by role, and the mode goes by the kind.
-use Rattle.accounts.specs.Service.{service-uid-is, service-gid-is}
-use Rattle.adding.specs.AddSteps.{fresh-entry}
+use Rattle.accounts.specs.Service.{service_uid_is, service_gid_is}
+use Rattle.adding.specs.AddSteps.{fresh_entry}
 use borrow.Author.Rules.{rules}
 use Rattle.adding.proofs.new_entry.Statement.{statement}
 use Rattle.adding.proofs.new_entry.Tie as tie
@@ -12,8 +12,8 @@ entry-mode-requires : tie.Need-entry-mode-requires
 entry-mode-requires c κs = search rules
 
 returns : tie.Need-returns
-unfolding fresh-entry
-returns c = rw (c.entry-mode.ensures, service-uid-is, service-gid-is)
+unfolding fresh_entry
+returns c = rw (c.entry_mode.ensures, service_uid_is, service_gid_is)
 
 pub new-entry-spec : {M : Type 1} → statement M
 new-entry-spec = tie.close (tie.spec add-number entry-mode-requires returns)

@@ -3,8 +3,8 @@ use mathlib.Core.Path.{ap}
 use native.Mathlib.Omega.{arith}
 use lib.ListN.{length}
 use Rattle.tree.specs.RowAt.{row_at}
-use Rattle.tree.specs.RowAtLaws.{row-content-fits}
-use Rattle.adding.specs.AddRowLaws.{entry-written}
+use Rattle.tree.specs.RowAtLaws.{row_content_fits}
+use Rattle.adding.specs.AddRowLaws.{entry_written}
 use borrow.Author.Rules.{rules}
 use Rattle.adding.proofs.write_entry.Statement.{statement}
 use Rattle.adding.proofs.write_entry.Tie as tie
@@ -26,7 +26,7 @@ write-padded-requires-2 c κs = let x = c.before.before.before.before in
     let w = x.before.before.before.before in
     let v = w.before.before.before.before in
     let s = v.before.before.before.before.before in
-    let short = row-content-fits s.args.tree.now s.args.working in
+    let short = row_content_fits s.args.tree.now s.args.working in
     (omega (arith, x.clear.auto.0, w.write-padded.auto.0, v.write-head.auto.0, s.requires.1.1), omega (arith, ap length c.content-at.ensures, short))
 
 same_length : tie.Need-same-length
@@ -41,7 +41,7 @@ returns c = let z = c.before.before in
     let s = v.before.before.before.before.before in
     let a = s.args in
     let T = a.tree.now in
-    entry-written a.depth a.name.now (row_at T a.working).here.content a.node s.requires.1.0 (row-content-fits T a.working)
+    entry_written a.depth a.name.now (row_at T a.working).here.content a.node s.requires.1.0 (row_content_fits T a.working)
     a.row.now s.requires.1.1 v.write-head.ensures w.write-padded.ensures x.clear.ensures y.content-at.ensures z.write-padded2.ensures
 
 pub write-entry-spec : {M : Type 1} → statement M

@@ -48,10 +48,10 @@ use denote.Triple.Clauses.{ensured, lasts}
 use denote.Exit as Exit
 use Rattle.accounts.specs.declared.Pair.{Pair}
 use Rattle.accounts.specs.declared.Dominance.{Dominance}
-use Rattle.accounts.specs.Dominance.{all-fall}
-use Rattle.accounts.specs.Closure.{rows_of, own-rows, grown-rows}
-use Rattle.accounts.specs.PairBytes.{no-pair}
-use Rattle.dominance.specs.ClosingLaws.{rows-begin, rows-grow-on, rows_end}
+use Rattle.accounts.specs.Dominance.{all_fall}
+use Rattle.accounts.specs.Closure.{rows_of, own_rows, grown_rows}
+use Rattle.accounts.specs.PairBytes.{no_pair}
+use Rattle.dominance.specs.ClosingLaws.{rows_begin, rows_grow_on, rows_end}
 use Rattle.accounts.specs.contracts.Pair as P
 use Rattle.accounts.proofs.Pair.TheLaws as P'
 use Rattle.accounts.specs.contracts.Dominance as D
@@ -80,7 +80,7 @@ abbrev slice : Ty
 slice = slice_ty (ty_ref (named 0) imm (pointee (P.the_row).written))
 
 abbrev pair-at : List Pair → ℕ → Pair
-pair-at ys i = get_or ys i no-pair
+pair-at ys i = get_or ys i no_pair
 
 module _ {M : Type 1} {𝓤 : Ura M} (𝓛 : Logic 𝓤) (mem : Memory → SProp 𝓤) (run : Routine → Fun 𝓤) where
   -- the contracts that the proof cites
@@ -96,11 +96,11 @@ module _ {M : Type 1} {𝓤 : Ura M} (𝓛 : Logic 𝓤) (mem : Memory → SProp
   abbrev to-grow : Dominance → Pair → Val → Grow.Ghost
   to-grow d p u = ((tt, tt, tt, (d, (p, tt)), (u ∷ [], (P'.lowered p ∷ [], tt))), tt)
 
-  own-said : (r : Dominance) → ent 𝓤 (ensured 𝓛 own.ended (own.clauses 𝓛 mem run) tt tt tt r) (fact 𝓤 (r.rows ≡ own-rows))
-  own-said r = ex_e 𝓤 _ (λ ws. snd∗ 𝓤 (sem 𝓛 (lasts own.ended tt tt ws)) (fact 𝓤 (r.rows ≡ own-rows)))
+  own-said : (r : Dominance) → ent 𝓤 (ensured 𝓛 own.ended (own.clauses 𝓛 mem run) tt tt tt r) (fact 𝓤 (r.rows ≡ own_rows))
+  own-said r = ex_e 𝓤 _ (λ ws. snd∗ 𝓤 (sem 𝓛 (lasts own.ended tt tt ws)) (fact 𝓤 (r.rows ≡ own_rows)))
 
-  grow-said : (d : Dominance) (p : Pair) (r : Dominance) → ent 𝓤 (ensured 𝓛 grow.ended (grow.clauses 𝓛 mem run) tt (d, (p, tt)) tt r) (fact 𝓤 (r.rows ≡ grown-rows p d.rows))
-  grow-said d p r = ex_e 𝓤 _ (λ ws. snd∗ 𝓤 (sem 𝓛 (lasts grow.ended tt (d, (p, tt)) ws)) (fact 𝓤 (r.rows ≡ grown-rows p d.rows)))
+  grow-said : (d : Dominance) (p : Pair) (r : Dominance) → ent 𝓤 (ensured 𝓛 grow.ended (grow.clauses 𝓛 mem run) tt (d, (p, tt)) tt r) (fact 𝓤 (r.rows ≡ grown_rows p d.rows))
+  grow-said d p r = ex_e 𝓤 _ (λ ws. snd∗ 𝓤 (sem 𝓛 (lasts grow.ended tt (d, (p, tt)) ws)) (fact 𝓤 (r.rows ≡ grown_rows p d.rows)))
 
   module _ where
     goes-own : ent 𝓤 (emp 𝓤) (Own-rows.pre to-own)
@@ -136,7 +136,7 @@ module _ {M : Type 1} {𝓤 : Ura M} (𝓛 : Logic 𝓤) (mem : Memory → SProp
       nothing ! $ move ! (1 ∷ 0 ∷ []) $ join ! $ frame ! $ nothing ! $ move ! (1 ∷ 0 ∷ []) $ fjoin ! $ frame ! $
       owned ! D.the_row (Is D.the_row) (LL.makes D.the_type D'.the_plain 𝓛) d _ is $ done !
 
-  module _ (𝓣 : Tables 𝓤 H) (known-own : Triple 𝓤 (𝓣.C #own) (Own-rows 𝓛 mem run)) (known-grow : Triple 𝓤 (𝓣.C #grow) (Grow 𝓛 mem run)) (gn : Room P.the_row n) (fall : all-fall ys ≡ true) where
+  module _ (𝓣 : Tables 𝓤 H) (known-own : Triple 𝓤 (𝓣.C #own) (Own-rows 𝓛 mem run)) (known-grow : Triple 𝓤 (𝓣.C #grow) (Grow 𝓛 mem run)) (gn : Room P.the_row n) (fall : all_fall ys ≡ true) where
     abbrev C : Calls 𝓤 H
     C = 𝓣.C
 
@@ -198,23 +198,23 @@ module _ {M : Type 1} {𝓤 : Ura M} (𝓛 : Logic 𝓤) (mem : Memory → SProp
           -- the slice is Copy: one copy of what it owns is kept, and of the other the fractured borrow is taken
           move ! (9 ∷ []) $ use1 𝓛 (‵ Own ⊛ ‵ Own) ((shr_slice_copy 𝓛 (named 0) κ P.the_row).twice x (v ∷ [])) $ split ! $ fsplit ! $ drop ! $ fsplit ! $ drop ! $ move ! (0 ∷ 10 ∷ []) $
           looks_slice ! tt P.the_row (Is P.the_row) (shows 𝓛 P.the_row) (LL.vals P.the_type P'.the_laws) (LL.tells P.the_type P'.the_laws) (LL.copy P.the_type P'.the_copy 𝓛) ys b o (λ q'.
-          elem_out ! P.the_row (Is P.the_row) (shows 𝓛 P.the_row) (LL.vals P.the_type P'.the_laws) (LL.tells P.the_type P'.the_laws) q' ys i no-pair b o small (λ g.
+          elem_out ! P.the_row (Is P.the_row) (shows 𝓛 P.the_row) (LL.vals P.the_type P'.the_laws) (LL.tells P.the_type P'.the_laws) q' ys i no_pair b o small (λ g.
           -- [pairs[i]; what it owns; the others; what shuts; the fractured borrow; what the slice owns; _2; _3; _4; _5; _6; _7; _1; _0; that each local dies]
           assigns ! (of_opd ! (load ! (from ! (hop ! (look ! 10 refl) (stop !))) (look_raw ! 0 refl))) (from ! (stop !)) (init ! 11 refl ((LL.lawful P.the_type P'.the_laws 𝓛).typed p _ g).0) $
-          elem_back ! P.the_row q' ys i no-pair (P'.lowered p ∷ []) b o small $ shuts_slice ! tt P.the_row q' ys b o $ move ! (1 ∷ []) $ drop ! $
+          elem_back ! P.the_row q' ys i no_pair (P'.lowered p ∷ []) b o small $ shuts_slice ! tt P.the_row q' ys b o $ move ! (1 ∷ []) $ drop ! $
           -- [the token; what the slice owns; _2; _3; _4; _5; _6; _7; _1; _0; that each local dies]
           use0 𝓛 (raw ((Grow 𝓛 mem run).pre (to-grow 𝓛 mem run d p u))) (goes-grow 𝓛 mem run d p u f.1.1.1 g) $
           calls_at ! fm (Grow 𝓛 mem run) known-grow (to-grow 𝓛 mem run d p u)
           (and_then ! (load ! (from ! (stop !)) (look ! 3 refl)) (and_then ! (load ! (from ! (stop !)) (look ! 8 refl)) (no_more !))) (λ u'.
           use1 𝓛 (later (some (λ (r : Dominance). (‵ ftrue ⊛ ‵ ((D.the_row).own_val r (u' ∷ []))) ⊛ raw (ensured 𝓛 grow.ended (grow.clauses 𝓛 mem run) tt (d, (p, tt)) tt r)))) (id⊢ 𝓤 _) $
           await ! tt $ pick ! (λ r. split ! $ move ! (1 ∷ []) $
-          use1 𝓛 (raw (fact 𝓤 (r.rows ≡ grown-rows p d.rows))) (grow-said 𝓛 mem run d p r) $ heard ! (r.rows ≡ grown-rows p d.rows) (λ e. split ! $ drop ! $
+          use1 𝓛 (raw (fact 𝓤 (r.rows ≡ grown_rows p d.rows))) (grow-said 𝓛 mem run d p r) $ heard ! (r.rows ≡ grown_rows p d.rows) (λ e. split ! $ drop ! $
           peeks ! D.the_row (Is D.the_row) (shows 𝓛 D.the_row) r (u' ∷ []) (λ is. drop ! $
           land ! (from ! (stop !)) (store ! 2 refl ((LL.lawful D.the_type D'.the_laws 𝓛).typed r _ is).0) $
           assigns_last ! (bin ! (load ! (from ! (stop !)) (look ! 3 refl)) (lit ! tt) (record { fits = next_fits })) (from ! (stop !)) (store ! 3 refl (tt, record { fits = next_fits })) $
           forget ! 4 refl $ forget ! 5 refl $ forget ! 6 refl $ forget ! 7 refl $
           keep ! (2 ∷ 3 ∷ 4 ∷ 5 ∷ 6 ∷ 7 ∷ 8 ∷ 9 ∷ 0 ∷ 1 ∷ 10 ∷ 11 ∷ 12 ∷ 13 ∷ 14 ∷ 15 ∷ 16 ∷ 17 ∷ []) $
-          by ! (via 𝓤 (Inv (n - (i + 1))) (holds_at (n - (i + 1)) (i + 1) r u' (omega arith, (refl, (rows-grow-on ys fall i no-pair d.rows r.rows small f.1.1.0 e, is))))
+          by ! (via 𝓤 (Inv (n - (i + 1))) (holds_at (n - (i + 1)) (i + 1) r u' (omega arith, (refl, (rows_grow_on ys fall i no_pair d.rows r.rows small f.1.1.0 e, is))))
           (via 𝓤 (guard 𝓤 (n - (i + 1) < t) (Inv (n - (i + 1)))) (guard_i 𝓤 (n - (i + 1) < t) (Inv (n - (i + 1))) (omega (arith, f.1.0))) (ex_i 𝓤 (λ (t' : ℕ). guard 𝓤 (t' < t) (Inv t')) (n - (i + 1)))))))))))
 
       -- the turn that leaves the loop, and the rest of the body
@@ -240,10 +240,10 @@ module _ {M : Type 1} {𝓤 : Ura M} (𝓛 : Logic 𝓤) (mem : Memory → SProp
       turns t = ex_e 𝓤 (λ (i : ℕ). ex 𝓤 (λ (d : Dominance). ex 𝓤 (λ (u : Val). Here t i d u))) (λ i. ex_e 𝓤 (λ (d : Dominance). ex 𝓤 (λ (u : Val). Here t i d u)) (λ d.
           ex_e 𝓤 (λ (u : Val). Here t i d u) (λ u. guard_e 𝓤 (Facts t i d u) (⋆ 𝓛 (At i u)) (λ f. turn_at t i d u f (dec_lt i n)))))
 
-      loops : (d : Dominance) (u : Val) → d.rows ≡ own-rows → Is D.the_row d (u ∷ []) → ent 𝓤 (⋆ 𝓛 (At 0 u)) (Wp 𝓤 H C Λ En (loop pieces.turn-1) Left)
-      loops d u e is = via 𝓤 (Inv (n - 0)) (holds_at (n - 0) 0 d u (omega arith, (refl, (rows-begin ys d.rows e, is)))) (loop_rule 𝓤 H 𝓛.laws 𝓣 ◌<◌ lt-wf_rel.wf En pieces.turn-1 Left Inv turns (n - 0))
+      loops : (d : Dominance) (u : Val) → d.rows ≡ own_rows → Is D.the_row d (u ∷ []) → ent 𝓤 (⋆ 𝓛 (At 0 u)) (Wp 𝓤 H C Λ En (loop pieces.turn-1) Left)
+      loops d u e is = via 𝓤 (Inv (n - 0)) (holds_at (n - 0) 0 d u (omega arith, (refl, (rows_begin ys d.rows e, is)))) (loop_rule 𝓤 H 𝓛.laws 𝓣 ◌<◌ lt-wf_rel.wf En pieces.turn-1 Left Inv turns (n - 0))
 
-      from-loop : (d : Dominance) (u : Val) → d.rows ≡ own-rows → Is D.the_row d (u ∷ []) → Sq 𝓛 (At 0 u) (runs C Λ En pieces.t-3 (at_ret En Post))
+      from-loop : (d : Dominance) (u : Val) → d.rows ≡ own_rows → Is D.the_row d (u ∷ []) → Sq 𝓛 (At 0 u) (runs C Λ En pieces.t-3 (at_ret En Post))
       from-loop d u e is = first ! $ blocks ! $ by ! (loops d u e is)
 
       -- the MIR, up to the loop
@@ -254,7 +254,7 @@ module _ {M : Type 1} {𝓤 : Ura M} (𝓛 : Logic 𝓤) (mem : Memory → SProp
           use0 𝓛 (raw ((Own-rows 𝓛 mem run).pre (to-own 𝓛 mem run))) (goes-own 𝓛 mem run) $
           calls_at ! fm (Own-rows 𝓛 mem run) known-own (to-own 𝓛 mem run) (no_more !) (λ u.
           use1 𝓛 (later (some (λ (r : Dominance). (‵ ftrue ⊛ ‵ ((D.the_row).own_val r (u ∷ []))) ⊛ raw (ensured 𝓛 own.ended (own.clauses 𝓛 mem run) tt tt tt r)))) (id⊢ 𝓤 _) $ await ! tt $ pick ! (λ r.
-          split ! $ move ! (1 ∷ []) $ use1 𝓛 (raw (fact 𝓤 (r.rows ≡ own-rows))) (own-said 𝓛 mem run r) $ heard ! (r.rows ≡ own-rows) (λ e. split ! $ drop ! $
+          split ! $ move ! (1 ∷ []) $ use1 𝓛 (raw (fact 𝓤 (r.rows ≡ own_rows))) (own-said 𝓛 mem run r) $ heard ! (r.rows ≡ own_rows) (λ e. split ! $ drop ! $
           peeks ! D.the_row (Is D.the_row) (shows 𝓛 D.the_row) r (u ∷ []) (λ is. drop ! $
           land ! (from ! (stop !)) (init ! 10 refl ((LL.lawful D.the_type D'.the_laws 𝓛).typed r _ is).0) $
           assigns ! (of_opd ! (lit ! tt)) (from ! (stop !)) (init ! 8 refl (tt, record { fits = lit< tt })) $

@@ -54,11 +54,11 @@ use denote.Triple.Clauses.{ensured, lasts}
 use denote.Exit.{yes}
 use Rattle.accounts.specs.declared.Pair.{Pair}
 use Rattle.accounts.specs.declared.Dominance.{Dominance}
-use Rattle.accounts.specs.Dominance.{all-fall}
+use Rattle.accounts.specs.Dominance.{all_fall}
 use Rattle.accounts.specs.Closure.{rows_of}
-use Rattle.accounts.specs.PairBytes.{no-pair}
-use Rattle.dominance.specs.PairsIn.{pairs-in}
-use Rattle.dominance.specs.PairsInLaws.{pairs-in-front}
+use Rattle.accounts.specs.PairBytes.{no_pair}
+use Rattle.dominance.specs.PairsIn.{pairs_in}
+use Rattle.dominance.specs.PairsInLaws.{pairs_in_front}
 use Rattle.accounts.specs.contracts.Pair as P
 use Rattle.accounts.proofs.Pair.TheLaws as P'
 use Rattle.accounts.specs.contracts.Dominance as D
@@ -163,7 +163,7 @@ module _ {M : Type 1} {𝓤 : Ura M} (𝓛 : Logic 𝓤) (mem : Memory → SProp
   abbrev Post : Val → SProp 𝓤
   Post = (walk_of 𝓛 closed-bytes.ended stayed (closed-bytes.clauses 𝓛 mem run)).post (((κ, tt), (q, tt), tt, (s, (n, tt)), passed), tt)
 
-  exits : (d : Dominance) (u : Val) → Is D.the_row d (u ∷ []) → d.rows ≡ rows_of (pairs-in n s.now) → ent 𝓤 (⋆ 𝓛 ((‵ (flft κ q) ⊛ ‵ ftrue) ∷ ‵ Own ∷ ‵ (usize.own_val n (vint w64 n ∷ [])) ∷ [])) (Post u)
+  exits : (d : Dominance) (u : Val) → Is D.the_row d (u ∷ []) → d.rows ≡ rows_of (pairs_in n s.now) → ent 𝓤 (⋆ 𝓛 ((‵ (flft κ q) ⊛ ‵ ftrue) ∷ ‵ Own ∷ ‵ (usize.own_val n (vint w64 n ∷ [])) ∷ [])) (Post u)
   exits d u is e =
       qed 𝓛 ((‵ (flft κ q) ⊛ ‵ ftrue) ∷ ‵ Own ∷ ‵ (usize.own_val n (vint w64 n ∷ [])) ∷ []) ∵
       suffices ! _ (ends_at 𝓛 closed-bytes.ended stayed (closed-bytes.clauses 𝓛 mem run) (((κ, tt), (q, tt), tt, (s, (n, tt)), passed), tt) u d (tt, (tt, tt)) (tt, (tt, tt))) $ says ! e $
@@ -179,14 +179,14 @@ module _ {M : Type 1} {𝓤 : Ura M} (𝓛 : Logic 𝓤) (mem : Memory → SProp
       nothing ! $ owned ! usize (Is usize) (uint_Makes 𝓛 w64) n (vint w64 n ∷ []) (refl, gn) $ fjoin ! $ move ! (1 ∷ 0 ∷ []) $ fjoin ! $ done !
 
   abbrev Filling : List Pair → Type 0
-  Filling r = r ≡ pairs-in n s.now ++ replicate (28 - n) no-pair
+  Filling r = r ≡ pairs_in n s.now ++ replicate (28 - n) no_pair
 
   filled-said : (r : List Pair) → ent 𝓤 (ensured 𝓛 filled.ended (filled.clauses 𝓛 mem run) (κ, tt) (s, (n, tt)) tt r) (fact 𝓤 (Filling r))
   filled-said r = ex_e 𝓤 _ (λ ws. snd∗ 𝓤 (sem 𝓛 (lasts filled.ended (κ, tt) (s, (n, tt)) ws)) (fact 𝓤 (Filling r)))
 
   -- its first n pairs are those that the bytes say
-  lent-are : (xs : List Pair) → Filling xs → take n xs ≡ pairs-in n s.now
-  lent-are xs e = ap (take n) e ∙ pairs-in-front s.now n (replicate (28 - n) no-pair)
+  lent-are : (xs : List Pair) → Filling xs → take n xs ≡ pairs_in n s.now
+  lent-are xs e = ap (take n) e ∙ pairs_in_front s.now n (replicate (28 - n) no_pair)
 
   -- the call of `closed`, on the first n of xs, lent for α under γ
   module _ (xs : List Pair) (l α : ℕ) (γ : GName) where
@@ -202,7 +202,7 @@ module _ {M : Type 1} {𝓤 : Ura M} (𝓛 : Logic 𝓤) (mem : Memory → SProp
     abbrev to-closed : (Closed 𝓛 mem run).Ghost
     to-closed = (((α ∷ [], tt), (full_share, tt), tt, (part, tt), (pv ∷ [], tt)), tt)
 
-    goes-closed : all-fall (take n xs) ≡ true → ent 𝓤 (⋆ 𝓛 (‵ (flft (α ∷ []) full_share) ∷ ‵ OwnPart ∷ [])) ((Closed 𝓛 mem run).pre to-closed)
+    goes-closed : all_fall (take n xs) ≡ true → ent 𝓤 (⋆ 𝓛 (‵ (flft (α ∷ []) full_share) ∷ ‵ OwnPart ∷ [])) ((Closed 𝓛 mem run).pre to-closed)
     goes-closed fall =
         qed 𝓛 (‵ (flft (α ∷ []) full_share) ∷ ‵ OwnPart ∷ []) ∵ says ! fall $ nothing ! $ move ! (1 ∷ 0 ∷ []) $ join ! $ frame ! $ nothing ! $ move ! (1 ∷ 0 ∷ []) $ fjoin ! $ done !
 
@@ -210,7 +210,7 @@ module _ {M : Type 1} {𝓤 : Ura M} (𝓛 : Logic 𝓤) (mem : Memory → SProp
     closed_said d = ex_e 𝓤 _ (λ ws. snd∗ 𝓤 (sem 𝓛 (lasts closed.ended (α ∷ [], tt) (part, tt) ws)) (fact 𝓤 (d.rows ≡ rows_of (take n xs))))
 
   module _ (C : Calls 𝓤 H) (Λ : Loops 𝓤 H) (fm : FmC 𝓤 H 𝓛.laws C) (known-filled : Triple 𝓤 (C #filled) (Filled 𝓛 mem run)) (known-closed : Triple 𝓤 (C #closed) (Closed 𝓛 mem run)) (gn : n < 2 ^ 64) (small : n ≤ 28) (there : 2 * n ≤ length s.now)
-      (fall : all-fall (pairs-in n s.now) ≡ true) where
+      (fall : all_fall (pairs_in n s.now) ≡ true) where
     module _ (l₀ l₁ l₂ l₃ l₄ l₅ l₆ : ℕ) where
       abbrev En : Env 𝓤 H
       En = (D'.mir, l₀) ∷ (bytesTy, l₁) ∷ (word, l₂) ∷ (arrTy, l₃) ∷ (arrTy, l₄) ∷ (ref_ty, l₅) ∷ (pairsTy, l₆) ∷ []
@@ -229,7 +229,7 @@ module _ {M : Type 1} {𝓤 : Ura M} (𝓛 : Logic 𝓤) (mem : Memory → SProp
           feq_i ! ℕ (length (take n xs)) (length (take n xs)) refl $ fjoin ! $ lft_new ! tt (λ α. move ! (1 ∷ []) $
           use1 𝓛 (later (some (λ (γ : GName). ‵ (OwnPart xs l₃ α γ) ⊛ ‵ (flent (α ∷ []) ((arr_parts (shares P.the_row) (length (take n xs))).part full_share (take n xs) l₃ 0)))))
           (lends_shr_slice 𝓛 P.the_row (named 0) (α ∷ []) full_share (take n xs) l₃ 0 (Room-take P.the_row 28 n xs l (lit< tt, lit< tt))) $ await ! tt $ pick ! (λ γ. split ! $ move ! (2 ∷ 0 ∷ []) $
-          use2 𝓛 (raw ((Closed 𝓛 mem run).pre (to-closed xs l₃ α γ))) (goes-closed xs l₃ α γ (ap all-fall (lent-are xs e) ∙ fall)) $
+          use2 𝓛 (raw ((Closed 𝓛 mem run).pre (to-closed xs l₃ α γ))) (goes-closed xs l₃ α γ (ap all_fall (lent-are xs e) ∙ fall)) $
           -- [what `closed` asks; the lender's part; the other elements; the token; what bytes owns; n's; _6; …; _5; …; _4; …; _3 dies; _2; …; _1; …; _0; …]
           calls_at ! fm (Closed 𝓛 mem run) known-closed (to-closed xs l₃ α γ) (and_then ! (load ! (from ! (stop !)) (look ! 6 refl)) (no_more !)) (λ u'.
           use1 𝓛 (later (some (λ (d : Dominance). ((‵ (flft (α ∷ []) full_share) ⊛ ‵ ftrue) ⊛ ‵ ((D.the_row).own_val d (u' ∷ []))) ⊛ raw (ensured 𝓛 closed.ended (closed.clauses 𝓛 mem run) (α ∷ [], tt) (part xs l₃ α γ, tt) tt d)))) (id⊢ 𝓤 _) $ await ! tt $ pick ! (λ d.

@@ -6,15 +6,15 @@ use native.Mathlib.Omega.{arith}
 use lib.ListN.{replicate}
 use Rattle.buffers.specs.Fields.{all_from}
 use Rattle.accounts.specs.declared.Pair.{Pair}
-use Rattle.accounts.specs.PairBytes.{no-pair}
-use Rattle.dominance.specs.PairsIn.{pairs-in}
-use Rattle.dominance.specs.PairsInLaws.{pair-stored}
+use Rattle.accounts.specs.PairBytes.{no_pair}
+use Rattle.dominance.specs.PairsIn.{pairs_in}
+use Rattle.dominance.specs.PairsInLaws.{pair_stored}
 use Rattle.dominance.proofs.pairs_in.Statement.{statement}
 use Rattle.dominance.proofs.pairs_in.Tie as tie
 
 record Filled (b : List ℕ) (n : ℕ) (all : List Pair) (k : ℕ) : Type 0 where
   le : k ≤ n
-  are : all ≡ pairs-in k b ++ replicate (28 - k) no-pair
+  are : all ≡ pairs_in k b ++ replicate (28 - k) no_pair
 
 abbrev invariant-loop : tie.invariant-loop
 invariant-loop bytes n all₀ k₀ all k = Filled bytes n all k
@@ -57,14 +57,14 @@ loop-again : tie.Need-loop-preserved invariant-loop decreases-loop
 loop-again c =
     let l = c.before.before.before.loop in
     let a = c.before.before.before.before.args in
-    record { le = omega arith; are = pair-stored a.bytes.now l.k l.all (omega arith) l.invariant.are }
+    record { le = omega arith; are = pair_stored a.bytes.now l.k l.all (omega arith) l.invariant.are }
 
 returns : tie.Need-returns invariant-loop decreases-loop
 returns c =
     let l = c.before.loop in
     let a = c.before.before.args in
     let e : l.k ≡ a.n = omega arith in
-    l.invariant.are ∙ ap (λ (k : ℕ). pairs-in k a.bytes.now ++ replicate (28 - k) no-pair) e
+    l.invariant.are ∙ ap (λ (k : ℕ). pairs_in k a.bytes.now ++ replicate (28 - k) no_pair) e
 
 pub pairs-in-spec : {M : Type 1} → statement M
 pairs-in-spec =

@@ -1,6 +1,6 @@
 -- `exports::number_of` meets its contract: case by case.
 use mathlib.Core.Path.{sym, ◌∙◌}
-use Rattle.exports.specs.ExportedLaws.{done-number, text-number, refused-number, wrong-number}
+use Rattle.exports.specs.ExportedLaws.{done_number, text_number, refused_number, wrong_number}
 use borrow.Author.Rules.{rules}
 use Rattle.exports.proofs.number_of.Statement.{statement}
 use Rattle.exports.proofs.number_of.Tie as tie
@@ -24,18 +24,18 @@ enum-told-3 : tie.Need-enum-told-3
 enum-told-3 c = search rules
 
 returns : tie.Need-returns
-returns c = rw c.enum_told.given.1 (sym done-number)
+returns c = rw c.enum_told.given.1 (sym done_number)
 
 returns-2 : tie.Need-returns-2
-returns-2 c = let t = c.enum-told2.given in rw t.1 (sym (text-number t.0.0))
+returns-2 c = let t = c.enum-told2.given in rw t.1 (sym (text_number t.0.0))
 
 returns-3 : tie.Need-returns-3
 returns-3 c =
     let t = c.before.before.r.given in
-    c.number.ensures ∙ rw t.1 (sym (refused-number t.0.0))
+    c.number.ensures ∙ rw t.1 (sym (refused_number t.0.0))
 
 returns-4 : tie.Need-returns-4
-returns-4 c = let t = c.enum-told3.given in rw t.1 (sym (wrong-number t.0.0))
+returns-4 c = let t = c.enum-told3.given in rw t.1 (sym (wrong_number t.0.0))
 
 pub number-of-spec : {M : Type 1} → statement M
 number-of-spec =

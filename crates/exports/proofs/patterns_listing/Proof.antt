@@ -1,7 +1,7 @@
 -- `exports::patterns_listing` meets its contract: it hands over what `listing` tells.
 use mathlib.Core.Path.{ap}
 use Rattle.calls.specs.Calls.{Called}
-use Rattle.exports.specs.ExportedLaws.{hands-over}
+use Rattle.exports.specs.ExportedLaws.{hands_over}
 use borrow.Author.Rules.{rules}
 use Rattle.exports.proofs.patterns_listing.Statement.{statement}
 use Rattle.exports.proofs.patterns_listing.Tie as tie
@@ -21,7 +21,7 @@ same_length c = search rules
 returns : tie.Need-returns
 returns c =
     let e = c.before.before.before.before.listing.ensures in
-    (hands-over c.before.before.before.before.listing.result (ap (λ (x : Called). x.tells) e) c.number_of.ensures c.before.value_of_lem.ensures, ap (λ (x : Called). x.answer) e)
+    (hands_over c.before.before.before.before.listing.result (ap (λ (x : Called). x.tells) e) c.number_of.ensures c.before.value_of_lem.ensures, ap (λ (x : Called). x.answer) e)
 
 pub patterns-listing-spec : {M : Type 1} → statement M
 patterns-listing-spec =

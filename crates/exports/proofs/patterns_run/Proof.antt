@@ -1,7 +1,7 @@
 -- `exports::patterns_run` meets its contract: it hands over what `run` tells.
 use mathlib.Core.Path.{ap}
 use Rattle.calls.specs.Calls.{Called}
-use Rattle.exports.specs.ExportedLaws.{hands-over}
+use Rattle.exports.specs.ExportedLaws.{hands_over}
 use borrow.Author.Rules.{rules}
 use Rattle.exports.proofs.patterns_run.Statement.{statement}
 use Rattle.exports.proofs.patterns_run.Tie as tie
@@ -24,7 +24,7 @@ same-length-2 c = search rules
 returns : tie.Need-returns
 returns c =
     let e = c.before.before.before.before.before.before.run.ensures in (
-      hands-over c.before.before.before.before.before.before.run.result (ap (λ (x : Called). x.tells) e) c.number_of.ensures c.before.value_of_lem.ensures,
+      hands_over c.before.before.before.before.before.before.run.result (ap (λ (x : Called). x.tells) e) c.number_of.ensures c.before.value_of_lem.ensures,
       (ap (λ (x : Called). x.store) e, ap (λ (x : Called). x.answer) e),
     )
 

@@ -1,7 +1,7 @@
 -- `exports::patterns_setup` meets its contract: it hands over what `setup` tells.
 use mathlib.Core.Path.{ap}
-use Rattle.calls.specs.Calls.{Set-up}
-use Rattle.exports.specs.ExportedLaws.{hands-over}
+use Rattle.calls.specs.Calls.{SetUp}
+use Rattle.exports.specs.ExportedLaws.{hands_over}
 use borrow.Author.Rules.{rules}
 use Rattle.exports.proofs.patterns_setup.Statement.{statement}
 use Rattle.exports.proofs.patterns_setup.Tie as tie
@@ -21,7 +21,7 @@ same_length c = search rules
 returns : tie.Need-returns
 returns c =
     let e = c.before.before.before.before.setup.ensures in
-    (hands-over c.before.before.before.before.setup.result (ap (λ (x : Set-up). x.tells) e) c.number_of.ensures c.before.value_of_lem.ensures, ap (λ (x : Set-up). x.store) e)
+    (hands_over c.before.before.before.before.setup.result (ap (λ (x : SetUp). x.tells) e) c.number_of.ensures c.before.value_of_lem.ensures, ap (λ (x : SetUp). x.store) e)
 
 pub patterns-setup-spec : {M : Type 1} → statement M
 patterns-setup-spec =

@@ -10,13 +10,13 @@ run-whole-requires c κs =
     let s = c.before.before.before.before.before.before.before in
     let h = s.requires.0 in
     let t = s.requires.1.0 in
-    let i = line_made h.1 s.args.caller.account.uid t.meant t.read (sym c.before.before.before.any-short.ensures ∙ c.before.before.if1.false) in
+    let i = line_made h.1 s.args.caller.account.uid t.meant t.read (sym c.before.before.before.any_short.ensures ∙ c.before.before.if1.false) in
     (h, ((i.command, i.meant), s.requires.1.1))
 
 returns-2 : tie.Need-returns-2
 returns-2 c s k h m =
     let f = c.before.before.before.before.before.before.before.before.before.before.before.before in
-    let i = line_made h f.args.caller.account.uid m f.requires.1.0.read (sym c.before.before.before.before.before.before.before.before.any-short.ensures ∙ c.before.before.before.before.before.before.before.if1.false) in
+    let i = line_made h f.args.caller.account.uid m f.requires.1.0.read (sym c.before.before.before.before.before.before.before.before.any_short.ensures ∙ c.before.before.before.before.before.before.before.if1.false) in
     whole_carries s f.args.caller k i.command i.is_whole (c.before.before.before.before.run-whole.ensures s i.command h i.meant)
 
 pub run-line-spec : {M : Type 1} → statement M

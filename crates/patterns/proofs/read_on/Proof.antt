@@ -14,33 +14,33 @@ use borrow.Rule.Slice.PartMut.{mid_of, post_of, put_mid, same_len_mid}
 use Rattle.libc.specs.Io.{Moved}
 use Rattle.syntax.specs.Parts.{part}
 use Rattle.agenda.specs.declared.Place.{Place}
-use Rattle.agenda.specs.Agenda.{Place-held, Read-fits}
+use Rattle.agenda.specs.Agenda.{PlaceHeld, ReadFits}
 use borrow.Author.Rules.{rules}
 use Rattle.patterns.proofs.read_on.Statement.{statement}
 use Rattle.patterns.proofs.read_on.Tie as tie
 
 -- what is read fits behind what is left
-moved-fits : (at : Place) (m : List ℕ) (n : ℕ) → Place-held at n → length m ≡ n → (z : ℤ)
-    → Moved (length (mid_of (at.to - at.from) (length m - (at.to - at.from)) m)) z → Read-fits at z
+moved-fits : (at : Place) (m : List ℕ) (n : ℕ) → PlaceHeld at n → length m ≡ n → (z : ℤ)
+    → Moved (length (mid_of (at.to - at.from) (length m - (at.to - at.from)) m)) z → ReadFits at z
 moved-fits at m n h e (pos j) moved =
     let k = at.to - at.from in
     omega (arith, e, h.wide, h.within, moved, length-drop k m, length-take-le (length m - k) (drop k m) (omega (arith, length-drop k m)))
 moved-fits at m n h e (negsuc j) moved = tt
 
 -- so the machine reads back what was answered
-fits-back : (at : Place) (z : ℤ) → Read-fits at z → (n : ℕ) → Moved n z → SFits w64 z
+fits-back : (at : Place) (z : ℤ) → ReadFits at z → (n : ℕ) → Moved n z → SFits w64 z
 fits-back at (pos j) h n moved = record { sfits = omega (arith, h) }
 fits-back at (negsuc j) h n moved = subst (λ (i : ℕ). SFits w64 (negsuc i)) (sym moved) (sfits_lit tt)
 
-read_back : (at : Place) (m : List ℕ) (n : ℕ) → Place-held at n → length m ≡ n → (z : ℤ)
-    → Moved (length (mid_of (at.to - at.from) (length m - (at.to - at.from)) m)) z → Read-fits at (to_z w64 (of_z w64 z))
-read_back at m n h e z moved = let f = moved-fits at m n h e z moved in subst (Read-fits at) (sym (to_z-of_z (fits-back at z f _ moved))) f
+read_back : (at : Place) (m : List ℕ) (n : ℕ) → PlaceHeld at n → length m ≡ n → (z : ℤ)
+    → Moved (length (mid_of (at.to - at.from) (length m - (at.to - at.from)) m)) z → ReadFits at (to_z w64 (of_z w64 z))
+read_back at m n h e z moved = let f = moved-fits at m n h e z moved in subst (ReadFits at) (sym (to_z-of_z (fits-back at z f _ moved))) f
 
 -- the bytes that were moved stay in front
-in-front : (w m r : List ℕ) (from to : ℕ) → from ≤ to → to ≤ length w → m ≡ paste w 0 (drop from w) (to - from)
+in_front : (w m r : List ℕ) (from to : ℕ) → from ≤ to → to ≤ length w → m ≡ paste w 0 (drop from w) (to - from)
     → put_mid (to - from) (length m - (to - from)) m r ≡ part w from to ++ (r ++ post_of (to - from) (length m - (to - from)) m)
 unfolding part
-in-front w m r from to h l q =
+in_front w m r from to h l q =
     let k = to - from in
     ap (λ (x : List ℕ). x ++ (r ++ post_of k (length m - k) m))
     (ap₂ take (sym (zero-add k)) q ∙ take-paste w 0 (drop from w) k (omega arith) (omega (arith, length-drop from w)))
@@ -91,7 +91,7 @@ returns c =
       behind = r.new.1.0 ++ post_of k (length m.new.0 - k) m.new.0;
       leads = c.read_step.ensures;
       fits = read_back a m.new.0 (length w) s.requires m.auto.0 r.result r.ensures;
-      holds = in-front w m.new.0 r.new.1.0 a.from a.to s.requires.ordered s.requires.within m.ensures;
+      holds = in_front w m.new.0 r.new.1.0 a.from a.to s.requires.ordered s.requires.within m.ensures;
       long = same_len_mid k (length m.new.0 - k) m.new.0 r.new.1.0 r.auto.1.0 ∙ m.auto.0;
     }
 

@@ -6,21 +6,21 @@ use native.Mathlib.Numerals.{add-one}
 use Rattle.syntax.specs.Parts.{part}
 use Rattle.setups.specs.declared.LineRead.{LineRead}
 use Rattle.setups.specs.declared.LineRead.TheVariants as read
-use Rattle.setups.specs.LineRead.{Line-done, read_as}
+use Rattle.setups.specs.LineRead.{LineDone, read_as}
 use Rattle.agenda.specs.declared.Place.{Place}
 use Rattle.agenda.specs.declared.Step.{Step}
 use Rattle.agenda.specs.declared.Step.TheVariants.{On}
-use Rattle.agenda.specs.Agenda.{lines_from, setup-from}
-use Rattle.patterns.specs.Buffers.{Buffers, lent, with-store}
-use Rattle.patterns.specs.Turns.{Line-goes, Line-made}
+use Rattle.agenda.specs.Agenda.{lines_from, setup_from}
+use Rattle.patterns.specs.Buffers.{Buffers, lent, with_store}
+use Rattle.patterns.specs.Turns.{LineGoes, LineMade}
 use borrow.Author.Rules.{rules}
 use Rattle.patterns.proofs.read_setup.Statement.{statement}
 use Rattle.patterns.proofs.read_setup.Tie as tie
 
 -- what a line was told as, and what was done with it
-made_by : (r : Step) (at : Place) (e lines : ℕ) (m : Line-done) (x : LineRead) (b : List ℕ) (s s' : Buffers) → read_as x b ≡ m → Line-goes r at e lines x (with-store s b) s'
-    → Line-made r at e lines m s s'
-made_by r at e lines m x b s s' q g = subst (λ (y : Line-done). Line-goes r at e lines y.answer (with-store s y.header) s') q g
+made_by : (r : Step) (at : Place) (e lines : ℕ) (m : LineDone) (x : LineRead) (b : List ℕ) (s s' : Buffers) → read_as x b ≡ m → LineGoes r at e lines x (with_store s b) s'
+    → LineMade r at e lines m s s'
+made_by r at e lines m x b s s' q g = subst (λ (y : LineDone). LineGoes r at e lines y.answer (with_store s y.header) s') q g
 
 sub-setup-line : tie.Need-overflow-sub-setup-line
 sub-setup-line c = search rules
@@ -68,13 +68,13 @@ returns : tie.Need-returns
 unfolding part
 returns c =
     let a = c.before.before.before.before.before.before.before.before.before.before.before.before.before.args in
-    let l = c.before.before.before.before.before.before.setup-line in
+    let l = c.before.before.before.before.before.before.setup_line in
     let g = c.before.before.next.given in
-    let f = c.setup-from in
+    let f = c.setup_from in
     let s = lent a.window.now a.store.now a.answer.now a.out.now in
-    let is : f.result ≡ setup-from a.at (suc a.end) g.0.0 (suc a.lines) =
-    f.ensures ∙ ap₂ (λ (x y : ℕ). setup-from a.at x g.0.0 y) (add-one a.end) (add-one a.lines) in
-    made_by (On f.result) a.at a.end a.lines _ (read.More g.0.0) l.new.0 s (with-store s l.new.0)
+    let is : f.result ≡ setup_from a.at (suc a.end) g.0.0 (suc a.lines) =
+    f.ensures ∙ ap₂ (λ (x y : ℕ). setup_from a.at x g.0.0 y) (add-one a.end) (add-one a.lines) in
+    made_by (On f.result) a.at a.end a.lines _ (read.More g.0.0) l.new.0 s (with_store s l.new.0)
     (ap (λ (y : LineRead). read_as y l.new.0) (sym g.1) ∙ l.ensures) (ap On is, refl)
 
 same-length-2 : tie.Need-same-length-2
@@ -84,11 +84,11 @@ returns-2 : tie.Need-returns-2
 unfolding part
 returns-2 c =
     let a = c.before.before.before.before.before.before.before.before.before.before.before.before.args in
-    let l = c.before.before.before.before.before.setup-line in
+    let l = c.before.before.before.before.before.setup_line in
     let f = c.lines_from in
     let s = lent a.window.now a.store.now a.answer.now a.out.now in
     let is : f.result ≡ lines_from a.at (suc a.end) = f.ensures ∙ ap (lines_from a.at) (add-one a.end) in
-    made_by (On f.result) a.at a.end a.lines _ read.End l.new.0 s (with-store s l.new.0)
+    made_by (On f.result) a.at a.end a.lines _ read.End l.new.0 s (with_store s l.new.0)
     (ap (λ (y : LineRead). read_as y l.new.0) (sym c.before.enum_told.given.1) ∙ l.ensures) (ap On is, refl)
 
 same-length-3 : tie.Need-same-length-3
@@ -101,7 +101,7 @@ returns-3 : tie.Need-returns-3
 unfolding part
 returns-3 c =
     let a = c.before.before.before.before.before.before.before.before.before.before.before.before.before.before.before.args in
-    let l = c.before.before.before.before.before.before.before.before.setup-line in
+    let l = c.before.before.before.before.before.before.before.before.setup_line in
     let r = c.before.before.refused in
     let s = lent a.window.now a.store.now a.answer.now a.out.now in
     let o = lent a.window.now l.new.0 a.answer.now in

@@ -4,17 +4,17 @@ use mathlib.Core.List.{List}
 use Prim.Native.Nat.{ℕ, suc, ◌+◌, ◌-◌, ◌≤◌, ◌<◌}
 use native.Mathlib.Omega.{arith}
 use lib.ListN.{length}
-use Rattle.store.specs.StoreBytes.{store-width}
-use Rattle.setups.specs.LineRead.{Begun-store}
-use Rattle.setups.specs.OpeningLaws.{nothing-begun}
+use Rattle.store.specs.StoreBytes.{store_width}
+use Rattle.setups.specs.LineRead.{BegunStore}
+use Rattle.setups.specs.OpeningLaws.{nothing_begun}
 use Rattle.agenda.specs.declared.Place.{Place}
 use Rattle.agenda.specs.declared.Step.{Step}
 use Rattle.agenda.specs.declared.Step.TheVariants as step
-use Rattle.agenda.specs.Agenda.{Place-held}
-use Rattle.agenda.specs.Conversation.{first-place}
+use Rattle.agenda.specs.Agenda.{PlaceHeld}
+use Rattle.agenda.specs.Conversation.{first_place}
 use Rattle.patterns.specs.Buffers.{Buffers, lent, Ready, lines_at, Answering, Reporting, Held}
-use Rattle.patterns.specs.Turns.{Turns, most-turns, Serves, spent, ended, failed, goes}
-use Rattle.patterns.specs.TurnsLaws.{Leads, turn-leads}
+use Rattle.patterns.specs.Turns.{Turns, most_turns, Serves, spent, ended, failed, goes}
+use Rattle.patterns.specs.TurnsLaws.{Leads, turn_leads}
 use Rattle.patterns.proofs.serve.Statement.{statement}
 use Rattle.patterns.proofs.serve.Tie as tie
 
@@ -27,12 +27,12 @@ record Same-lengths (s₀ s : Buffers) : Type 0 where
 
 record Serving (s₀ s : Buffers) (at : Place) (turns : ℕ) : Type 0 where
   long : Same-lengths s₀ s
-  placed : Place-held at (length s.window)
+  placed : PlaceHeld at (length s.window)
   answering : Answering s.answer
   reporting : Reporting s.out
   ready : Ready at.phase s.store
   counted : lines_at at.phase + turns ≤ 18446744073709551615
-  chain : {s' : Buffers} → Serves turns at s s' → Serves most-turns first-place s₀ s'
+  chain : {s' : Buffers} → Serves turns at s s' → Serves most_turns first_place s₀ s'
 
 -- so a turn may be made
 holds-for : {s₀ s : Buffers} {at : Place} {turns : ℕ} → Serving s₀ s at turns → 0 < turns → Held at s
@@ -48,8 +48,8 @@ module _ (turns : ℕ) (some_left : 0 < turns) (r : Step) (at : Place) (s s₁ :
   on then e {s'} x = subst (λ (n : ℕ). Serves n at s s') left (goes (subst (λ (y : Step). Turns y at s s₁) e turned) x)
 
   -- or the last
-  at-end : r ≡ step.Ended → Serves turns at s s₁
-  at-end e = subst (λ (n : ℕ). Serves n at s s₁) left (ended (subst (λ (y : Step). Turns y at s s₁) e turned))
+  at_end : r ≡ step.Ended → Serves turns at s s₁
+  at_end e = subst (λ (n : ℕ). Serves n at s s₁) left (ended (subst (λ (y : Step). Turns y at s s₁) e turned))
 
   at-failure : r ≡ step.Failed → Serves turns at s s₁
   at-failure e = subst (λ (n : ℕ). Serves n at s s₁) left (failed (subst (λ (y : Step). Turns y at s s₁) e turned))
@@ -69,7 +69,7 @@ abbrev decreases-loop : tie.decreases-loop
 decreases-loop store₀ window₀ answer₀ out₀ at₀ turns₀ store window answer out at turns = turns
 
 begin-store-requires : tie.Need-begin-store-requires invariant-loop decreases-loop
-unfolding store-width
+unfolding store_width
 begin-store-requires c κs = let p = c.before.before.before.before.before.requires in p.stored
 
 loop-holds : tie.Need-loop-init invariant-loop decreases-loop
@@ -82,7 +82,7 @@ loop-holds c =
       placed = record { wide = p.windowed; ordered = omega arith; within = omega arith };
       answering = p.answering;
       reporting = p.reporting;
-      ready = (subst Begun-store (sym c.before.before.begin-store.ensures) (nothing-begun s.args.store.now p.stored), omega arith);
+      ready = (subst BegunStore (sym c.before.before.begin-store.ensures) (nothing_begun s.args.store.now p.stored), omega arith);
       counted = omega arith;
       chain = λ x. x;
     }
@@ -108,7 +108,7 @@ loop-again c =
     let some_left = c.before.before.before.before.before.before.before.before.before.before.before.before.before.before.before.before.loop-test.true in
     let b = lent l.window l.store l.answer l.out in
     let b₁ = lent w.new.1.0 w.new.0 w.new.1.1.1.0 w.new.1.1.1.1.0 in
-    let leaves = subst (λ (r : Step). Leads l.at.phase r b₁) g.1 (turn-leads l.at b (holds-for i some_left) w.result b₁ w.ensures) in
+    let leaves = subst (λ (r : Step). Leads l.at.phase r b₁) g.1 (turn_leads l.at b (holds-for i some_left) w.result b₁ w.ensures) in
     record {
       long = record {
         stores = w.auto.0 ∙ i.long.stores;
@@ -145,7 +145,7 @@ returns c =
     let w = c.before.before.before.before.before.before.before.before.before.before.turn in
     let b = lent l.window l.store l.answer l.out in
     let b₁ = lent w.new.1.0 w.new.0 w.new.1.1.1.0 w.new.1.1.1.1.0 in
-    from-begun c.before.before.before.before.before.before.before.before.before.before.before.before.before.before.before.before.before.before.before.begin-store.ensures (l.invariant.chain (at-end l.turns c.before.before.before.before.before.before.before.before.before.before.before.before.before.before.before.loop-test.true w.result l.at b b₁ w.ensures c.enum_told.given.1))
+    from-begun c.before.before.before.before.before.before.before.before.before.before.before.before.before.before.before.before.before.before.before.begin-store.ensures (l.invariant.chain (at_end l.turns c.before.before.before.before.before.before.before.before.before.before.before.before.before.before.before.loop-test.true w.result l.at b b₁ w.ensures c.enum_told.given.1))
 
 enum-told-2 : tie.Need-enum-told-2 invariant-loop decreases-loop
 enum-told-2 c = c.match.keys3

@@ -2,7 +2,7 @@
 use mathlib.Core.Path.{◌≡◌, subst, refl, sym, ◌∙◌, ap}
 use mathlib.Core.List.{List}
 use Prim.Native.Nat.{ℕ, ◌≤◌, ◌<◌}
-use Rattle.setups.specs.LineRead.{Begun-store}
+use Rattle.setups.specs.LineRead.{BegunStore}
 use Rattle.agenda.specs.declared.Phase.{Phase}
 use Rattle.agenda.specs.declared.Phase.TheVariants as phase
 use Rattle.agenda.specs.declared.Place.{Place}
@@ -11,15 +11,15 @@ use Rattle.agenda.specs.declared.Next.TheVariants as next
 use Rattle.agenda.specs.declared.Step.{Step}
 use Rattle.agenda.specs.declared.Step.TheVariants as step
 use Rattle.agenda.specs.Agenda.{next_of}
-use Rattle.agenda.specs.AgendaLaws.{next-held, next-leads}
-use Rattle.patterns.specs.Buffers.{Buffers, lent, with-window, Ready, lines_at, Countable}
+use Rattle.agenda.specs.AgendaLaws.{next_held, next_leads}
+use Rattle.patterns.specs.Buffers.{Buffers, lent, with_window, Ready, lines_at, Countable}
 use Rattle.patterns.specs.Turns.{Turns, Does}
 use borrow.Author.Rules.{rules}
 use Rattle.patterns.proofs.turn.Statement.{statement}
 use Rattle.patterns.proofs.turn.Tie as tie
 
 -- what a setup line may rely on
-setup-ready : (p : Phase) (kind lines : ℕ) (b : List ℕ) → p ≡ phase.Setup kind lines → Ready p b → Begun-store b × (kind ≤ 3)
+setup-ready : (p : Phase) (kind lines : ℕ) (b : List ℕ) → p ≡ phase.Setup kind lines → Ready p b → BegunStore b × (kind ≤ 3)
 setup-ready p kind lines b e r = subst (λ (q : Phase). Ready q b) e r
 
 lines-countable : (p : Phase) (kind lines : ℕ) → p ≡ phase.Setup kind lines → Countable p → lines < 18446744073709551615
@@ -40,7 +40,7 @@ make-call-requires : tie.Need-make-call-requires
 make-call-requires c κs =
     let s = c.before.before.before.before.before.before.before.before.before.before.before.before.before in
     let a = s.args in
-    let h = next-held a.window.now a.at s.requires.placed in
+    let h = next_held a.window.now a.at s.requires.placed in
     let k = rw (sym c.before.before.before.before.before.before.before.next.ensures ∙ c.before.before.before.before.before.call.given.1) at h in
     (k.0, (s.requires.answering, s.requires.reporting))
 
@@ -64,7 +64,7 @@ read-setup-requires c κs =
     let s = c.before.before.before.before.before.before.before.before.before.before.before.before.before in
     let a = s.args in
     let g = c.before.before.before.before.before.end.given in
-    let h = next-leads a.window.now a.at s.requires.placed in
+    let h = next_leads a.window.now a.at s.requires.placed in
     let l = rw (sym c.before.before.before.before.before.before.before.next.ensures ∙ g.1) at h in
     let x = setup-ready a.at.phase g.0.1.0 g.0.1.1.0 a.store.now l.0 s.requires.ready in
     let n = lines-countable a.at.phase g.0.1.0 g.0.1.1.0 l.0 s.requires.countable in
@@ -78,7 +78,7 @@ refused-requires c κs =
     let s = c.before.before.before.before.before.before.before.before.before.before.before in
     let a = s.args in
     let g = c.before.before.before.lines.given in
-    let h = next-leads a.window.now a.at s.requires.placed in
+    let h = next_leads a.window.now a.at s.requires.placed in
     let l = rw (sym c.before.before.before.before.before.next.ensures ∙ g.1) at h in
     (lines-countable a.at.phase l.0 g.0.0 l.1 s.requires.countable, (s.requires.answering, s.requires.reporting))
 
@@ -121,9 +121,9 @@ returns-3 : tie.Need-returns-3
 returns-3 c =
     let a = c.before.before.before.before.before.before.before.before.before.before.before.before.args in
     let k = c.before.before.before.before.before.before.next in
-    let r = c.before.before.read-on in
+    let r = c.before.before.read_on in
     let b = lent a.window.now a.store.now a.answer.now a.out.now in
-    done-as next.Read k.result r.result a.at b (with-window b r.new.0) k.ensures c.before.before.before.before.enum_told.given.1 (r.ensures, refl)
+    done-as next.Read k.result r.result a.at b (with_window b r.new.0) k.ensures c.before.before.before.before.enum_told.given.1 (r.ensures, refl)
 
 same-length-7 : tie.Need-same-length-7
 same-length-7 c = search rules

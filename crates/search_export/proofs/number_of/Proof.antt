@@ -1,6 +1,6 @@
 -- `search_export::number_of` meets its contract: each case is the definition's.
 use borrow.Author.Rules.{rules}
-use Rattle.search_export.specs.SearchCall.{number-told}
+use Rattle.search_export.specs.SearchCall.{number_told}
 use Rattle.search_export.proofs.number_of.Statement.{statement}
 use Rattle.search_export.proofs.number_of.Tie as tie
 
@@ -11,11 +11,11 @@ enum-told-2 : tie.Need-enum-told-2
 enum-told-2 c = search rules
 
 returns : tie.Need-returns
-unfolding number-told
+unfolding number_told
 returns c = search rules
 
 returns-2 : tie.Need-returns-2
-unfolding number-told
+unfolding number_told
 returns-2 c = search rules
 
 pub number-of-spec : {M : Type 1} → statement M

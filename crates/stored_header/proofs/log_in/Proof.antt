@@ -2,24 +2,24 @@
 use mathlib.Core.Path.{sym, subst}
 use lib.ListN.{take}
 use Rattle.buffers.specs.Text.{Text}
-use Rattle.header.specs.HeaderBytes.{Logs-in}
-use Rattle.store.specs.HeaderLayout.{header-width}
-use Rattle.stored_header.specs.StoredLaws.{long-enough, header-length, lent-headed, login-carries}
+use Rattle.header.specs.HeaderBytes.{LogsIn}
+use Rattle.store.specs.HeaderLayout.{header_width}
+use Rattle.stored_header.specs.StoredLaws.{long_enough, header_length, lent_headed, login_carries}
 use borrow.Author.Rules.{rules}
 use Rattle.stored_header.proofs.log_in.Statement.{statement}
 use Rattle.stored_header.proofs.log_in.Tie as tie
 
 slice-relend-prefix-login : tie.Need-slice-relend-prefix-login
-slice-relend-prefix-login c = long-enough c.before.before.before.requires.0
+slice-relend-prefix-login c = long_enough c.before.before.before.requires.0
 
 slice-aggregate-login : tie.Need-slice-aggregate-login
-slice-aggregate-login c = sym (header-length c.before.before.before.before.requires.0)
+slice-aggregate-login c = sym (header_length c.before.before.before.before.requires.0)
 
 part-requires : tie.Need-part-requires
 part-requires c κs = c.before.before.before.before.requires.1.1.1
 
 login-requires : tie.Need-login-requires
-login-requires c κs = let s = c.before.before.before.before.before in (lent-headed s.requires.0, (s.requires.1.0, s.requires.1.1.0))
+login-requires c κs = let s = c.before.before.before.before.before in (lent_headed s.requires.0, (s.requires.1.0, s.requires.1.1.0))
 
 same_length : tie.Need-same-length
 same_length c = search rules
@@ -28,9 +28,9 @@ returns : tie.Need-returns
 returns c s z h e =
     let a = c.before.before.before.before.before.before.before.before.args in
     let l = c.before.before.login in
-    let H = take header-width a.store.now in
-    let logs = subst (λ (x : Text). Logs-in H a.caller.account.uid a.role x l.result l.new.0) c.before.before.before.part.ensures l.ensures in
-    login-carries h a.caller z _ l.result l.new.0 (logs s.setup s.store.registry h.header z e)
+    let H = take header_width a.store.now in
+    let logs = subst (λ (x : Text). LogsIn H a.caller.account.uid a.role x l.result l.new.0) c.before.before.before.part.ensures l.ensures in
+    login_carries h a.caller z _ l.result l.new.0 (logs s.setup s.store.registry h.header z e)
 
 pub log-in-spec : {M : Type 1} → statement M
 log-in-spec =

@@ -3,25 +3,25 @@
 use mathlib.Core.Path.{sym, ◌∙◌}
 use borrow.Author.Tests.{eq-eqb, ne_eqb}
 use borrow.Author.Rules.{rules}
-use Rattle.accounts.specs.Access.{is-root, same-uid, may-root, may-owner, may-group, may-other}
+use Rattle.accounts.specs.Access.{is_root, same_uid, may_root, may_owner, may_group, may_other}
 use Rattle.accounts.proofs.Account.may.Statement.{statement}
 use Rattle.accounts.proofs.Account.may.Tie as tie
 
 returns : tie.Need-returns
-unfolding is-root
+unfolding is_root
 returns c =
     let a = c.before.before.before.before.args in
-    sym (may-root a.self a.right a.owner a.group a.mode (eq-eqb a.self.uid.0 0 c.if1.true))
+    sym (may_root a.self a.right a.owner a.group a.mode (eq-eqb a.self.uid.0 0 c.if1.true))
 
 in-digit-requires : tie.Need-in-digit-requires
 in-digit-requires c κs = search rules
 
 returns-2 : tie.Need-returns-2
-unfolding is-root same-uid
+unfolding is_root same_uid
 returns-2 c =
     let a = c.before.before.before.before.before.before.before.before.args in
     c.in-digit.ensures ∙
-    sym (may-owner a.self a.right a.owner a.group a.mode (ne_eqb a.self.uid.0 0 c.before.before.before.before.if1.false) (eq-eqb a.self.uid.0 a.owner.0 c.before.if2.true))
+    sym (may_owner a.self a.right a.owner a.group a.mode (ne_eqb a.self.uid.0 0 c.before.before.before.before.if1.false) (eq-eqb a.self.uid.0 a.owner.0 c.before.if2.true))
 
 has-requires : tie.Need-has-requires
 has-requires c κs = search rules
@@ -30,21 +30,21 @@ in-digit-requires-2 : tie.Need-in-digit-requires-2
 in-digit-requires-2 c κs = search rules
 
 returns-3 : tie.Need-returns-3
-unfolding is-root same-uid
+unfolding is_root same_uid
 returns-3 c =
     let a = c.before.before.before.before.before.before.before.before.before.before.args in
     c.in-digit2.ensures ∙
-    sym (may-group a.self a.right a.owner a.group a.mode (ne_eqb a.self.uid.0 0 c.before.before.before.before.before.before.if1.false) (ne_eqb a.self.uid.0 a.owner.0 c.before.before.before.if2.false) (sym c.before.before.has.ensures ∙ c.before.if3.true))
+    sym (may_group a.self a.right a.owner a.group a.mode (ne_eqb a.self.uid.0 0 c.before.before.before.before.before.before.if1.false) (ne_eqb a.self.uid.0 a.owner.0 c.before.before.before.if2.false) (sym c.before.before.has.ensures ∙ c.before.if3.true))
 
 in-digit-requires-3 : tie.Need-in-digit-requires-3
 in-digit-requires-3 c κs = search rules
 
 returns-4 : tie.Need-returns-4
-unfolding is-root same-uid
+unfolding is_root same_uid
 returns-4 c =
     let a = c.before.before.before.before.before.before.before.before.before.before.args in
     c.in-digit3.ensures ∙
-    sym (may-other a.self a.right a.owner a.group a.mode (ne_eqb a.self.uid.0 0 c.before.before.before.before.before.before.if1.false) (ne_eqb a.self.uid.0 a.owner.0 c.before.before.before.if2.false) (sym c.before.before.has.ensures ∙ c.before.if3.false))
+    sym (may_other a.self a.right a.owner a.group a.mode (ne_eqb a.self.uid.0 0 c.before.before.before.before.before.before.if1.false) (ne_eqb a.self.uid.0 a.owner.0 c.before.before.before.if2.false) (sym c.before.before.has.ensures ∙ c.before.if3.false))
 
 pub may-spec : {M : Type 1} → statement M
 may-spec =

@@ -1,8 +1,8 @@
 -- `accounts::Dominance::account` meets its contract.
 -- Assumes nothing.
 use borrow.Author.Rules.{rules}
-use Rattle.accounts.specs.Closure.{row-account}
-use Rattle.accounts.specs.Service.{service-uid}
+use Rattle.accounts.specs.Closure.{row_account}
+use Rattle.accounts.specs.Service.{service_uid}
 use Rattle.accounts.proofs.Dominance.account.Statement.{statement}
 use Rattle.accounts.proofs.Dominance.account.Tie as tie
 
@@ -25,7 +25,7 @@ add-t12 : tie.Need-overflow-add-t12
 add-t12 c = search rules
 
 returns : tie.Need-returns
-unfolding row-account service-uid
+unfolding row_account service_uid
 returns c = rw c.wide.ensures.0
 
 pub account-spec : {M : Type 1} → statement M

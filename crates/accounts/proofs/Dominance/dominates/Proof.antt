@@ -8,13 +8,13 @@ use native.Mathlib.Nat.{le_trans, le_of_eq, zero-div}
 use lib.ListN.{length, get_or-eq_default}
 use borrow.Author.Rules.{rules}
 use Rattle.accounts.specs.declared.Role.{Role}
-use Rattle.accounts.specs.Closure.{row-dominates, has-role}
+use Rattle.accounts.specs.Closure.{row_dominates, has_role}
 use Rattle.accounts.proofs.Dominance.dominates.Statement.{statement}
 use Rattle.accounts.proofs.Dominance.dominates.Tie as tie
 
 -- past the last row no role dominates
-past-rows : (rows : List ℕ) (s r : Role) → length rows ≡ 8 → 8 ≤ s.0 → false ≡ row-dominates rows s r
-unfolding row-dominates has-role
+past-rows : (rows : List ℕ) (s r : Role) → length rows ≡ 8 → 8 ≤ s.0 → false ≡ row_dominates rows s r
+unfolding row_dominates has_role
 past-rows rows s r l h = rw (get_or-eq_default rows 0 (le_trans (le_of_eq l) h), zero-div (2 ^ r.0))
 
 cast-k : tie.Need-overflow-cast-k
@@ -30,8 +30,8 @@ has-role-requires : tie.Need-has-role-requires
 has-role-requires c κs = search rules
 
 returns-2 : tie.Need-returns-2
-unfolding row-dominates
-returns-2 c = c.has-role.ensures
+unfolding row_dominates
+returns-2 c = c.has_role.ensures
 
 pub dominates-spec : {M : Type 1} → statement M
 dominates-spec =

@@ -9,8 +9,8 @@ use native.Mathlib.Omega.{arith}
 use lib.ListN.{length, take, drop, set, get_or, length-set, drop_of_length-le}
 use lib.Seq.{take-suc-set, drop-set-lt, drop-cons, take_all}
 use borrow.Author.Rules.{rules}
-use Rattle.accounts.specs.Closure.{grown-row, grown-rows}
-use Rattle.accounts.specs.ClosureLaws.{none-grown}
+use Rattle.accounts.specs.Closure.{grown_row, grown_rows}
+use Rattle.accounts.specs.ClosureLaws.{none_grown}
 use Rattle.accounts.proofs.Dominance.with.Statement.{statement}
 use Rattle.accounts.proofs.Dominance.with.Tie as tie
 
@@ -24,7 +24,7 @@ all_grown : (f : ℕ → ℕ) (rows : List ℕ) (i : ℕ) → length rows ≤ i 
 all_grown f rows i l = rw (take_all i rows l, drop_of_length-le rows l, append-nil)
 
 abbrev invariant-loop : tie.invariant-loop
-invariant-loop senior j rows₀ add i₀ rows i = (i ≤ 8) × ((length rows ≡ 8) × (take i rows ++ map (grown-row senior add) (drop i rows) ≡ map (grown-row senior add) rows₀))
+invariant-loop senior j rows₀ add i₀ rows i = (i ≤ 8) × ((length rows ≡ 8) × (take i rows ++ map (grown_row senior add) (drop i rows) ≡ map (grown_row senior add) rows₀))
 
 abbrev decreases-loop : tie.decreases-loop
 decreases-loop senior j rows₀ add i₀ rows i = 8 - i
@@ -33,7 +33,7 @@ cast-j : tie.Need-overflow-cast-j invariant-loop decreases-loop
 cast-j c = search rules
 
 returns : tie.Need-returns invariant-loop decreases-loop
-returns c = let a = c.before.before.before.before.args in none-grown a.pair a.self.rows (search rules) c.if1.true
+returns c = let a = c.before.before.before.before.args in none_grown a.pair a.self.rows (search rules) c.if1.true
 
 array-read-add : tie.Need-array-read-add invariant-loop decreases-loop
 array-read-add c = search rules
@@ -60,15 +60,15 @@ loop-again : tie.Need-loop-preserved invariant-loop decreases-loop
 loop-again c =
     let l = c.before.before.loop in
     let a = c.before.before.before.before.before.before.before.before.args in
-    let g = grown-row a.pair.senior (get_or a.self.rows a.pair.junior.0 0) in
-    (omega arith, (simp length-set l.invariant.1.0, one_more g l.rows l.i c.grown-row.result (omega arith) c.grown-row.ensures ∙ l.invariant.1.1))
+    let g = grown_row a.pair.senior (get_or a.self.rows a.pair.junior.0 0) in
+    (omega arith, (simp length-set l.invariant.1.0, one_more g l.rows l.i c.grown_row.result (omega arith) c.grown_row.ensures ∙ l.invariant.1.1))
 
 returns-2 : tie.Need-returns-2 invariant-loop decreases-loop
-unfolding grown-rows
+unfolding grown_rows
 returns-2 c =
     let l = c.before.loop in
     let a = c.before.before.before.before.before.before.before.args in
-    let g = grown-row a.pair.senior (get_or a.self.rows a.pair.junior.0 0) in
+    let g = grown_row a.pair.senior (get_or a.self.rows a.pair.junior.0 0) in
     all_grown g l.rows l.i (omega arith) ∙ l.invariant.1.1
 
 pub with-spec : {M : Type 1} → statement M

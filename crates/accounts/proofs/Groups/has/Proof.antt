@@ -4,7 +4,7 @@ use mathlib.Core.Path.{sym, refl}
 use Prim.Native.Nat.{◌<◌, ◌^◌}
 use borrow.Author.Rules.{rules}
 use Rattle.accounts.specs.Groups.{member}
-use Rattle.accounts.proofs.Bits.{no-bit}
+use Rattle.accounts.proofs.Bits.{no_bit}
 use Rattle.accounts.proofs.Groups.has.Statement.{statement}
 use Rattle.accounts.proofs.Groups.has.Tie as tie
 
@@ -13,7 +13,7 @@ unfolding member
 returns c =
     let a = c.before.before.args in
     let l : a.self.0 < 2 ^ 32 = search rules in
-    sym (no-bit 32 a.g.0 a.self.0 l c.if1.true)
+    sym (no_bit 32 a.g.0 a.self.0 l c.if1.true)
 
 cast-result : tie.Need-overflow-cast-result
 cast-result c = search rules

@@ -1,7 +1,7 @@
 -- `accounts::Session::dominates` meets its contract, with a session and without.
 -- Assumes nothing.
 use borrow.Author.Rules.{rules}
-use Rattle.accounts.specs.Closure.{session-dominates}
+use Rattle.accounts.specs.Closure.{session_dominates}
 use Rattle.accounts.proofs.Session.dominates.Statement.{statement}
 use Rattle.accounts.proofs.Session.dominates.Tie as tie
 
@@ -15,11 +15,11 @@ dominates-requires : tie.Need-dominates-requires
 dominates-requires c κs = search rules
 
 returns : tie.Need-returns
-unfolding session-dominates
+unfolding session_dominates
 returns c = rw c.enum_told.given.1
 
 returns-2 : tie.Need-returns-2
-unfolding session-dominates
+unfolding session_dominates
 returns-2 c = rw c.before.before.self.given.1 c.dominates.ensures
 
 pub dominates-spec : {M : Type 1} → statement M

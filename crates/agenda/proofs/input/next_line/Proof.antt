@@ -3,8 +3,8 @@ use mathlib.Core.Path.{refl}
 use Prim.Native.Nat.{◌+◌}
 use native.Mathlib.Omega.{arith}
 use lib.ListN.{drop}
-use Rattle.syntax.specs.Pieces.{newline, piece-length}
-use Rattle.agenda.specs.InputLinesLaws.{line-ends, line-is-last, line-is-none, line-goes-on}
+use Rattle.syntax.specs.Pieces.{newline, piece_length}
+use Rattle.agenda.specs.InputLinesLaws.{line_ends, line_is_last, line_is_none, line_goes_on}
 use Rattle.agenda.proofs.input.next_line.Statement.{statement}
 use Rattle.agenda.proofs.input.next_line.Tie as tie
 
@@ -16,35 +16,35 @@ unfolding newline
 returns c =
     let a = c.before.before.before.before.args in
     let p = c.before.piece-end in
-    line-ends a.text.now a.at p.result a.ended p.ensures.0 c.if2.true
+    line_ends a.text.now a.at p.result a.ended p.ensures.0 c.if2.true
 
 returns-2 : tie.Need-returns-2
 unfolding newline
 returns-2 c =
     let a = c.before.before.before.before.before.args in
     let p = c.before.before.piece-end in
-    line-is-last a.text.now a.at p.result a.ended p.ensures.0 (omega arith) (omega arith) c.if3.true
+    line_is_last a.text.now a.at p.result a.ended p.ensures.0 (omega arith) (omega arith) c.if3.true
 
 returns-3 : tie.Need-returns-3
 unfolding newline
 returns-3 c =
     let a = c.before.before.before.before.before.args in
     let p = c.before.before.piece-end in
-    line-goes-on a.text.now a.at p.result a.ended p.ensures.0 (omega arith) c.if3.false
+    line_goes_on a.text.now a.at p.result a.ended p.ensures.0 (omega arith) c.if3.false
 
 returns-4 : tie.Need-returns-4
 unfolding newline
 returns-4 c =
     let a = c.before.before.before.args in
     let t = a.text.now in
-    line-is-none t a.at (a.at + piece-length newline (drop a.at t)) a.ended refl (omega arith) (omega arith) c.if4.true
+    line_is_none t a.at (a.at + piece_length newline (drop a.at t)) a.ended refl (omega arith) (omega arith) c.if4.true
 
 returns-5 : tie.Need-returns-5
 unfolding newline
 returns-5 c =
     let a = c.before.before.before.args in
     let t = a.text.now in
-    line-goes-on t a.at (a.at + piece-length newline (drop a.at t)) a.ended refl (omega arith) c.if4.false
+    line_goes_on t a.at (a.at + piece_length newline (drop a.at t)) a.ended refl (omega arith) c.if4.false
 
 pub next-line-spec : {M : Type 1} → statement M
 next-line-spec =

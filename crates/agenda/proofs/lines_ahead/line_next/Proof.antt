@@ -5,8 +5,8 @@ use native.Mathlib.Numerals.{add-one}
 use lib.Seq.{length-take-le}
 use Rattle.agenda.specs.declared.NextLine.TheVariants.{Line, Last, More, Nothing}
 use Rattle.agenda.specs.declared.Next.TheVariants.{On}
-use Rattle.agenda.specs.AgendaLaws.{line-within, line-found}
-use Rattle.agenda.specs.Agenda.{lines_from, taken, found-line}
+use Rattle.agenda.specs.AgendaLaws.{line_within, line_found}
+use Rattle.agenda.specs.Agenda.{lines_from, taken, found_line}
 use Rattle.agenda.proofs.lines_ahead.line_next.Statement.{statement}
 use Rattle.agenda.proofs.lines_ahead.line_next.Tie as tie
 
@@ -24,7 +24,7 @@ add-lines-from c =
     let s = c.before.before.before.before.before.before in
     let e = c.before.end.given in
     let h = s.requires in
-    omega (arith, (line-within s.args.window.now s.args.at h e.0.0 (sym c.before.before.before.next-line.ensures ∙ e.1)).1, h.wide, h.within)
+    omega (arith, (line_within s.args.window.now s.args.at h e.0.0 (sym c.before.before.before.next_line.ensures ∙ e.1)).1, h.wide, h.within)
 
 lines-from-requires : tie.Need-lines-from-requires
 lines-from-requires c κs = tt
@@ -54,34 +54,34 @@ listed-from-requires : tie.Need-listed-from-requires
 listed-from-requires c κs = tt
 
 returns : tie.Need-returns
-unfolding found-line
+unfolding found_line
 returns c =
     let a = c.before.before.before.before.before.before.before.before.args in
     let e = c.before.before.before.end.given in
     c.taken.ensures
     ∙ ap (taken a.at e.0.0) (c.before.lines_from.ensures ∙ ap (lines_from a.at) (add-one e.0.0))
-    ∙ line-found a.window.now a.at (Line e.0.0) c.before.before.before.before.before.next-line.ensures e.1
+    ∙ line_found a.window.now a.at (Line e.0.0) c.before.before.before.before.before.next_line.ensures e.1
 
 returns-2 : tie.Need-returns-2
-unfolding found-line
+unfolding found_line
 returns-2 c =
     let a = c.before.before.before.before.before.before.before.args in
     c.taken2.ensures
     ∙ ap (taken a.at a.at.to) c.before.lines-from2.ensures
-    ∙ line-found a.window.now a.at Last c.before.before.before.before.next-line.ensures c.before.before.enum_told.given.1
+    ∙ line_found a.window.now a.at Last c.before.before.before.before.next_line.ensures c.before.before.enum_told.given.1
 
 returns-3 : tie.Need-returns-3
-unfolding found-line
+unfolding found_line
 returns-3 c =
     let a = c.before.before.before.before.before.before.args in
-    c.unended.ensures ∙ line-found a.window.now a.at More c.before.before.before.next-line.ensures c.before.enum-told2.given.1
+    c.unended.ensures ∙ line_found a.window.now a.at More c.before.before.before.next_line.ensures c.before.enum-told2.given.1
 
 returns-4 : tie.Need-returns-4
-unfolding found-line
+unfolding found_line
 returns-4 c =
     let a = c.before.before.before.before.before.before.args in
-    ap On c.listed-from.ensures
-    ∙ line-found a.window.now a.at Nothing c.before.before.before.next-line.ensures c.before.enum-told3.given.1
+    ap On c.listed_from.ensures
+    ∙ line_found a.window.now a.at Nothing c.before.before.before.next_line.ensures c.before.enum-told3.given.1
 
 pub line-next-spec : {M : Type 1} → statement M
 line-next-spec =

@@ -1,5 +1,5 @@
 -- `agenda::reports::refuse` meets its contract: it is the reply of a wrong line.
-use Rattle.agenda.specs.AgendaLaws.{wrong-line-told}
+use Rattle.agenda.specs.AgendaLaws.{wrong_line_told}
 use borrow.Author.Rules.{rules}
 use Rattle.agenda.proofs.reports.refuse.Statement.{statement}
 use Rattle.agenda.proofs.reports.refuse.Tie as tie
@@ -11,7 +11,7 @@ same_length : tie.Need-same-length
 same_length c = search rules
 
 returns : tie.Need-returns
-returns c = rw (wrong-line-told c.before.before.before.before.before.before.args.line c.before.before.before.before.before.before.args.answer.now) c.before.before.write-reply.ensures
+returns c = rw (wrong_line_told c.before.before.before.before.before.before.args.line c.before.before.before.before.before.before.args.answer.now) c.before.before.write-reply.ensures
 
 pub refuse-spec : {M : Type 1} → statement M
 refuse-spec = tie.close (tie.spec write-reply-requires same_length returns)

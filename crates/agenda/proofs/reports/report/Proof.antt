@@ -1,5 +1,5 @@
 -- `agenda::reports::report` meets its contract: by the call.
-use Rattle.agenda.specs.Agenda.{report-text}
+use Rattle.agenda.specs.Agenda.{report_text}
 use borrow.Author.Rules.{rules}
 use Rattle.agenda.proofs.reports.report.Statement.{statement}
 use Rattle.agenda.proofs.reports.report.Tie as tie
@@ -20,14 +20,14 @@ same_length : tie.Need-same-length
 same_length c = search rules
 
 returns : tie.Need-returns
-unfolding report-text
+unfolding report_text
 returns c = rw c.before.before.before.before.enum_told.given.1 c.before.before.write-reply.ensures
 
 same-length-2 : tie.Need-same-length-2
 same-length-2 c = search rules
 
 returns-2 : tie.Need-returns-2
-unfolding report-text
+unfolding report_text
 returns-2 c = rw c.before.before.before.before.enum-told2.given.1 c.before.before.report-listed.ensures
 
 pub report-spec : {M : Type 1} → statement M

@@ -2,7 +2,7 @@
 use native.Mathlib.Omega.{arith}
 use native.Mathlib.Numerals.{add-one}
 use borrow.Author.Tests.{lt-ltb, le-ltb}
-use Rattle.agenda.specs.Agenda.{list-next}
+use Rattle.agenda.specs.Agenda.{list_next}
 use Rattle.agenda.proofs.steps.list_next.Statement.{statement}
 use Rattle.agenda.proofs.steps.list_next.Tie as tie
 
@@ -13,11 +13,11 @@ listed-from-requires : tie.Need-listed-from-requires
 listed-from-requires c κs = tt
 
 returns : tie.Need-returns
-unfolding list-next
-returns c = rw (lt-ltb _ _ c.before.if1.true, c.listed-from.ensures, add-one)
+unfolding list_next
+returns c = rw (lt-ltb _ _ c.before.if1.true, c.listed_from.ensures, add-one)
 
 returns-2 : tie.Need-returns-2
-unfolding list-next
+unfolding list_next
 returns-2 c = rw (le-ltb _ _ c.if1.false)
 
 pub list-next-spec : {M : Type 1} → statement M

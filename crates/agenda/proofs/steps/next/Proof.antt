@@ -1,8 +1,8 @@
 -- `agenda::steps::next` meets its contract: each phase has its function.
 use mathlib.Core.Path.{◌∙◌}
 use Rattle.agenda.specs.declared.Phase.TheVariants.{Setup, Lines, Listing}
-use Rattle.agenda.specs.AgendaLaws.{in-phase}
-use Rattle.agenda.specs.Agenda.{by-phase}
+use Rattle.agenda.specs.AgendaLaws.{in_phase}
+use Rattle.agenda.specs.Agenda.{by_phase}
 use borrow.Author.Rules.{rules}
 use Rattle.agenda.proofs.steps.next.Statement.{statement}
 use Rattle.agenda.proofs.steps.next.Tie as tie
@@ -26,24 +26,24 @@ list-next-requires : tie.Need-list-next-requires
 list-next-requires c κs = search rules
 
 returns : tie.Need-returns
-unfolding by-phase
+unfolding by_phase
 returns c =
     let a = c.before.before.before.before.before.args in
     let p = c.before.before.phase.given in
-    c.setup-next.ensures ∙ in-phase a.window.now a.at (Setup p.0.0 p.0.1.0) p.1
+    c.setup_next.ensures ∙ in_phase a.window.now a.at (Setup p.0.0 p.0.1.0) p.1
 
 returns-2 : tie.Need-returns-2
-unfolding by-phase
+unfolding by_phase
 returns-2 c =
     let a = c.before.before.before.before.args in
-    c.line-next.ensures ∙ in-phase a.window.now a.at Lines c.before.enum_told.given.1
+    c.line_next.ensures ∙ in_phase a.window.now a.at Lines c.before.enum_told.given.1
 
 returns-3 : tie.Need-returns-3
-unfolding by-phase
+unfolding by_phase
 returns-3 c =
     let a = c.before.before.before.before.before.args in
     let p = c.before.before.phase2.given in
-    c.list-next.ensures ∙ in-phase a.window.now a.at (Listing p.0.0) p.1
+    c.list_next.ensures ∙ in_phase a.window.now a.at (Listing p.0.0) p.1
 
 pub next-spec : {M : Type 1} → statement M
 next-spec =

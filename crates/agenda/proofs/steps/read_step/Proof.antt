@@ -13,7 +13,7 @@ use borrow.Author.Tests.{ltb-true}
 use Rattle.buffers.specs.Cases.{contra}
 use Rattle.agenda.specs.declared.Place.{Place}
 use Rattle.agenda.specs.declared.Step.TheVariants.{On, Failed}
-use Rattle.agenda.specs.Agenda.{Read-fits, read-place, read_step}
+use Rattle.agenda.specs.Agenda.{ReadFits, read_place, read_step}
 use Rattle.agenda.proofs.steps.read_step.Statement.{statement}
 use Rattle.agenda.proofs.steps.read_step.Tie as tie
 
@@ -27,11 +27,11 @@ unfolding read_step
 fails at (pos n) e = let none = ltb-true n 0 e in absurd (omega (arith, none))
 fails at (negsuc n) e = refl
 
-fitting : (at : Place) (z : ℤ) → T (non_neg z) → Read-fits at z → (at.to - at.from) + nat_abs z ≤ 65536
+fitting : (at : Place) (z : ℤ) → T (non_neg z) → ReadFits at z → (at.to - at.from) + nat_abs z ≤ 65536
 fitting at (pos n) t h = h
 fitting at (negsuc n) t h = absurd t
 
-reads : (at : Place) (z : ℤ) → T (non_neg z) → On (read-place at (nat_abs z)) ≡ read_step at z
+reads : (at : Place) (z : ℤ) → T (non_neg z) → On (read_place at (nat_abs z)) ≡ read_step at z
 unfolding read_step
 reads at (pos n) t = refl
 reads at (negsuc n) t = absurd t
@@ -49,7 +49,7 @@ after-read-requires : tie.Need-after-read-requires
 after-read-requires c κs =
     let s = c.before in
     let z = to_z w64 (of_z w64 s.args.got) in
-    let h = subst (Read-fits s.args.at) (sym (to_z-of_z s.ranges.got)) s.requires.1 in
+    let h = subst (ReadFits s.args.at) (sym (to_z-of_z s.ranges.got)) s.requires.1 in
     (s.requires.0, fitting s.args.at z (counts z c.if1.false) h)
 
 returns-2 : tie.Need-returns-2

@@ -1,6 +1,6 @@
 -- `arguments::readers::content_at` meets its contract: what it calls tests the part.
 use borrow.Author.Rules.{rules}
-use Rattle.syntax.specs.Parts.{span-text, part}
+use Rattle.syntax.specs.Parts.{span_text, part}
 use Rattle.arguments.proofs.readers.content_at.Statement.{statement}
 use Rattle.arguments.proofs.readers.content_at.Tie as tie
 
@@ -17,8 +17,8 @@ is-content-requires : tie.Need-is-content-requires
 is-content-requires c κs = search rules
 
 returns : tie.Need-returns
-unfolding span-text part
-returns c = c.is-content.ensures
+unfolding span_text part
+returns c = c.is_content.ensures
 
 pub content-at-spec : {M : Type 1} → statement M
 content-at-spec = tie.close (tie.spec sub-is-content part-is-content-start part-is-content-end is-content-requires returns)

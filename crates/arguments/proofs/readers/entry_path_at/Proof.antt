@@ -1,6 +1,6 @@
 -- `arguments::readers::entry_path_at` meets its contract: what it calls tests the part.
 use borrow.Author.Rules.{rules}
-use Rattle.syntax.specs.Parts.{span-text, part}
+use Rattle.syntax.specs.Parts.{span_text, part}
 use Rattle.arguments.proofs.readers.entry_path_at.Statement.{statement}
 use Rattle.arguments.proofs.readers.entry_path_at.Tie as tie
 
@@ -17,8 +17,8 @@ is-entry-path-requires : tie.Need-is-entry-path-requires
 is-entry-path-requires c κs = search rules
 
 returns : tie.Need-returns
-unfolding span-text part
-returns c = c.is-entry-path.ensures
+unfolding span_text part
+returns c = c.is_entry_path.ensures
 
 pub entry-path-at-spec : {M : Type 1} → statement M
 entry-path-at-spec =

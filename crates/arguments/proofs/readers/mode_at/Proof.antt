@@ -1,6 +1,6 @@
 -- `arguments::readers::mode_at` meets its contract: what it calls reads the part.
 use borrow.Author.Rules.{rules}
-use Rattle.syntax.specs.Parts.{span-text, part}
+use Rattle.syntax.specs.Parts.{span_text, part}
 use Rattle.arguments.proofs.readers.mode_at.Statement.{statement}
 use Rattle.arguments.proofs.readers.mode_at.Tie as tie
 
@@ -17,7 +17,7 @@ mode-requires : tie.Need-mode-requires
 mode-requires c κs = search rules
 
 returns : tie.Need-returns
-unfolding span-text part
+unfolding span_text part
 returns c = c.mode.ensures
 
 pub mode-at-spec : {M : Type 1} → statement M

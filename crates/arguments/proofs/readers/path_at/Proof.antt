@@ -1,6 +1,6 @@
 -- `arguments::readers::path_at` meets its contract: what it calls tests the part.
 use borrow.Author.Rules.{rules}
-use Rattle.syntax.specs.Parts.{span-text, part}
+use Rattle.syntax.specs.Parts.{span_text, part}
 use Rattle.arguments.proofs.readers.path_at.Statement.{statement}
 use Rattle.arguments.proofs.readers.path_at.Tie as tie
 
@@ -17,8 +17,8 @@ is-typed-path-requires : tie.Need-is-typed-path-requires
 is-typed-path-requires c κs = search rules
 
 returns : tie.Need-returns
-unfolding span-text part
-returns c = c.is-typed-path.ensures
+unfolding span_text part
+returns c = c.is_typed_path.ensures
 
 pub path-at-spec : {M : Type 1} → statement M
 path-at-spec =

@@ -1,9 +1,9 @@
 -- `attributes::changes::chmod` meets its contract: refused as the decision is, else the mode of that place is changed.
 use mathlib.Core.Path.{◌∙◌}
-use Rattle.tree.specs.Node.{set-mode}
-use Rattle.node_fields.specs.FieldEditLaws.{mode-law}
+use Rattle.tree.specs.Node.{set_mode}
+use Rattle.node_fields.specs.FieldEditLaws.{mode_law}
 use Rattle.attributes.specs.declared.Deed.TheVariants.{Chmod}
-use Rattle.attributes.specs.ChecksLaws.{chmod-checked, refused-there, changed-there, row-there}
+use Rattle.attributes.specs.ChecksLaws.{chmod_checked, refused_there, changed_there, row_there}
 use borrow.Author.Rules.{rules}
 use Rattle.attributes.proofs.changes.chmod.Statement.{statement}
 use Rattle.attributes.proofs.changes.chmod.Tie as tie
@@ -17,8 +17,8 @@ enum-known-row c = search rules
 set-mode-requires : tie.Need-set-mode-requires
 set-mode-requires c κs =
     let s = c.before.before.before.before.before.before.before.before in
-    let decided = c.before.before.before.before.may-do.ensures in
-    row-there s.args.path.now s.requires.0 s.requires.1 s.args.caller.account (Chmod s.args.mode) decided c.before.before.row.given.1
+    let decided = c.before.before.before.before.may_do.ensures in
+    row_there s.args.path.now s.requires.0 s.requires.1 s.args.caller.account (Chmod s.args.mode) decided c.before.before.row.given.1
 
 enum-known-cause : tie.Need-enum-known-cause
 enum-known-cause c = search rules
@@ -30,10 +30,10 @@ returns : tie.Need-returns
 returns c t p e q =
     let s = c.before.before.before.before.before.before.before.before.before.before.before in
     let x = s.args.mode in
-    let decided = c.before.before.before.before.before.before.before.may-do.ensures t p e q in
-    let change = c.before.before.set-mode in
-    changed-there e s.args.caller.account (Chmod x) p decided c.before.before.before.before.before.row.given.1
-    (set-mode x) (chmod-checked s.args.caller 0 t p x) change.new.0 (λ d at. change.ensures ∙ mode-law at x)
+    let decided = c.before.before.before.before.before.before.before.may_do.ensures t p e q in
+    let change = c.before.before.set_mode in
+    changed_there e s.args.caller.account (Chmod x) p decided c.before.before.before.before.before.row.given.1
+    (set_mode x) (chmod_checked s.args.caller 0 t p x) change.new.0 (λ d at. change.ensures ∙ mode_law at x)
 
 same-length-2 : tie.Need-same-length-2
 same-length-2 c = search rules
@@ -42,8 +42,8 @@ returns-2 : tie.Need-returns-2
 returns-2 c t p e q =
     let s = c.before.before.before.before.before.before.before in
     let x = s.args.mode in
-    let decided = c.before.before.before.may-do.ensures t p e q in
-    refused-there e s.args.caller.account (Chmod x) p decided _ (chmod-checked s.args.caller 0 t p x) c.before.cause.given.1
+    let decided = c.before.before.before.may_do.ensures t p e q in
+    refused_there e s.args.caller.account (Chmod x) p decided _ (chmod_checked s.args.caller 0 t p x) c.before.cause.given.1
 
 pub chmod-spec : {M : Type 1} → statement M
 chmod-spec =

@@ -1,9 +1,9 @@
 -- `attributes::changes::chown` meets its contract: refused as the decision is, else the owner of that place is changed.
 use mathlib.Core.Path.{◌∙◌}
-use Rattle.tree.specs.Node.{set-owner}
-use Rattle.node_fields.specs.FieldEditLaws.{owner-law}
+use Rattle.tree.specs.Node.{set_owner}
+use Rattle.node_fields.specs.FieldEditLaws.{owner_law}
 use Rattle.attributes.specs.declared.Deed.TheVariants.{Chown}
-use Rattle.attributes.specs.ChecksLaws.{chown-checked, refused-there, changed-there, row-there}
+use Rattle.attributes.specs.ChecksLaws.{chown_checked, refused_there, changed_there, row_there}
 use borrow.Author.Rules.{rules}
 use Rattle.attributes.proofs.changes.chown.Statement.{statement}
 use Rattle.attributes.proofs.changes.chown.Tie as tie
@@ -17,8 +17,8 @@ enum-known-row c = search rules
 set-owner-requires : tie.Need-set-owner-requires
 set-owner-requires c κs =
     let s = c.before.before.before.before.before.before.before.before in
-    let decided = c.before.before.before.before.may-do.ensures in
-    row-there s.args.path.now s.requires.0 s.requires.1 s.args.caller.account Chown decided c.before.before.row.given.1
+    let decided = c.before.before.before.before.may_do.ensures in
+    row_there s.args.path.now s.requires.0 s.requires.1 s.args.caller.account Chown decided c.before.before.row.given.1
 
 enum-known-cause : tie.Need-enum-known-cause
 enum-known-cause c = search rules
@@ -30,10 +30,10 @@ returns : tie.Need-returns
 returns c t p e q =
     let s = c.before.before.before.before.before.before.before.before.before.before.before in
     let x = s.args.owner in
-    let decided = c.before.before.before.before.before.before.before.may-do.ensures t p e q in
-    let change = c.before.before.set-owner in
-    changed-there e s.args.caller.account Chown p decided c.before.before.before.before.before.row.given.1
-    (set-owner x) (chown-checked s.args.caller 0 t p x) change.new.0 (λ d at. change.ensures ∙ owner-law at x)
+    let decided = c.before.before.before.before.before.before.before.may_do.ensures t p e q in
+    let change = c.before.before.set_owner in
+    changed_there e s.args.caller.account Chown p decided c.before.before.before.before.before.row.given.1
+    (set_owner x) (chown_checked s.args.caller 0 t p x) change.new.0 (λ d at. change.ensures ∙ owner_law at x)
 
 same-length-2 : tie.Need-same-length-2
 same-length-2 c = search rules
@@ -42,8 +42,8 @@ returns-2 : tie.Need-returns-2
 returns-2 c t p e q =
     let s = c.before.before.before.before.before.before.before in
     let x = s.args.owner in
-    let decided = c.before.before.before.may-do.ensures t p e q in
-    refused-there e s.args.caller.account Chown p decided _ (chown-checked s.args.caller 0 t p x) c.before.cause.given.1
+    let decided = c.before.before.before.may_do.ensures t p e q in
+    refused_there e s.args.caller.account Chown p decided _ (chown_checked s.args.caller 0 t p x) c.before.cause.given.1
 
 pub chown-spec : {M : Type 1} → statement M
 chown-spec =

@@ -1,9 +1,9 @@
 -- `attributes::changes::write` meets its contract: refused as the decision is, else the content of that place is changed.
 use mathlib.Core.Path.{◌∙◌}
-use Rattle.tree.specs.Node.{set-content}
-use Rattle.node_fields.specs.FieldEditLaws.{content-law}
+use Rattle.tree.specs.Node.{set_content}
+use Rattle.node_fields.specs.FieldEditLaws.{content_law}
 use Rattle.attributes.specs.declared.Deed.TheVariants.{Write}
-use Rattle.attributes.specs.ChecksLaws.{write_checked, refused-there, changed-there, row-there}
+use Rattle.attributes.specs.ChecksLaws.{write_checked, refused_there, changed_there, row_there}
 use borrow.Author.Rules.{rules}
 use Rattle.attributes.proofs.changes.write.Statement.{statement}
 use Rattle.attributes.proofs.changes.write.Tie as tie
@@ -17,8 +17,8 @@ enum-known-row c = search rules
 set-content-requires : tie.Need-set-content-requires
 set-content-requires c κs =
     let s = c.before.before.before.before.before.before.before.before.before in
-    let decided = c.before.before.before.before.may-do.ensures in
-    (row-there s.args.path.now s.requires.0 s.requires.1.0 s.args.caller.account Write decided c.before.before.row.given.1, s.requires.1.1)
+    let decided = c.before.before.before.before.may_do.ensures in
+    (row_there s.args.path.now s.requires.0 s.requires.1.0 s.args.caller.account Write decided c.before.before.row.given.1, s.requires.1.1)
 
 enum-known-cause : tie.Need-enum-known-cause
 enum-known-cause c = search rules
@@ -30,10 +30,10 @@ returns : tie.Need-returns
 returns c t p e q =
     let s = c.before.before.before.before.before.before.before.before.before.before.before.before in
     let x = s.args.content.now in
-    let decided = c.before.before.before.before.before.before.before.may-do.ensures t p e q in
-    let change = c.before.before.set-content in
-    changed-there e s.args.caller.account Write p decided c.before.before.before.before.before.row.given.1
-    (set-content x) (write_checked s.args.caller 0 t p x) change.new.0 (λ d at. change.ensures ∙ content-law at x s.requires.1.1)
+    let decided = c.before.before.before.before.before.before.before.may_do.ensures t p e q in
+    let change = c.before.before.set_content in
+    changed_there e s.args.caller.account Write p decided c.before.before.before.before.before.row.given.1
+    (set_content x) (write_checked s.args.caller 0 t p x) change.new.0 (λ d at. change.ensures ∙ content_law at x s.requires.1.1)
 
 same-length-2 : tie.Need-same-length-2
 same-length-2 c = search rules
@@ -42,8 +42,8 @@ returns-2 : tie.Need-returns-2
 returns-2 c t p e q =
     let s = c.before.before.before.before.before.before.before.before in
     let x = s.args.content.now in
-    let decided = c.before.before.before.may-do.ensures t p e q in
-    refused-there e s.args.caller.account Write p decided _ (write_checked s.args.caller 0 t p x) c.before.cause.given.1
+    let decided = c.before.before.before.may_do.ensures t p e q in
+    refused_there e s.args.caller.account Write p decided _ (write_checked s.args.caller 0 t p x) c.before.cause.given.1
 
 pub write_spec : {M : Type 1} → statement M
 write_spec =

@@ -61,11 +61,11 @@ returns-3 c = rw c.before.before.deed.given.1 c.test-chmod.ensures
 
 returns-4 : tie.Need-returns-4
 unfolding tests
-returns-4 c = rw (c.before.before.before.deed2.given.1, ← c.before.may-give.ensures) c.judged2.ensures
+returns-4 c = rw (c.before.before.before.deed2.given.1, ← c.before.may_give.ensures) c.judged2.ensures
 
 returns-5 : tie.Need-returns-5
 unfolding tests
-returns-5 c = rw (c.before.before.enum-told3.given.1, ← c.before.is-root.ensures) c.judged3.ensures
+returns-5 c = rw (c.before.before.enum-told3.given.1, ← c.before.is_root.ensures) c.judged3.ensures
 
 returns-6 : tie.Need-returns-6
 returns-6 c = rw c.before.enum-told4.given.1 c.test-enter.ensures

@@ -19,7 +19,7 @@ judged-twice-requires c κs = search rules
 returns : tie.Need-returns
 unfolding tests
 returns c =
-    rw (← c.before.before.before.kind_at.ensures, ← c.before.before.is-directory.ensures, ← c.before.may_at.ensures) c.judged-twice.ensures
+    rw (← c.before.before.before.kind_at.ensures, ← c.before.before.is_directory.ensures, ← c.before.may_at.ensures) c.judged-twice.ensures
 
 pub test-write-spec : {M : Type 1} → statement M
 test-write-spec = tie.close (tie.spec kind-at-requires is-directory-requires may-at-requires judged-twice-requires returns)

@@ -2,8 +2,8 @@
 use native.Mathlib.Omega.{arith}
 use mathlib.Core.Path.{refl, ◌∙◌, ap}
 use lib.ListN.{length}
-use Rattle.tree.specs.RowAtLaws.{row-content-fits}
-use Rattle.attributes.specs.ChecksLaws.{front-written, answers_with}
+use Rattle.tree.specs.RowAtLaws.{row_content_fits}
+use Rattle.attributes.specs.ChecksLaws.{front_written, answers_with}
 use borrow.Author.Rules.{rules}
 use Rattle.attributes.proofs.reading.give_content.Statement.{statement}
 use Rattle.attributes.proofs.reading.give_content.Tie as tie
@@ -14,7 +14,7 @@ content-at-requires c κs = search rules
 write-requires : tie.Need-write-requires
 write-requires c κs =
     let a = c.before.before.before.before.args in
-    let short = row-content-fits a.tree.now a.row in
+    let short = row_content_fits a.tree.now a.row in
     let same = ap length c.before.content-at.ensures in
     (omega arith, omega arith)
 
@@ -25,7 +25,7 @@ returns : tie.Need-returns
 returns c =
     let a = c.before.before.before.before.before.before.before.args in
     let x = c.before.before.before.before.content-at in
-    answers_with a.answer.now x.ensures (refl, c.before.before.write.ensures ∙ front-written a.answer.now x.result.now)
+    answers_with a.answer.now x.ensures (refl, c.before.before.write.ensures ∙ front_written a.answer.now x.result.now)
 
 pub give-content-spec : {M : Type 1} → statement M
 give-content-spec = tie.close (tie.spec content-at-requires write-requires same_length returns)

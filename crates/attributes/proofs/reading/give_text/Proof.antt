@@ -1,6 +1,6 @@
 -- `attributes::reading::give_text` meets its contract: a file's content, or a directory's names.
 use mathlib.Core.Path.{sym, ◌∙◌}
-use Rattle.attributes.specs.ChecksLaws.{file-text, directory-text, answers_with}
+use Rattle.attributes.specs.ChecksLaws.{file_text, directory_text, answers_with}
 use borrow.Author.Rules.{rules}
 use Rattle.attributes.proofs.reading.give_text.Statement.{statement}
 use Rattle.attributes.proofs.reading.give_text.Tie as tie
@@ -27,7 +27,7 @@ returns : tie.Need-returns
 returns c =
     let a = c.before.before.before.before.before.before.before.before.before.args in
     let kind = sym c.before.before.before.before.before.before.kind_at.ensures ∙ c.before.before.before.before.enum_told.given.1 in
-    answers_with a.answer.now (file-text a.tree.now a.row kind) c.before.before.give-content.ensures
+    answers_with a.answer.now (file_text a.tree.now a.row kind) c.before.before.give-content.ensures
 
 same-length-2 : tie.Need-same-length-2
 same-length-2 c = search rules
@@ -36,7 +36,7 @@ returns-2 : tie.Need-returns-2
 returns-2 c =
     let a = c.before.before.before.before.before.before.before.before.before.args in
     let kind = sym c.before.before.before.before.before.before.kind_at.ensures ∙ c.before.before.before.before.enum-told2.given.1 in
-    answers_with a.answer.now (directory-text a.tree.now a.row kind) c.before.before.child-names.ensures
+    answers_with a.answer.now (directory_text a.tree.now a.row kind) c.before.before.child-names.ensures
 
 pub give-text-spec : {M : Type 1} → statement M
 give-text-spec =

@@ -12,7 +12,7 @@ use borrow.Author.Tests.{eqb-true, eqb-false, ne_eqb}
 use lib.ListN.{length, get_or}
 use Rattle.buffers.specs.Cases.{case}
 use Rattle.buffers.specs.Text.{every}
-use Rattle.buffers.specs.Fields.{all-zero, zeros-at}
+use Rattle.buffers.specs.Fields.{all_zero, zeros_at}
 use Rattle.buffers.proofs.fields.is_zero.Statement.{statement}
 use Rattle.buffers.proofs.fields.is_zero.Tie as tie
 
@@ -25,18 +25,18 @@ or-none a b = case (eqb a 0)
     let n : bit_or a b ≡ 0 → ⊥ = λ z. e (omega (arith, or_add_and a b, and_le_r a b)) in
     rw (t, ne_eqb (bit_or a b) 0 n))
 
-zeros-go : (s : List ℕ) (i n : ℕ) → i < length s → zeros-at i (suc n) s ≡ (eqb (get_or s i 0) 0 && zeros-at (suc i) n s)
-unfolding zeros-at all-zero every
+zeros-go : (s : List ℕ) (i n : ℕ) → i < length s → zeros_at i (suc n) s ≡ (eqb (get_or s i 0) 0 && zeros_at (suc i) n s)
+unfolding zeros_at all_zero every
 zeros-go s i n h = rw (drop-cons s i 0 h)
 
-zeros-none : (s : List ℕ) (i : ℕ) → zeros-at i 0 s ≡ true
-unfolding zeros-at all-zero every
+zeros-none : (s : List ℕ) (i : ℕ) → zeros_at i 0 s ≡ true
+unfolding zeros_at all_zero every
 zeros-none s i = refl
 
 record Going (s : List ℕ) (from to all i : ℕ) : Type 0 where
   le : i ≤ to
   from_le : from ≤ i
-  goes : (eqb all 0 && zeros-at i (to - i) s) ≡ zeros-at from (to - from) s
+  goes : (eqb all 0 && zeros_at i (to - i) s) ≡ zeros_at from (to - from) s
 
 module _ (s : List ℕ) (from to : ℕ) where
   begins : from ≤ to → Going s from to 0 from
@@ -45,16 +45,16 @@ module _ (s : List ℕ) (from to : ℕ) where
   one_more : {all i : ℕ} → Going s from to all i → i < to → to ≤ length s → Going s from to (bit_or all (get_or s i 0)) (i + 1)
   one_more {all} {i} g h l =
       let q : to - i ≡ suc (to - (i + 1)) = omega arith in
-      let p : zeros-at i (to - i) s ≡ (eqb (get_or s i 0) 0 && zeros-at (i + 1) (to - (i + 1)) s) =
+      let p : zeros_at i (to - i) s ≡ (eqb (get_or s i 0) 0 && zeros_at (i + 1) (to - (i + 1)) s) =
       rw (q, add-one) (zeros-go s i (to - suc i) (omega arith)) in
       record {
         le = omega arith;
         from_le = omega (arith, g.from_le);
-        goes = rw (or-none all (get_or s i 0), and_assoc (eqb all 0) (eqb (get_or s i 0) 0) (zeros-at (i + 1) (to - (i + 1)) s), ← p) g.goes;
+        goes = rw (or-none all (get_or s i 0), and_assoc (eqb all 0) (eqb (get_or s i 0) 0) (zeros_at (i + 1) (to - (i + 1)) s), ← p) g.goes;
       }
 
-  ends : {all i : ℕ} → Going s from to all i → to ≤ i → eqb all 0 ≡ zeros-at from (to - from) s
-  ends {all} {i} g h = let q : to - i ≡ 0 = omega arith in sym (and-true (eqb all 0)) ∙ ap (λ (b : Bool). eqb all 0 && b) (sym (ap (λ (n : ℕ). zeros-at i n s) q ∙ zeros-none s i)) ∙ g.goes
+  ends : {all i : ℕ} → Going s from to all i → to ≤ i → eqb all 0 ≡ zeros_at from (to - from) s
+  ends {all} {i} g h = let q : to - i ≡ 0 = omega arith in sym (and-true (eqb all 0)) ∙ ap (λ (b : Bool). eqb all 0 && b) (sym (ap (λ (n : ℕ). zeros_at i n s) q ∙ zeros-none s i)) ∙ g.goes
 
 abbrev invariant-loop : tie.invariant-loop
 invariant-loop s from to all₀ i₀ all i = Going s from to all i

@@ -4,7 +4,7 @@ use Prim.Native.Nat.{ℕ, ◌+◌, ◌-◌}
 use native.Mathlib.Omega.{arith}
 use lib.ListN.{take, drop}
 use borrow.Author.Rules.{rules}
-use Rattle.buffers.specs.FieldsLaws.{text-part}
+use Rattle.buffers.specs.FieldsLaws.{text_part}
 use Rattle.buffers.proofs.fields.text.Statement.{statement}
 use Rattle.buffers.proofs.fields.text.Tie as tie
 
@@ -30,7 +30,7 @@ returns c =
     let n = q.text-length.result in
     let e : a.at + n - a.at ≡ n = omega arith in
     ap (λ (m : ℕ). take m (drop a.at a.s.now)) e
-    ∙ text-part a.s.now a.at a.width n q.text-length.ensures.0 q.text-length.ensures.1
+    ∙ text_part a.s.now a.at a.width n q.text-length.ensures.0 q.text-length.ensures.1
 
 pub text-spec : {M : Type 1} → statement M
 text-spec =

@@ -5,7 +5,7 @@ use mathlib.Core.Path.{◌≡◌, sym, ◌∙◌}
 use mathlib.Core.List.{List}
 use lib.ListN.{length, get_or}
 use Rattle.buffers.specs.Fields.{text_at}
-use Rattle.buffers.specs.FieldsLaws.{text-goes-on, text-stops, text-ends}
+use Rattle.buffers.specs.FieldsLaws.{text_goes_on, text_stops, text_ends}
 use Rattle.buffers.proofs.fields.text_length.Statement.{statement}
 use Rattle.buffers.proofs.fields.text_length.Tie as tie
 
@@ -20,21 +20,21 @@ module _ (s : List ℕ) (at width i : ℕ) where
   one_more h l e =
       let w : width - i ≡ suc (width - (i + 1)) = omega arith in
       let q : at + (i + 1) ≡ suc (at + i) = omega arith in
-      let g : _ = text-goes-on s (at + i) (width - (i + 1)) l e in
+      let g : _ = text_goes_on s (at + i) (width - (i + 1)) l e in
       rw (w, q) (omega arith)
 
   -- a zero
   stops : i < width → at + i < length s → get_or s (at + i) 0 ≡ 0 → i + length (text_at (at + i) (width - i) s) ≡ i
   stops h l e =
       let w : width - i ≡ suc (width - (i + 1)) = omega arith in
-      let g : _ = text-stops s (at + i) (width - (i + 1)) l e in
+      let g : _ = text_stops s (at + i) (width - (i + 1)) l e in
       rw w (omega arith)
 
   -- the end of the field
   ends : width ≤ i → i + length (text_at (at + i) (width - i) s) ≡ i
   ends h =
       let w : width - i ≡ 0 = omega arith in
-      let g : _ = text-ends s (at + i) in
+      let g : _ = text_ends s (at + i) in
       rw w (omega arith)
 
 abbrev invariant-loop : tie.invariant-loop

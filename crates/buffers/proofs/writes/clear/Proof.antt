@@ -4,7 +4,7 @@ use Prim.Native.Nat.{◌-◌, ◌≤◌}
 use native.Mathlib.Omega.{arith}
 use lib.ListN.{length, replicate, length-set}
 use lib.Seq.{paste, paste-zero}
-use Rattle.buffers.specs.PasteLaws.{clear-again}
+use Rattle.buffers.specs.PasteLaws.{clear_again}
 use Rattle.buffers.proofs.writes.clear.Statement.{statement}
 use Rattle.buffers.proofs.writes.clear.Tie as tie
 
@@ -34,7 +34,7 @@ loop-again c =
     let l = c.before in
     let a = l.before.args in
     let i = l.loop.invariant in
-    (omega arith, simp length-set i.1, clear-again l.loop.b a.b.now a.at a.n l.loop.i (omega arith) (omega arith) i.2)
+    (omega arith, simp length-set i.1, clear_again l.loop.b a.b.now a.at a.n l.loop.i (omega arith) (omega arith) i.2)
 
 same_length : tie.Need-same-length invariant-loop decreases-loop
 same_length c = omega arith

@@ -6,7 +6,7 @@ use native.Mathlib.Omega.{arith}
 use lib.ListN.{length, take, drop, length-drop}
 use lib.Seq.{paste, take_all}
 use borrow.Author.Rules.{rules}
-use Rattle.buffers.specs.PasteLaws.{held-paste}
+use Rattle.buffers.specs.PasteLaws.{held_paste}
 use Rattle.buffers.proofs.writes.move_by.Statement.{statement}
 use Rattle.buffers.proofs.writes.move_by.Tie as tie
 
@@ -42,7 +42,7 @@ returns c =
     let b = a.b.now in
     let e = l.write.ensures ∙ all-from-there b a.held.now a.from a.n in (
       c.before.before.write2.ensures
-          ∙ held-paste b l.write.new.0 a.held.now (drop a.from b) a.to a.n e (omega (arith, length-drop a.from b)),
+          ∙ held_paste b l.write.new.0 a.held.now (drop a.from b) a.to a.n e (omega (arith, length-drop a.from b)),
       e,
     )
 

@@ -2,7 +2,7 @@
 use mathlib.Core.Path.{◌∙◌}
 use native.Mathlib.Omega.{arith}
 use borrow.Author.Rules.{rules}
-use Rattle.buffers.specs.PasteLaws.{held-paste}
+use Rattle.buffers.specs.PasteLaws.{held_paste}
 use Rattle.buffers.proofs.writes.write_by.Statement.{statement}
 use Rattle.buffers.proofs.writes.write_by.Tie as tie
 
@@ -22,7 +22,7 @@ returns : tie.Need-returns
 returns c =
     let l = c.before.before.before.before.before.before.before in
     let a = l.before.before.before.before.before.args in (
-      c.before.before.write2.ensures ∙ held-paste a.b.now l.write.new.0 a.held.now a.s.now a.at a.n l.write.ensures (omega arith),
+      c.before.before.write2.ensures ∙ held_paste a.b.now l.write.new.0 a.held.now a.s.now a.at a.n l.write.ensures (omega arith),
       l.write.ensures,
     )
 

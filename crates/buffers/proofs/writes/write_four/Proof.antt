@@ -2,7 +2,7 @@
 use native.Mathlib.Omega.{arith}
 use lib.ListN.{length-set}
 use borrow.Author.Rules.{rules}
-use Rattle.buffers.specs.PasteLaws.{four-paste}
+use Rattle.buffers.specs.PasteLaws.{four_paste}
 use Rattle.buffers.proofs.writes.write_four.Statement.{statement}
 use Rattle.buffers.proofs.writes.write_four.Tie as tie
 
@@ -33,7 +33,7 @@ same_length c = search rules
 returns : tie.Need-returns
 returns c =
     let a = c.args in
-    four-paste a.b.now a.at a.v a.w a.x a.y (omega arith)
+    four_paste a.b.now a.at a.v a.w a.x a.y (omega arith)
 
 pub write-four-spec : {M : Type 1} → statement M
 write-four-spec =

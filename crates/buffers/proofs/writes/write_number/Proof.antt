@@ -2,7 +2,7 @@
 use native.Mathlib.Omega.{arith}
 use lib.ListN.{length-set}
 use borrow.Author.Rules.{rules}
-use Rattle.buffers.specs.PasteLaws.{number-paste}
+use Rattle.buffers.specs.PasteLaws.{number_paste}
 use Rattle.buffers.proofs.writes.write_number.Statement.{statement}
 use Rattle.buffers.proofs.writes.write_number.Tie as tie
 
@@ -27,7 +27,7 @@ same_length c = search rules
 returns : tie.Need-returns
 returns c =
     let a = c.args in
-    number-paste a.b.now a.at a.n (omega arith)
+    number_paste a.b.now a.at a.n (omega arith)
 
 pub write-number-spec : {M : Type 1} → statement M
 write-number-spec =

@@ -6,7 +6,7 @@ use native.Mathlib.Omega.{arith}
 use lib.ListN.{length, replicate}
 use lib.Seq.{paste}
 use borrow.Author.Rules.{rules}
-use Rattle.buffers.specs.PasteLaws.{padded-paste}
+use Rattle.buffers.specs.PasteLaws.{padded_paste}
 use Rattle.buffers.proofs.writes.write_padded.Statement.{statement}
 use Rattle.buffers.proofs.writes.write_padded.Tie as tie
 
@@ -34,7 +34,7 @@ returns c =
     let n = length s in
     z.clear.ensures
     ∙ ap (λ (l : List ℕ). paste l (a.at + n) (replicate (a.width - n) 0) (a.width - n)) w.write.ensures
-    ∙ padded-paste a.b.now s a.at a.width (omega arith) (omega arith)
+    ∙ padded_paste a.b.now s a.at a.width (omega arith) (omega arith)
 
 pub write-padded-spec : {M : Type 1} → statement M
 write-padded-spec =

@@ -13,10 +13,10 @@ place-copies-requires c κs =
     (p.0, omega (arith, p.1))
 
 same_length : tie.Need-same-length
-same_length c = c.before.before.before.place-copies.auto.0
+same_length c = c.before.before.before.place_copies.auto.0
 
 returns : tie.Need-returns
-returns c = c.before.before.before.place-copies.ensures.0
+returns c = c.before.before.before.place_copies.ensures.0
 
 pub co-all-spec : {M : Type 1} → statement M
 co-all-spec = tie.close (tie.spec slice-aggregate-place-copies place-copies-requires same_length returns)

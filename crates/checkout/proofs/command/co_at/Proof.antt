@@ -1,14 +1,14 @@
 -- `checkout::command::co_at` meets its contract: the array that is chosen has room for the copies of all rows of the entry.
 use native.Mathlib.Omega.{arith}
-use Rattle.tree.specs.TreeBytesLaws.{at-used, at-end}
+use Rattle.tree.specs.TreeBytesLaws.{at_used, at_end}
 use Rattle.checkout.proofs.command.co_at.Statement.{statement}
 use Rattle.checkout.proofs.command.co_at.Tie as tie
 
 subtree-end-requires : tie.Need-subtree-end-requires
-subtree-end-requires c κs = at-used c.before.before.before.before.requires.found
+subtree-end-requires c κs = at_used c.before.before.before.before.requires.found
 
 sub-n : tie.Need-overflow-sub-n
-sub-n c = omega (arith, c.subtree-end.ensures.0, at-end c.before.before.before.before.before.requires.found)
+sub-n c = omega (arith, c.subtree-end.ensures.0, at_end c.before.before.before.before.before.requires.found)
 
 co-few-requires : tie.Need-co-few-requires
 co-few-requires c κs =
@@ -58,7 +58,7 @@ co-all-requires : tie.Need-co-all-requires
 co-all-requires c κs =
     let e = c.before.before.before.before.before in
     let j = e.before.before.before.before.before.requires in
-    (j, omega (arith, e.subtree-end.ensures.0, e.subtree-end.ensures.1, j.found.tree.sized.few-rows))
+    (j, omega (arith, e.subtree-end.ensures.0, e.subtree-end.ensures.1, j.found.tree.sized.few_rows))
 
 same-length-5 : tie.Need-same-length-5
 same-length-5 c = c.before.before.co-all.auto.0

@@ -2,8 +2,8 @@
 use mathlib.Core.Path.{sym, ◌∙◌}
 use borrow.Author.Rules.{rules}
 use Rattle.line_fields.specs.FieldsRead.{given}
-use Rattle.commands.specs.Parsed.{command-from}
-use Rattle.commands.specs.ParsedLaws.{finds-none, wrong-arguments, typed-read, right-arguments}
+use Rattle.commands.specs.Parsed.{command_from}
+use Rattle.commands.specs.ParsedLaws.{finds_none, wrong_arguments, typed_read, right_arguments}
 use Rattle.commands.proofs.parser.with_arguments.Statement.{statement}
 use Rattle.commands.proofs.parser.with_arguments.Tie as tie
 
@@ -13,8 +13,8 @@ returns c =
     let a = x.before.before.args in
     let i = x.before.before.requires in
     let t = a.line.now in (
-      finds-none t a.caller (command-from a.word (given t a.f))
-          (wrong-arguments t a.caller a.f a.word i.1.0 i.1.1 (sym c.enum_told.given.1 ∙ x.numbers-at.ensures)),
+      finds_none t a.caller (command_from a.word (given t a.f))
+          (wrong_arguments t a.caller a.f a.word i.1.0 i.1.1 (sym c.enum_told.given.1 ∙ x.numbers-at.ensures)),
       tt,
     )
 
@@ -25,8 +25,8 @@ returns-2 c =
     let i = x.before.before.requires in
     let n = c.before.first.given in
     let h = sym n.1 ∙ x.numbers-at.ensures in (
-      right-arguments a.line.now a.caller a.f a.word i.1.0 i.1.1 n.0.0 n.0.1.0 n.0.1.1.0 i.0 h,
-      typed-read a.line.now a.caller a.f a.word i.1.0 i.1.1 n.0.0 n.0.1.0 n.0.1.1.0 i.0 h,
+      right_arguments a.line.now a.caller a.f a.word i.1.0 i.1.1 n.0.0 n.0.1.0 n.0.1.1.0 i.0 h,
+      typed_read a.line.now a.caller a.f a.word i.1.0 i.1.1 n.0.0 n.0.1.0 n.0.1.1.0 i.0 h,
     )
 
 pub with-arguments-spec : {M : Type 1} → statement M

@@ -3,23 +3,23 @@ use mathlib.Core.Path.{sym, ap, ◌∙◌}
 use borrow.Author.Rules.{rules}
 use borrow.Author.Tests.{eq-eqb, ne_eqb}
 use Rattle.syntax.specs.Parts.{number_of}
-use Rattle.commands.specs.Parsed.{numbers_of, numbers-in}
+use Rattle.commands.specs.Parsed.{numbers_of, numbers_in}
 use Rattle.commands.proofs.shapes.numbers_at.Statement.{statement}
 use Rattle.commands.proofs.shapes.numbers_at.Tie as tie
 
 returns : tie.Need-returns
-unfolding numbers-in
+unfolding numbers_in
 returns c = rw (ne_eqb _ _ c.if1.true)
 
 returns-2 : tie.Need-returns-2
-unfolding numbers-in numbers_of number_of
+unfolding numbers_in numbers_of number_of
 returns-2 c =
     let x = c.before.before.before in
     let e = ap number_of (sym c.enum_told.given.1) ∙ c.before.before.argument-at.ensures in
     rw (eq-eqb _ _ x.if1.false, ← e)
 
 returns-3 : tie.Need-returns-3
-unfolding numbers-in numbers_of number_of
+unfolding numbers_in numbers_of number_of
 returns-3 c =
     let x1 = c.before.before.before.before in
     let x = x1.before.before.before in
@@ -28,7 +28,7 @@ returns-3 c =
     rw (eq-eqb _ _ x.if1.false, ← n, ← e)
 
 returns-4 : tie.Need-returns-4
-unfolding numbers-in numbers_of number_of
+unfolding numbers_in numbers_of number_of
 returns-4 c =
     let x2 = c.before.before.before.before in
     let x1 = x2.before.before.before.before in
@@ -39,7 +39,7 @@ returns-4 c =
     rw (eq-eqb _ _ x.if1.false, ← n, ← m, ← e)
 
 returns-5 : tie.Need-returns-5
-unfolding numbers-in numbers_of number_of
+unfolding numbers_in numbers_of number_of
 returns-5 c =
     let x3 = c.before in
     let x2 = x3.before.before.before.before in

@@ -1,6 +1,6 @@
 -- `commands::words::form_at` meets its contract: what it calls finds the form of the part.
 use borrow.Author.Rules.{rules}
-use Rattle.syntax.specs.Parts.{span-text, part}
+use Rattle.syntax.specs.Parts.{span_text, part}
 use Rattle.commands.proofs.words.form_at.Statement.{statement}
 use Rattle.commands.proofs.words.form_at.Tie as tie
 
@@ -17,7 +17,7 @@ form-of-requires : tie.Need-form-of-requires
 form-of-requires c κs = search rules
 
 returns : tie.Need-returns
-unfolding span-text part
+unfolding span_text part
 returns c = c.form_of.ensures
 
 pub form-at-spec : {M : Type 1} → statement M

@@ -1,14 +1,14 @@
 -- `commands::words::form_of` meets its contract: each line adds its word to the shell's and those before.
 use borrow.Author.Rules.{rules}
 use Rattle.syntax.specs.Pieces.{bytes}
-use Rattle.commands.specs.Command.{takes, listed, other-words, words}
+use Rattle.commands.specs.Command.{takes, listed, other_words, words}
 use Rattle.commands.specs.Words.{form_of}
-use Rattle.commands.specs.WordsLaws.{shell-words-gone, ◌and◌, all_words}
+use Rattle.commands.specs.WordsLaws.{shell_words_gone, ◌and◌, all_words}
 use Rattle.commands.proofs.words.form_of.Statement.{statement}
 use Rattle.commands.proofs.words.form_of.Tie as tie
 
 returns : tie.Need-returns
-unfolding words listed takes bytes other-words form_of
+unfolding words listed takes bytes other_words form_of
 returns c =
     let c7 = c.before.before in
     let c6 = c7.before.before in
@@ -19,7 +19,7 @@ returns c =
     let c1 = c2.before.before in
     let c0 = c1.before.before in
     all_words
-    (shell-words-gone c0.before.before.args.t.now c0.shell-form.result c0.shell-form.ensures
+    (shell_words_gone c0.before.before.args.t.now c0.shell-form.result c0.shell-form.ensures
     and c1.two.ensures
     and c2.no.ensures
     and c3.one.ensures

@@ -1,13 +1,13 @@
 -- `commands::words::shell_form` meets its contract: each line adds its word to those that were looked for.
 use borrow.Author.Rules.{rules}
 use Rattle.syntax.specs.Pieces.{bytes}
-use Rattle.commands.specs.Command.{takes, listed, shell-words}
+use Rattle.commands.specs.Command.{takes, listed, shell_words}
 use Rattle.commands.specs.WordsLaws.{start, ◌and◌, all_words}
 use Rattle.commands.proofs.words.shell_form.Statement.{statement}
 use Rattle.commands.proofs.words.shell_form.Tie as tie
 
 returns : tie.Need-returns
-unfolding shell-words listed takes bytes
+unfolding shell_words listed takes bytes
 returns c =
     let c9 = c.before.before in
     let c8 = c9.before.before in
@@ -19,7 +19,7 @@ returns c =
     let c2 = c3.before.before in
     let c1 = c2.before.before in
     all_words
-    (start shell-words c1.before.before.before.args.t.now
+    (start shell_words c1.before.before.before.args.t.now
     and c1.two.ensures
     and c2.two2.ensures
     and c3.one.ensures

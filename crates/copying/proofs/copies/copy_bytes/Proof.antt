@@ -5,8 +5,8 @@ use Prim.Native.Nat.{ℕ, ◌-◌}
 use native.Mathlib.Omega.{arith}
 use lib.ListN.{length, drop, length-drop}
 use lib.Seq.{paste, take_all}
-use Rattle.tree.specs.Layout.{row-width, row-start}
-use Rattle.copying.specs.CopyBytesLaws.{bytes-copied}
+use Rattle.tree.specs.Layout.{row_width, row_start}
+use Rattle.copying.specs.CopyBytesLaws.{bytes_copied}
 use borrow.Author.Rules.{rules}
 use Rattle.copying.proofs.copies.copy_bytes.Statement.{statement}
 use Rattle.copying.proofs.copies.copy_bytes.Tie as tie
@@ -43,10 +43,10 @@ returns c =
     let s = c.before.before.before.before.before.before.before in
     let a = s.args in
     let T = a.tree.now in
-    let k = row-start a.at in
+    let k = row_start a.at in
     c.before.before.write-many.ensures
-    ∙ ap (λ (l : List ℕ). paste a.out.now (row-start a.to) l row-width) (take_all (length T - k) (drop k T) (omega (arith, length-drop k T)))
-    ∙ bytes-copied T a.at s.requires.0 a.out.now a.to
+    ∙ ap (λ (l : List ℕ). paste a.out.now (row_start a.to) l row_width) (take_all (length T - k) (drop k T) (omega (arith, length-drop k T)))
+    ∙ bytes_copied T a.at s.requires.0 a.out.now a.to
 
 pub copy-bytes-spec : {M : Type 1} → statement M
 copy-bytes-spec =

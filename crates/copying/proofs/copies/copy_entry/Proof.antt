@@ -1,6 +1,6 @@
 -- `copying::copies::copy_entry` meets its contract: the entry's own row, then its children below it.
 use mathlib.Core.Path.{◌∙◌}
-use Rattle.copying.specs.CopyEntryLaws.{entry_first, entry-children, entry-written}
+use Rattle.copying.specs.CopyEntryLaws.{entry_first, entry_children, entry_written}
 use Rattle.copying.proofs.copies.copy_entry.Statement.{statement}
 use Rattle.copying.proofs.copies.copy_entry.Tie as tie
 
@@ -15,10 +15,10 @@ copy-children-requires c κs =
     let a = s.args in
     let p = s.requires in
     let f = c.before.before.before.copy-first in
-    entry-children p.0 a.out.now f.new.1.1.1.1.1.1.1.0 a.depth a.name.now p.1.0 p.1.1.0 p.1.1.1 (f.ensures p.0)
+    entry_children p.0 a.out.now f.new.1.1.1.1.1.1.1.0 a.depth a.name.now p.1.0 p.1.1.0 p.1.1.1 (f.ensures p.0)
 
 same_length : tie.Need-same-length
-same_length c = c.before.before.copy-children.auto.1.1.1.1.0 ∙ c.before.before.before.before.before.before.copy-first.auto.1.1.1.1.1.1.1.0
+same_length c = c.before.before.copy_children.auto.1.1.1.1.0 ∙ c.before.before.before.before.before.before.copy-first.auto.1.1.1.1.1.1.1.0
 
 returns : tie.Need-returns
 returns c = λ j.
@@ -26,11 +26,11 @@ returns c = λ j.
     let a = s.args in
     let p = s.requires in
     let f = c.before.before.before.before.before.before.copy-first in
-    let m = c.before.before.copy-children in
+    let m = c.before.before.copy_children in
     let z = f.new.1.1.1.1.1.1.1.0 in
     let is = f.ensures j in
-    entry-written j a.out.now z a.depth a.name.now p.1.0 p.1.1.0 p.1.1.1 is
-    (m.ensures (entry-children j a.out.now z a.depth a.name.now p.1.0 p.1.1.0 p.1.1.1 is))
+    entry_written j a.out.now z a.depth a.name.now p.1.0 p.1.1.0 p.1.1.1 is
+    (m.ensures (entry_children j a.out.now z a.depth a.name.now p.1.0 p.1.1.0 p.1.1.1 is))
 
 pub copy-entry-spec : {M : Type 1} → statement M
 copy-entry-spec =

@@ -4,8 +4,8 @@ use Prim.Native.Nat.{ℕ, suc}
 use native.Mathlib.Omega.{arith}
 use native.Mathlib.Numerals.{add-one}
 use Rattle.tree.specs.RowAt.{row_at}
-use Rattle.copying.specs.CopyRows.{row_put, child-entry, tagged-row}
-use Rattle.copying.specs.CopyBytesLaws.{tag-room, child-copied}
+use Rattle.copying.specs.CopyRows.{row_put, child_entry, tagged_row}
+use Rattle.copying.specs.CopyBytesLaws.{tag_room, child_copied}
 use borrow.Author.Rules.{rules}
 use Rattle.copying.proofs.copies.copy_row.Statement.{statement}
 use Rattle.copying.proofs.copies.copy_row.Tie as tie
@@ -35,7 +35,7 @@ set-tag-below-requires c κs =
       record { room = omega (arith, u.hand-over.auto.1.1.1.1.0, p.1.0.room) },
       (
         p.1.1.0,
-        tag-room a.tree.now a.out.now u.hand-over.new.1.1.1.1.0 a.at a.above a.to _ n.name-at.result.now p.1.0 p.1.1.0 u.hand-over.ensures p.1.1.1.1 n.name-at.ensures,
+        tag_room a.tree.now a.out.now u.hand-over.new.1.1.1.1.0 a.at a.above a.to _ n.name-at.result.now p.1.0 p.1.1.0 u.hand-over.ensures p.1.1.1.1 n.name-at.ensures,
       ),
     )
 
@@ -54,9 +54,9 @@ returns c = λ g.
     let p = s.requires in
     let r = row_at a.tree.now a.at in
     let group = a.who.caller.primary in
-    child-copied a.tree.now a.at p.0 a.out.now a.to p.1.0 a.who _ group u.hand-over.new.1.1.1.1.0 u.hand-over.ensures
+    child_copied a.tree.now a.at p.0 a.out.now a.to p.1.0 a.who _ group u.hand-over.new.1.1.1.1.0 u.hand-over.ensures
     t.set-tag-below.new.0 a.above v.revision-at.result n.name-at.result.now g.entry n.name-at.ensures v.revision-at.ensures g.spells p.1.1.0 g.valid t.set-tag-below.ensures
-    ∙ ap (λ (k : ℕ). row_put a.out.now a.to (tagged-row a.who k r.name group (child-entry g.entry r.name) r.here)) (add-one d.depth-at.result ∙ ap suc d.depth-at.ensures)
+    ∙ ap (λ (k : ℕ). row_put a.out.now a.to (tagged_row a.who k r.name group (child_entry g.entry r.name) r.here)) (add-one d.depth-at.result ∙ ap suc d.depth-at.ensures)
 
 pub copy-row-spec : {M : Type 1} → statement M
 copy-row-spec =

@@ -1,6 +1,6 @@
 -- `copying::copies::hand_over` meets its contract: the row of the original, and its head written over.
 use mathlib.Core.Path.{refl}
-use Rattle.copying.specs.CopyBytesLaws.{head-copied}
+use Rattle.copying.specs.CopyBytesLaws.{head_copied}
 use borrow.Author.Rules.{rules}
 use Rattle.copying.proofs.copies.hand_over.Statement.{statement}
 use Rattle.copying.proofs.copies.hand_over.Tie as tie
@@ -34,9 +34,9 @@ returns c =
     let b = k.before.before.before in
     let s = c.before.before.before.before.before.before.before.before.before.before.before.before in
     let a = s.args in
-    head-copied a.tree.now a.at s.requires.0 a.out.now a.to s.requires.1 b.copy-bytes.new.1.1.0 w.write-head.new.0 a.depth
-    (record { kind = k.kind_at.result; owner = a.owner; group = a.group; mode = m.copy-mode.result; revision = 0 })
-    k.kind_at.ensures m.copy-mode.ensures refl b.copy-bytes.ensures w.write-head.ensures
+    head_copied a.tree.now a.at s.requires.0 a.out.now a.to s.requires.1 b.copy-bytes.new.1.1.0 w.write-head.new.0 a.depth
+    (record { kind = k.kind_at.result; owner = a.owner; group = a.group; mode = m.copy_mode.result; revision = 0 })
+    k.kind_at.ensures m.copy_mode.ensures refl b.copy-bytes.ensures w.write-head.ensures
 
 pub hand-over-spec : {M : Type 1} → statement M
 hand-over-spec =

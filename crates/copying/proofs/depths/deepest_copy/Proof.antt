@@ -5,15 +5,15 @@ use Prim.Native.Nat.{ℕ, ◌≤◌, ◌+◌, ◌-◌}
 use native.Mathlib.Omega.{arith}
 use native.Mathlib.Nat.{sub-zero}
 use Rattle.tree.specs.Forest.{larger}
-use Rattle.copying.specs.CopyRows.{deepest-from}
-use Rattle.copying.specs.DepthLaws.{deepest-again, deepest-done}
+use Rattle.copying.specs.CopyRows.{deepest_from}
+use Rattle.copying.specs.DepthLaws.{deepest_again, deepest_done}
 use borrow.Author.Rules.{rules}
 use Rattle.copying.proofs.depths.deepest_copy.Statement.{statement}
 use Rattle.copying.proofs.depths.deepest_copy.Tie as tie
 
 record Going (out : List ℕ) (n most i : ℕ) : Type 0 where
   le : i ≤ n
-  goes : deepest-from out most i (n - i) ≡ deepest-from out 0 0 n
+  goes : deepest_from out most i (n - i) ≡ deepest_from out 0 0 n
 
 abbrev invariant-loop : tie.invariant-loop
 invariant-loop out n most₀ i₀ most i = Going out n most i
@@ -44,14 +44,14 @@ loop-again c =
     let e = c.larger-of.ensures ∙ ap (larger l.most) c.before.depth-at.ensures in
     record {
       le = omega arith;
-      goes = ap (λ (m : ℕ). deepest-from b m (l.i + 1) (n - (l.i + 1))) e ∙ deepest-again b l.most l.i n (omega arith) ∙ l.invariant.goes;
+      goes = ap (λ (m : ℕ). deepest_from b m (l.i + 1) (n - (l.i + 1))) e ∙ deepest_again b l.most l.i n (omega arith) ∙ l.invariant.goes;
     }
 
 returns : tie.Need-returns invariant-loop decreases-loop
 returns c =
     let l = c.before.loop in
     let s = c.before.before.before.args in
-    deepest-done s.out.now l.most l.i s.n (omega arith) ∙ l.invariant.goes
+    deepest_done s.out.now l.most l.i s.n (omega arith) ∙ l.invariant.goes
 
 pub deepest-copy-spec : {M : Type 1} → statement M
 deepest-copy-spec =

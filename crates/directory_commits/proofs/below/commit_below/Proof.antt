@@ -3,15 +3,15 @@ use mathlib.Core.Path.{◌≡◌, refl}
 use Prim.Native.Nat.{◌-◌}
 use native.Mathlib.Omega.{arith}
 use Rattle.accounts.specs.declared.Caller.{Caller}
-use Rattle.directory_commits.specs.Steps.{Stepped-in}
-use Rattle.directory_commits.specs.Commits.{Directory-row}
-use Rattle.directory_commits.specs.BelowLaws.{Going, begins, turn-place, goes_on, rises, same-wide, comes-to-all, row_in}
+use Rattle.directory_commits.specs.Steps.{SteppedIn}
+use Rattle.directory_commits.specs.Commits.{DirectoryRow}
+use Rattle.directory_commits.specs.BelowLaws.{Going, begins, turn_place, goes_on, rises, same_wide, comes_to_all, row_in}
 use Rattle.directory_commits.proofs.below.commit_below.Statement.{statement}
 use Rattle.directory_commits.proofs.below.commit_below.Tie as tie
 
 -- for every directory that the row may be, of the caller whose account the person's is
 abbrev invariant-loop : tie.invariant-loop
-invariant-loop store₀ account row person end at₀ count₀ store at count = (c : Caller) → person ≡ c.account → (x : Directory-row store₀ c account row) → Going x store end at count
+invariant-loop store₀ account row person end at₀ count₀ store at count = (c : Caller) → person ≡ c.account → (x : DirectoryRow store₀ c account row) → Going x store end at count
 
 abbrev decreases-loop : tie.decreases-loop
 decreases-loop store₀ account row person end at₀ count₀ store at count = end - at
@@ -32,7 +32,7 @@ loop-holds c k e x = begins x _ _ (c.end-in.ensures _ _ _ (row_in x.at)) refl
 step-in-requires : tie.Need-step-in-requires invariant-loop decreases-loop
 step-in-requires c κs =
     let p = c.before.before.before.before.before.before.before in
-    turn-place p.requires (c.before.before.loop.invariant p.args.caller refl p.requires) (omega arith)
+    turn_place p.requires (c.before.before.loop.invariant p.args.caller refl p.requires) (omega arith)
 
 committed-requires : tie.Need-committed-requires invariant-loop decreases-loop
 committed-requires c κs = tt
@@ -56,18 +56,18 @@ loop-again c k e x =
     let p = c.before.before.before.before.before.before.before.before.before.before.before in
     let l = c.before.before.before.before.before.before.loop in
     let s = c.before.before.before.step_in in
-    let f : Stepped-in k.account p.args.account l.store l.at s.result s.new.0 = rw e at s.ensures in
+    let f : SteppedIn k.account p.args.account l.store l.at s.result s.new.0 = rw e at s.ensures in
     rw c.committed.ensures.0 (goes_on x (l.invariant k e x) s.result s.new.0 f (omega arith))
 
 same_length : tie.Need-same-length invariant-loop decreases-loop
 same_length c =
     let p = c.before.before.before.before.before.before in
-    same-wide p.requires (c.before.loop.invariant p.args.caller refl p.requires)
+    same_wide p.requires (c.before.loop.invariant p.args.caller refl p.requires)
 
 returns : tie.Need-returns invariant-loop decreases-loop
 returns c x =
     let p = c.before.before.before.before.before.before in
-    comes-to-all x (c.before.loop.invariant p.args.caller refl x) (omega arith)
+    comes_to_all x (c.before.loop.invariant p.args.caller refl x) (omega arith)
 
 pub commit-below-spec : {M : Type 1} → statement M
 commit-below-spec =

@@ -1,14 +1,14 @@
 -- `directory_commits::below::step_in` meets its contract: the tree is lent, and the header stays before what is left of it.
-use Rattle.directory_commits.specs.StepsLaws.{place-long, lent_at, stepped-in}
+use Rattle.directory_commits.specs.StepsLaws.{place_long, lent_at, stepped_in}
 use borrow.Author.Rules.{rules}
 use Rattle.directory_commits.proofs.below.step_in.Statement.{statement}
 use Rattle.directory_commits.proofs.below.step_in.Tie as tie
 
 sub-commit-step : tie.Need-overflow-sub-commit-step
-sub-commit-step c = place-long c.before.requires
+sub-commit-step c = place_long c.before.requires
 
 part-commit-step-start : tie.Need-slice-bounds-commit-step-start
-part-commit-step-start c = let l = place-long c.before.requires in search rules
+part-commit-step-start c = let l = place_long c.before.requires in search rules
 
 part-commit-step-end : tie.Need-slice-bounds-commit-step-end
 part-commit-step-end c = search rules
@@ -22,7 +22,7 @@ same_length c = search rules
 returns : tie.Need-returns
 returns c s p d h =
     let a = c.before.before.before.before.before.args in
-    stepped-in a.person a.account h (c.before.before.commit-step.ensures s.store.tree p d (lent_at h))
+    stepped_in a.person a.account h (c.before.before.commit-step.ensures s.store.tree p d (lent_at h))
 
 pub step-in-spec : {M : Type 1} → statement M
 step-in-spec =

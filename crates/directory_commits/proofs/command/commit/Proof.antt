@@ -1,6 +1,6 @@
 -- `directory_commits::command::commit` meets its contract: what was found at the path decides, and each case is the command from there on.
 use borrow.Author.Rules.{rules}
-use Rattle.directory_commits.specs.CommandLaws.{commit-refused, file-row, file-commits, directory-of, directory-commits}
+use Rattle.directory_commits.specs.CommandLaws.{commit_refused, file_row, file_commits, directory_of, directory_commits}
 use Rattle.directory_commits.proofs.command.commit.Statement.{statement}
 use Rattle.directory_commits.proofs.command.commit.Tie as tie
 
@@ -15,7 +15,7 @@ commit-file-requires c κs =
     let p = c.before.before.before.before.before.before.before.before.before in
     let j = p.requires.0 in
     let w = p.requires.1.0 in
-    file-row j.0 j.1 w.0 (c.before.before.before.before.found_in.ensures _ w.0 j.1 w.1) c.before.before.row.given.1
+    file_row j.0 j.1 w.0 (c.before.before.before.before.found_in.ensures _ w.0 j.1 w.1) c.before.before.row.given.1
 
 enum-known-row-2 : tie.Need-enum-known-row-2
 enum-known-row-2 c = search rules
@@ -25,7 +25,7 @@ commit-directory-requires c κs =
     let p = c.before.before.before.before.before.before.before.before.before.before in
     let j = p.requires.0 in
     let w = p.requires.1.0 in
-    (directory-of j.0 j.1 w.0 (c.before.before.before.before.before.found_in.ensures _ w.0 j.1 w.1) c.before.before.before.row2.given.1, p.requires.1.1)
+    (directory_of j.0 j.1 w.0 (c.before.before.before.before.before.found_in.ensures _ w.0 j.1 w.1) c.before.before.before.row2.given.1, p.requires.1.1)
 
 enum-known-cause : tie.Need-enum-known-cause
 enum-known-cause c = search rules
@@ -35,8 +35,8 @@ same_length c = search rules
 
 returns : tie.Need-returns
 returns c w e j h =
-    file-commits j h w (c.before.before.before.before.before.before.before.found_in.ensures _ w h e) c.before.before.before.before.before.row.given.1
-    c.before.before.commit-file.ensures c.before.before.before.before.before.before.before.before.before.before.before.before.args.answer.now
+    file_commits j h w (c.before.before.before.before.before.before.before.found_in.ensures _ w h e) c.before.before.before.before.before.row.given.1
+    c.before.before.commit_file.ensures c.before.before.before.before.before.before.before.before.before.before.before.before.args.answer.now
 
 same-length-2 : tie.Need-same-length-2
 same-length-2 c = search rules
@@ -46,14 +46,14 @@ same-length-3 c = search rules
 
 returns-2 : tie.Need-returns-2
 returns-2 c w e j h =
-    directory-commits j h w (c.before.before.before.before.before.before.before.before.before.before.found_in.ensures _ w h e) c.before.before.before.before.before.before.before.before.row2.given.1 c.before.before.before.before.commit-directory.ensures
+    directory_commits j h w (c.before.before.before.before.before.before.before.before.before.before.found_in.ensures _ w h e) c.before.before.before.before.before.before.before.before.row2.given.1 c.before.before.before.before.commit_directory.ensures
 
 same-length-4 : tie.Need-same-length-4
 same-length-4 c = search rules
 
 returns-3 : tie.Need-returns-3
 returns-3 c w e j h =
-    commit-refused j h w (c.before.before.before.found_in.ensures _ w h e) c.before.cause.given.1 c.before.before.before.before.before.before.before.before.args.answer.now
+    commit_refused j h w (c.before.before.before.found_in.ensures _ w h e) c.before.cause.given.1 c.before.before.before.before.before.before.before.before.args.answer.now
 
 pub commit-spec : {M : Type 1} → statement M
 commit-spec =

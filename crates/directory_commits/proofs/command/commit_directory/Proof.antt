@@ -1,7 +1,7 @@
 -- `directory_commits::command::commit_directory` meets its contract: the number of the files committed is written over the answer.
 use native.Mathlib.Omega.{arith}
 use borrow.Author.Rules.{rules}
-use Rattle.directory_commits.specs.CommandLaws.{number_fits, directory-carries}
+use Rattle.directory_commits.specs.CommandLaws.{number_fits, directory_carries}
 use Rattle.directory_commits.proofs.command.commit_directory.Statement.{statement}
 use Rattle.directory_commits.proofs.command.commit_directory.Tie as tie
 
@@ -20,7 +20,7 @@ same-length-2 : tie.Need-same-length-2
 same-length-2 c = search rules
 
 returns : tie.Need-returns
-returns c x = directory-carries x (c.before.before.before.before.before.before.commit-below.ensures x) c.before.before.write-decimal.ensures
+returns c x = directory_carries x (c.before.before.before.before.before.before.commit-below.ensures x) c.before.before.write-decimal.ensures
 
 pub commit-directory-spec : {M : Type 1} → statement M
 commit-directory-spec =

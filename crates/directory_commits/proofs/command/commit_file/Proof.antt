@@ -1,8 +1,8 @@
 -- `directory_commits::command::commit_file` meets its contract: the step at the row commits the file, and the answer is what it links.
 use borrow.Author.Rules.{rules}
-use Rattle.entries.specs.EntrySteps.{links-answer}
+use Rattle.entries.specs.EntrySteps.{links_answer}
 use Rattle.directory_commits.specs.BelowLaws.{row_in}
-use Rattle.directory_commits.specs.CommandLaws.{file-carries}
+use Rattle.directory_commits.specs.CommandLaws.{file_carries}
 use Rattle.directory_commits.proofs.command.commit_file.Statement.{statement}
 use Rattle.directory_commits.proofs.command.commit_file.Tie as tie
 
@@ -19,18 +19,18 @@ same_length : tie.Need-same-length
 same_length c = search rules
 
 returns : tie.Need-returns
-unfolding links-answer
+unfolding links_answer
 returns c x a =
-    let f = file-carries x (c.before.before.before.before.step_in.ensures _ _ _ (row_in x)) a in
+    let f = file_carries x (c.before.before.before.before.step_in.ensures _ _ _ (row_in x)) a in
     rw c.enum_told.given.1 at f
 
 same-length-2 : tie.Need-same-length-2
 same-length-2 c = search rules
 
 returns-2 : tie.Need-returns-2
-unfolding links-answer
+unfolding links_answer
 returns-2 c x a =
-    let f = file-carries x (c.before.before.before.before.before.step_in.ensures _ _ _ (row_in x)) a in
+    let f = file_carries x (c.before.before.before.before.before.step_in.ensures _ _ _ (row_in x)) a in
     rw c.before.filed.given.1 at f
 
 pub commit-file-spec : {M : Type 1} → statement M

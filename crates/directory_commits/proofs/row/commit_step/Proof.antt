@@ -14,8 +14,8 @@ same_length c = search rules
 
 returns : tie.Need-returns
 returns c t p d at = record {
-  next = c.before.before.before.before.row-after.ensures t p d at;
-  filed = c.before.before.commit-at.ensures t p d at;
+  next = c.before.before.before.before.row_after.ensures t p d at;
+  filed = c.before.before.commit_at.ensures t p d at;
 }
 
 pub commit-step-spec : {M : Type 1} → statement M

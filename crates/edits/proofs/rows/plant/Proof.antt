@@ -5,10 +5,10 @@ use Prim.Native.Nat.{ℕ}
 use native.Mathlib.Omega.{arith}
 use lib.Seq.{paste}
 use Rattle.buffers.specs.Fields.{two_bytes}
-use Rattle.tree.specs.Layout.{row-width}
-use Rattle.tree.specs.Encoding.{row-bytes}
-use Rattle.edits.specs.Changes.{fresh-node}
-use Rattle.edits.specs.WrittenLaws.{planted-tree}
+use Rattle.tree.specs.Layout.{row_width}
+use Rattle.tree.specs.Encoding.{row_bytes}
+use Rattle.edits.specs.Changes.{fresh_node}
+use Rattle.edits.specs.WrittenLaws.{planted_tree}
 use borrow.Author.Rules.{rules}
 use Rattle.edits.proofs.rows.plant.Statement.{statement}
 use Rattle.edits.proofs.rows.plant.Tie as tie
@@ -34,11 +34,11 @@ returns c =
     let n = w.before.before.before.before.before in
     let z = n.before.before.before.before in
     let a = c.before.before.before.before.before.before.before.before.before.before.before.before.before.before.args in
-    let r = row-bytes (record { depth = 0; name = []; here = fresh-node a.top }) in
+    let r = row_bytes (record { depth = 0; name = []; here = fresh_node a.top }) in
     w.write-row.ensures
-    ∙ ap (λ (l : List ℕ). paste l 2 r row-width) n.write-number.ensures
-    ∙ ap (λ (l : List ℕ). paste (paste l 0 (two_bytes 1) 2) 2 r row-width) z.clear.ensures
-    ∙ planted-tree a.tree.now a.top (omega arith)
+    ∙ ap (λ (l : List ℕ). paste l 2 r row_width) n.write-number.ensures
+    ∙ ap (λ (l : List ℕ). paste (paste l 0 (two_bytes 1) 2) 2 r row_width) z.clear.ensures
+    ∙ planted_tree a.tree.now a.top (omega arith)
 
 pub plant-spec : {M : Type 1} → statement M
 plant-spec =

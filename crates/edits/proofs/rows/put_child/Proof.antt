@@ -5,9 +5,9 @@ use Prim.Native.Nat.{ℕ, ◌+◌}
 use native.Mathlib.Omega.{arith}
 use lib.Seq.{paste}
 use Rattle.buffers.specs.Fields.{two_bytes}
-use Rattle.tree.specs.Layout.{row-width, row-start}
-use Rattle.tree.specs.Encoding.{row-bytes}
-use Rattle.edits.specs.Changes.{fresh-node}
+use Rattle.tree.specs.Layout.{row_width, row_start}
+use Rattle.tree.specs.Encoding.{row_bytes}
+use Rattle.edits.specs.Changes.{fresh_node}
 use Rattle.edits.specs.WrittenLaws.{put_written}
 use borrow.Author.Rules.{rules}
 use Rattle.edits.proofs.rows.put_child.Statement.{statement}
@@ -57,10 +57,10 @@ returns c =
     let k = m.before.before.count in
     let s = c.before.before.before.before.before.before.before.before.before.before.before.before.before.before.before.before in
     let a = s.args in
-    let r = row-bytes (record { depth = a.depth; name = a.name.now; here = fresh-node a.node }) in
+    let r = row_bytes (record { depth = a.depth; name = a.name.now; here = fresh_node a.node }) in
     n.write-number.ensures
     ∙ ap (λ (l : List ℕ). paste l 0 (two_bytes (k.result + 1)) 2) w.write-row.ensures
-    ∙ ap (λ (l : List ℕ). paste (paste l (row-start a.at) r row-width) 0 (two_bytes (k.result + 1)) 2) m.move-bytes.ensures
+    ∙ ap (λ (l : List ℕ). paste (paste l (row_start a.at) r row_width) 0 (two_bytes (k.result + 1)) 2) m.move-bytes.ensures
     ∙ put_written a.tree.now r a.at 1 k.result (omega arith) k.ensures (omega arith) (omega arith)
 
 pub put-child-spec : {M : Type 1} → statement M

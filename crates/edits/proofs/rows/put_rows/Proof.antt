@@ -5,7 +5,7 @@ use Prim.Native.Nat.{ℕ, ◌+◌, ◌*◌}
 use native.Mathlib.Omega.{arith}
 use lib.Seq.{paste}
 use Rattle.buffers.specs.Fields.{two_bytes}
-use Rattle.tree.specs.Layout.{row-width, row-start}
+use Rattle.tree.specs.Layout.{row_width, row_start}
 use Rattle.edits.specs.WrittenLaws.{put_written}
 use borrow.Author.Rules.{rules}
 use Rattle.edits.proofs.rows.put_rows.Statement.{statement}
@@ -61,10 +61,10 @@ returns c =
     let k = m.before.before.count in
     let s = c.before.before.before.before.before.before.before.before.before.before.before.before.before.before.before.before in
     let a = s.args in
-    let start = row-start a.at in
+    let start = row_start a.at in
     n.write-number.ensures
     ∙ ap (λ (l : List ℕ). paste l 0 (two_bytes (k.result + a.n)) 2) w.write-many.ensures
-    ∙ ap (λ (l : List ℕ). paste (paste l start a.rows.now (row-width * a.n)) 0 (two_bytes (k.result + a.n)) 2) m.move-bytes.ensures
+    ∙ ap (λ (l : List ℕ). paste (paste l start a.rows.now (row_width * a.n)) 0 (two_bytes (k.result + a.n)) 2) m.move-bytes.ensures
     ∙ put_written a.tree.now a.rows.now a.at a.n k.result (omega arith) k.ensures (omega arith) (omega arith)
 
 pub put-rows-spec : {M : Type 1} → statement M

@@ -6,8 +6,8 @@ use native.Mathlib.Omega.{arith}
 use lib.ListN.{replicate}
 use lib.Seq.{paste}
 use Rattle.buffers.specs.Fields.{two_bytes}
-use Rattle.tree.specs.Layout.{row-width, row-start}
-use Rattle.edits.specs.WrittenLaws.{taken-written}
+use Rattle.tree.specs.Layout.{row_width, row_start}
+use Rattle.edits.specs.WrittenLaws.{taken_written}
 use borrow.Author.Rules.{rules}
 use Rattle.edits.proofs.rows.take_rows.Statement.{statement}
 use Rattle.edits.proofs.rows.take_rows.Tie as tie
@@ -73,11 +73,11 @@ returns c =
     let m = z.before.before.before.before in
     let k = m.before.before.count in
     let a = c.before.before.before.before.before.before.before.before.before.before.before.before.before.before.before.args in
-    let left = row-width * a.n in
+    let left = row_width * a.n in
     n.write-number.ensures
     ∙ ap (λ (l : List ℕ). paste l 0 (two_bytes (k.result - a.n)) 2) z.clear.ensures
-    ∙ ap (λ (l : List ℕ). paste (paste l (row-start (k.result - a.n)) (replicate left 0) left) 0 (two_bytes (k.result - a.n)) 2) m.move-bytes.ensures
-    ∙ taken-written a.tree.now a.at a.n k.result (omega arith) k.ensures (omega arith) (omega arith)
+    ∙ ap (λ (l : List ℕ). paste (paste l (row_start (k.result - a.n)) (replicate left 0) left) 0 (two_bytes (k.result - a.n)) 2) m.move-bytes.ensures
+    ∙ taken_written a.tree.now a.at a.n k.result (omega arith) k.ensures (omega arith) (omega arith)
 
 pub take-rows-spec : {M : Type 1} → statement M
 take-rows-spec =

@@ -5,7 +5,7 @@ use Prim.Native.Nat.{ℕ, ◌+◌}
 use native.Mathlib.Omega.{arith}
 use lib.Seq.{paste}
 use Rattle.buffers.specs.Fields.{two_bytes}
-use Rattle.edits.specs.WrittenLaws.{head-written}
+use Rattle.edits.specs.WrittenLaws.{head_written}
 use borrow.Author.Rules.{rules}
 use Rattle.edits.proofs.rows.write_head.Statement.{statement}
 use Rattle.edits.proofs.rows.write_head.Tie as tie
@@ -42,8 +42,8 @@ returns c =
     r.write-number2.ensures
     ∙ ap (λ (l : List ℕ). paste l (a.at + 6) (two_bytes f.revision) 2) m.write-number.ensures
     ∙ ap rest w.write-four.ensures
-    ∙ ap (λ (k : ℕ). rest (paste a.tree.now a.at (a.depth ∷ k ∷ f.owner.0 ∷ f.group.0 ∷ []) 4)) w.before.before.kind-byte.ensures
-    ∙ head-written a.tree.now a.at a.depth f (omega arith)
+    ∙ ap (λ (k : ℕ). rest (paste a.tree.now a.at (a.depth ∷ k ∷ f.owner.0 ∷ f.group.0 ∷ []) 4)) w.before.before.kind_byte.ensures
+    ∙ head_written a.tree.now a.at a.depth f (omega arith)
 
 pub write-head-spec : {M : Type 1} → statement M
 write-head-spec =

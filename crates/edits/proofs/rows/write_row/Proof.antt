@@ -6,7 +6,7 @@ use native.Mathlib.Omega.{arith}
 use lib.ListN.{replicate}
 use lib.Seq.{paste}
 use Rattle.buffers.specs.Fields.{padded}
-use Rattle.tree.specs.Layout.{name-width, name-offset, behind-name-width, tag-offset}
+use Rattle.tree.specs.Layout.{name_width, name_offset, behind_name_width, tag_offset}
 use Rattle.edits.specs.WrittenLaws.{row_written}
 use borrow.Author.Rules.{rules}
 use Rattle.edits.proofs.rows.write_row.Statement.{statement}
@@ -37,8 +37,8 @@ returns c =
     let h = p.before.before.before.before in
     let a = c.before.before.before.before.before.before.before.before.before.before.before.before.before.before.args in
     z.clear.ensures
-    ∙ ap (λ (l : List ℕ). paste l (a.at + tag-offset) (replicate behind-name-width 0) behind-name-width) p.write-padded.ensures
-    ∙ ap (λ (l : List ℕ). paste (paste l (a.at + name-offset) (padded name-width a.name.now) name-width) (a.at + tag-offset) (replicate behind-name-width 0) behind-name-width) h.write-head.ensures
+    ∙ ap (λ (l : List ℕ). paste l (a.at + tag_offset) (replicate behind_name_width 0) behind_name_width) p.write-padded.ensures
+    ∙ ap (λ (l : List ℕ). paste (paste l (a.at + name_offset) (padded name_width a.name.now) name_width) (a.at + tag_offset) (replicate behind_name_width 0) behind_name_width) h.write-head.ensures
     ∙ row_written a.depth a.name.now a.node a.tree.now a.at (omega arith) (omega arith)
 
 pub write-row-spec : {M : Type 1} → statement M

@@ -1,7 +1,7 @@
 -- `entries::filing::commit_at` meets its contract: the rows it acts on are those that the steps lead to, and a refusal leaves all.
-use Rattle.entries.specs.EntrySteps.{commit-at}
-use Rattle.entries.specs.LinkLaws.{links-not}
-use Rattle.entries.specs.FiledLaws.{fileable, is-filed, is-kept}
+use Rattle.entries.specs.EntrySteps.{commit_at}
+use Rattle.entries.specs.LinkLaws.{links_not}
+use Rattle.entries.specs.FiledLaws.{fileable, is_filed, is_kept}
 use borrow.Author.Rules.{rules}
 use Rattle.entries.proofs.filing.commit_at.Statement.{statement}
 use Rattle.entries.proofs.filing.commit_at.Tie as tie
@@ -37,7 +37,7 @@ returns c = let k = c.before.before.before.before.before.before.before in
     λ t p d at.
     let o = k.commit-rows.ensures t p d at in
     let x = fileable a.person a.account at o e in
-    is-filed o e x.comes (c.before.before.file-content.ensures t x.link x.rows)
+    is_filed o e x.comes (c.before.before.file-content.ensures t x.link x.rows)
 
 -- src/filing.rt:91:1
 same-length-2 : tie.Need-same-length-2
@@ -50,7 +50,7 @@ returns-2 c = let k = c.before.before.before in
     let a = k.before.before.before.args in
     λ t p d at.
     let o = k.commit-rows.ensures t p d at in
-    is-kept o e (links-not t (commit-at a.person a.account t p d) o e)
+    is_kept o e (links_not t (commit_at a.person a.account t p d) o e)
 
 pub commit-at-spec : {M : Type 1} → statement M
 commit-at-spec =

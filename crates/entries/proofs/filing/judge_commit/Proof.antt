@@ -1,11 +1,11 @@
 -- `entries::filing::judge_commit` meets its contract: one law of the tests for each return.
 use mathlib.Core.Path.{sym, ◌∙◌}
 use borrow.Author.Tests.{eq-eqb, ne_eqb}
-use Rattle.buffers.specs.Cases.{answers-false, answers-true}
-use Rattle.tree.specs.NodeLaws.{last-revision-is}
-use Rattle.tree.specs.RowAt.{row_at, tag-number-at}
-use Rattle.entries.specs.EntrySteps.{three-rows, links-told}
-use Rattle.entries.specs.TestsLaws.{commit-shut, commit-stale, commit-spent, commit-open}
+use Rattle.buffers.specs.Cases.{answers_false, answers_true}
+use Rattle.tree.specs.NodeLaws.{last_revision_is}
+use Rattle.tree.specs.RowAt.{row_at, tag_number_at}
+use Rattle.entries.specs.EntrySteps.{three_rows, links_told}
+use Rattle.entries.specs.TestsLaws.{commit_shut, commit_stale, commit_spent, commit_open}
 use borrow.Author.Rules.{rules}
 use Rattle.entries.proofs.filing.judge_commit.Statement.{statement}
 use Rattle.entries.proofs.filing.judge_commit.Tie as tie
@@ -21,9 +21,9 @@ may-at-requires c κs = search rules
 
 -- src/filing.rt:41:9
 returns : tie.Need-returns
-unfolding links-told
+unfolding links_told
 returns c = let a = c.before.before.before.args in
-    commit-shut (three-rows a.working a.entry a.above) a.account (row_at a.tree.now a.above).here (tag-number-at a.tree.now a.working) (row_at a.tree.now a.entry).here.revision (answers-false c.before.may_at.ensures c.if1.true)
+    commit_shut (three_rows a.working a.entry a.above) a.account (row_at a.tree.now a.above).here (tag_number_at a.tree.now a.working) (row_at a.tree.now a.entry).here.revision (answers_false c.before.may_at.ensures c.if1.true)
 
 -- src/filing.rt:43:9
 revision-at-requires : tie.Need-revision-at-requires
@@ -35,35 +35,35 @@ tag-revision-at-requires c κs = search rules
 
 -- src/filing.rt:45:9
 returns-2 : tie.Need-returns-2
-unfolding links-told
+unfolding links_told
 returns-2 c = let k = c.before.before.before in
     let a = k.before.before.before.args in
     let given = c.before.tag-revision-at.ensures in
     let revision = c.before.before.revision-at.ensures in
-    commit-stale (three-rows a.working a.entry a.above) a.account (row_at a.tree.now a.above).here (tag-number-at a.tree.now a.working) (row_at a.tree.now a.entry).here.revision
-    (answers-true k.before.may_at.ensures k.if1.false) (ne_eqb _ _ (λ q. c.if2.true (given ∙ q ∙ sym revision)))
+    commit_stale (three_rows a.working a.entry a.above) a.account (row_at a.tree.now a.above).here (tag_number_at a.tree.now a.working) (row_at a.tree.now a.entry).here.revision
+    (answers_true k.before.may_at.ensures k.if1.false) (ne_eqb _ _ (λ q. c.if2.true (given ∙ q ∙ sym revision)))
 
 -- src/filing.rt:48:9
 returns-3 : tie.Need-returns-3
-unfolding links-told
+unfolding links_told
 returns-3 c = let m = c.before in
     let k = m.before.before.before in
     let a = k.before.before.before.args in
     let given = m.before.tag-revision-at.ensures in
     let revision = m.before.before.revision-at.ensures in
-    commit-spent (three-rows a.working a.entry a.above) a.account (row_at a.tree.now a.above).here (tag-number-at a.tree.now a.working) (row_at a.tree.now a.entry).here.revision
-    (answers-true k.before.may_at.ensures k.if1.false) (eq-eqb _ _ (sym given ∙ m.if2.false ∙ revision)) (eq-eqb _ _ (sym revision ∙ c.if3.true ∙ sym last-revision-is))
+    commit_spent (three_rows a.working a.entry a.above) a.account (row_at a.tree.now a.above).here (tag_number_at a.tree.now a.working) (row_at a.tree.now a.entry).here.revision
+    (answers_true k.before.may_at.ensures k.if1.false) (eq-eqb _ _ (sym given ∙ m.if2.false ∙ revision)) (eq-eqb _ _ (sym revision ∙ c.if3.true ∙ sym last_revision_is))
 
 -- src/filing.rt:33:1
 returns-4 : tie.Need-returns-4
-unfolding links-told
+unfolding links_told
 returns-4 c = let m = c.before in
     let k = m.before.before.before in
     let a = k.before.before.before.args in
     let given = m.before.tag-revision-at.ensures in
     let revision = m.before.before.revision-at.ensures in
-    commit-open (three-rows a.working a.entry a.above) a.account (row_at a.tree.now a.above).here (tag-number-at a.tree.now a.working) (row_at a.tree.now a.entry).here.revision
-    (answers-true k.before.may_at.ensures k.if1.false) (eq-eqb _ _ (sym given ∙ m.if2.false ∙ revision)) (ne_eqb _ _ (λ q. c.if3.false (revision ∙ q ∙ last-revision-is)))
+    commit_open (three_rows a.working a.entry a.above) a.account (row_at a.tree.now a.above).here (tag_number_at a.tree.now a.working) (row_at a.tree.now a.entry).here.revision
+    (answers_true k.before.may_at.ensures k.if1.false) (eq-eqb _ _ (sym given ∙ m.if2.false ∙ revision)) (ne_eqb _ _ (λ q. c.if3.false (revision ∙ q ∙ last_revision_is)))
 
 pub judge-commit-spec : {M : Type 1} → statement M
 judge-commit-spec =

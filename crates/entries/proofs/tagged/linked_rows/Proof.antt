@@ -1,7 +1,7 @@
 -- `entries::tagged::linked_rows` meets its contract: from the row of the working file on it is the steps from its place on.
-use Rattle.walks.specs.WalkBytesLaws.{walk-to, walk-not}
-use Rattle.entries.specs.LinkLaws.{link-came, link-refused}
-use Rattle.entries.specs.EntrySteps.{links-told}
+use Rattle.walks.specs.WalkBytesLaws.{walk_to, walk_not}
+use Rattle.entries.specs.LinkLaws.{link_came, link_refused}
+use Rattle.entries.specs.EntrySteps.{links_told}
 use borrow.Author.Rules.{rules}
 use Rattle.entries.proofs.tagged.linked_rows.Statement.{statement}
 use Rattle.entries.proofs.tagged.linked_rows.Tie as tie
@@ -18,7 +18,7 @@ enum-known-row c = search rules
 linked-at-requires : tie.Need-linked-at-requires
 linked-at-requires c κs = let s = c.before.before.before.before.before.before in
     let p = s.requires in
-    let w = walk-to p.0.1 s.args.person s.args.working.now p.1.1 c.before.before.before.walk.ensures c.before.row.given.1 in
+    let w = walk_to p.0.1 s.args.person s.args.working.now p.1.1 c.before.before.before.walk.ensures c.before.row.given.1 in
     (p.0.0, p.1.0, w.place, w.at)
 
 -- src/tagged.rt:91:25
@@ -29,15 +29,15 @@ enum-known-cause c = search rules
 returns : tie.Need-returns
 returns c = let a = c.before.before.before.before.before.before.before.args in
     λ t w tree e.
-    let x = walk-to tree a.person a.working.now e c.before.before.before.before.walk.ensures c.before.before.row.given.1 in
-    link-came a.person a.account a.right t w x.walked (c.linked-at.ensures t w x.place x.at)
+    let x = walk_to tree a.person a.working.now e c.before.before.before.before.walk.ensures c.before.before.row.given.1 in
+    link_came a.person a.account a.right t w x.walked (c.linked-at.ensures t w x.place x.at)
 
 -- src/tagged.rt:78:1
 returns-2 : tie.Need-returns-2
-unfolding links-told
+unfolding links_told
 returns-2 c = let a = c.before.before.before.before.before.before.args in
-    λ t w tree e. link-refused a.person a.account a.right t w
-    (walk-not tree a.person a.working.now e c.before.before.before.walk.ensures c.before.cause.given.1)
+    λ t w tree e. link_refused a.person a.account a.right t w
+    (walk_not tree a.person a.working.now e c.before.before.before.walk.ensures c.before.cause.given.1)
 
 pub linked-rows-spec : {M : Type 1} → statement M
 linked-rows-spec =

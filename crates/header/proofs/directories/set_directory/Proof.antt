@@ -4,8 +4,8 @@ use Prim.Native.Nat.{ℕ}
 use native.Mathlib.Omega.{arith}
 use lib.Seq.{paste}
 use Rattle.buffers.specs.Fields.{padded}
-use Rattle.store.specs.HeaderLayout.{directory-width}
-use Rattle.header.specs.HeaderBytesLaws.{headed-wide, told-fits, directory-stored}
+use Rattle.store.specs.HeaderLayout.{directory_width}
+use Rattle.header.specs.HeaderBytesLaws.{headed_wide, told_fits, directory_stored}
 use borrow.Author.Rules.{rules}
 use Rattle.header.proofs.directories.set_directory.Statement.{statement}
 use Rattle.header.proofs.directories.set_directory.Tie as tie
@@ -16,8 +16,8 @@ start-of-requires c κs = search rules
 write-padded-requires : tie.Need-write-padded-requires
 write-padded-requires c κs =
     let s = c.before.before.before.before in
-    let w = headed-wide s.requires.0 in
-    (omega arith, told-fits s.requires.1.1)
+    let w = headed_wide s.requires.0 in
+    (omega arith, told_fits s.requires.1.1)
 
 same_length : tie.Need-same-length
 same_length c = search rules
@@ -29,8 +29,8 @@ returns c u z h p e =
     let b = s.args.header.now in
     let t = s.args.path.now in
     w.write-padded.ensures
-    ∙ ap (λ (n : ℕ). paste b n (padded directory-width t) directory-width) w.before.before.start_of_lem.ensures
-    ∙ directory-stored h s.args.uid s.requires.1.0 p t e (told-fits s.requires.1.1)
+    ∙ ap (λ (n : ℕ). paste b n (padded directory_width t) directory_width) w.before.before.start_of_lem.ensures
+    ∙ directory_stored h s.args.uid s.requires.1.0 p t e (told_fits s.requires.1.1)
 
 pub set-directory-spec : {M : Type 1} → statement M
 set-directory-spec =

@@ -1,8 +1,8 @@
 -- `header::grants::grant_has` meets its contract: the first field that differs decides.
 use mathlib.Core.Path.{◌∙◌, ap}
 use Rattle.buffers.specs.Text.{Text, same_text}
-use Rattle.header.specs.HeaderBytes.{grant-in}
-use Rattle.header.specs.GrantedLaws.{uid-differs, role-differs, password-decides}
+use Rattle.header.specs.HeaderBytes.{grant_in}
+use Rattle.header.specs.GrantedLaws.{uid_differs, role_differs, password_decides}
 use borrow.Author.Rules.{rules}
 use Rattle.header.proofs.grants.grant_has.Statement.{statement}
 use Rattle.header.proofs.grants.grant_has.Tie as tie
@@ -22,7 +22,7 @@ shared-slice-read-if1 c = search rules
 returns : tie.Need-returns
 returns c =
     let a = c.before.before.before.before.before.args in
-    uid-differs (grant-in a.header.now a.i) a.uid a.role a.password.now c.if1.true
+    uid_differs (grant_in a.header.now a.i) a.uid a.role a.password.now c.if1.true
 
 add-if2 : tie.Need-overflow-add-if2
 add-if2 c = search rules
@@ -33,7 +33,7 @@ shared-slice-read-if2 c = search rules
 returns-2 : tie.Need-returns-2
 returns-2 c =
     let a = c.before.before.before.before.before.before.before.before.args in
-    role-differs (grant-in a.header.now a.i) a.uid a.role a.password.now c.before.before.before.if1.false c.if2.true
+    role_differs (grant_in a.header.now a.i) a.uid a.role a.password.now c.before.before.before.if1.false c.if2.true
 
 password-at-requires : tie.Need-password-at-requires
 password-at-requires c κs = search rules
@@ -44,9 +44,9 @@ same-requires c κs = search rules
 returns-3 : tie.Need-returns-3
 returns-3 c =
     let a = c.before.before.before.before.before.before.before.before.before.before.args in
-    let g = grant-in a.header.now a.i in
+    let g = grant_in a.header.now a.i in
     c.same.ensures ∙ ap (λ (t : Text). same_text t a.password.now) c.before.password-at.ensures
-    ∙ password-decides g a.uid a.role a.password.now c.before.before.before.before.before.if1.false c.before.before.if2.false
+    ∙ password_decides g a.uid a.role a.password.now c.before.before.before.before.before.if1.false c.before.before.if2.false
 
 pub grant-has-spec : {M : Type 1} → statement M
 grant-has-spec =

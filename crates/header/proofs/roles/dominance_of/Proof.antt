@@ -6,32 +6,32 @@ use native.Mathlib.Omega.{arith}
 use lib.ListN.{length, get_or, take, drop, length-drop}
 use lib.Seq.{take_all}
 use Rattle.accounts.specs.Closure.{rows_of}
-use Rattle.dominance.specs.PairsIn.{pairs-in}
-use Rattle.header.specs.HeaderBytesLaws.{headed-wide, pairs-stand}
-use Rattle.header.specs.PairRowsLaws.{few-paired, pairs-in-fall}
+use Rattle.dominance.specs.PairsIn.{pairs_in}
+use Rattle.header.specs.HeaderBytesLaws.{headed_wide, pairs_stand}
+use Rattle.header.specs.PairRowsLaws.{few_paired, pairs_in_fall}
 use borrow.Author.Rules.{rules}
-use Rattle.store.specs.HeaderLayout.{pairs-offset}
+use Rattle.store.specs.HeaderLayout.{pairs_offset}
 use Rattle.header.proofs.roles.dominance_of.Statement.{statement}
 use Rattle.header.proofs.roles.dominance_of.Tie as tie
 
 -- the bytes lent are all that stand there
-behind-number : (b : List ℕ) → take (length b - (pairs-offset + 1)) (drop (pairs-offset + 1) b) ≡ drop (pairs-offset + 1) b
-behind-number b = take_all (length b - (pairs-offset + 1)) (drop (pairs-offset + 1) b) (omega (arith, length-drop (pairs-offset + 1) b))
+behind-number : (b : List ℕ) → take (length b - (pairs_offset + 1)) (drop (pairs_offset + 1) b) ≡ drop (pairs_offset + 1) b
+behind-number b = take_all (length b - (pairs_offset + 1)) (drop (pairs_offset + 1) b) (omega (arith, length-drop (pairs_offset + 1) b))
 
 shared-slice-read-n : tie.Need-shared-slice-read-n
-shared-slice-read-n c = omega (arith, headed-wide c.before.before.requires)
+shared-slice-read-n c = omega (arith, headed_wide c.before.before.requires)
 
 cast-n : tie.Need-overflow-cast-n
-cast-n c = omega (arith, few-paired c.before.before.requires)
+cast-n c = omega (arith, few_paired c.before.before.requires)
 
 add-closed-bytes : tie.Need-overflow-add-closed-bytes
 add-closed-bytes c = search rules
 
 sub-closed-bytes : tie.Need-overflow-sub-closed-bytes
-sub-closed-bytes c = omega (arith, headed-wide c.before.before.requires)
+sub-closed-bytes c = omega (arith, headed_wide c.before.before.requires)
 
 part-closed-bytes-start : tie.Need-slice-bounds-closed-bytes-start
-part-closed-bytes-start c = omega (arith, headed-wide c.before.before.requires)
+part-closed-bytes-start c = omega (arith, headed_wide c.before.before.requires)
 
 part-closed-bytes-end : tie.Need-slice-bounds-closed-bytes-end
 part-closed-bytes-end c = search rules
@@ -40,13 +40,13 @@ closed-bytes-requires : tie.Need-closed-bytes-requires
 closed-bytes-requires c κs =
     let s = c.before.before.before in
     let b = s.args.header.now in
-    let few = few-paired s.requires in
-    (few, (rw (behind-number b) (omega (arith, few, headed-wide s.requires, length-drop (pairs-offset + 1) b)), rw (behind-number b) (pairs-in-fall s.requires)))
+    let few = few_paired s.requires in
+    (few, (rw (behind-number b) (omega (arith, few, headed_wide s.requires, length-drop (pairs_offset + 1) b)), rw (behind-number b) (pairs_in_fall s.requires)))
 
 returns : tie.Need-returns
 returns c u z h =
     let b = c.before.before.before.before.args.header.now in
-    c.closed-bytes.ensures ∙ ap (λ (l : List ℕ). rows_of (pairs-in (get_or b pairs-offset 0) l)) (behind-number b) ∙ ap rows_of (sym (pairs-stand h))
+    c.closed-bytes.ensures ∙ ap (λ (l : List ℕ). rows_of (pairs_in (get_or b pairs_offset 0) l)) (behind-number b) ∙ ap rows_of (sym (pairs_stand h))
 
 pub dominance-of-spec : {M : Type 1} → statement M
 dominance-of-spec =

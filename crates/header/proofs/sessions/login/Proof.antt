@@ -1,9 +1,9 @@
 -- `header::sessions::login` meets its contract: without a grant nothing is stored, with one the session of the role is.
 use mathlib.Core.Path.{◌∙◌}
 use mathlib.Core.Option.{some}
-use Rattle.buffers.specs.Cases.{answers-false, answers-true}
-use Rattle.header.specs.SessionBytesLaws.{role-is, role-session}
-use Rattle.header.specs.HeaderFollowsLaws.{login-refused, login-done}
+use Rattle.buffers.specs.Cases.{answers_false, answers_true}
+use Rattle.header.specs.SessionBytesLaws.{role_is, role_session}
+use Rattle.header.specs.HeaderFollowsLaws.{login_refused, login_done}
 use borrow.Author.Rules.{rules}
 use Rattle.header.proofs.sessions.login.Statement.{statement}
 use Rattle.header.proofs.sessions.login.Tie as tie
@@ -17,7 +17,7 @@ same_length c = search rules
 returns : tie.Need-returns
 returns c u z h s e =
     let a = c.before.before.before.before.before.args in
-    login-refused u z a.header.now a.uid s a.password.now (answers-false (c.before.is-granted.ensures u z h s e) c.if1.true)
+    login_refused u z a.header.now a.uid s a.password.now (answers_false (c.before.is-granted.ensures u z h s e) c.if1.true)
 
 session-of-requires : tie.Need-session-of-requires
 session-of-requires c κs = search rules
@@ -28,7 +28,7 @@ log-in-requires c κs = search rules
 set-session-requires : tie.Need-set-session-requires
 set-session-requires c κs =
     let s = c.before.before.before.before.before.before.before.before.before in
-    let q = role-session s.args.role s.requires.1.1 in
+    let q = role_session s.args.role s.requires.1.1 in
     (s.requires.0, (s.requires.1.0, (q.0, c.before.log-in.ensures ∙ q.1)))
 
 same-length-2 : tie.Need-same-length-2
@@ -40,9 +40,9 @@ returns-2 c u z h s e =
     let k = p.before.before.before.before.before in
     let g = k.before in
     let a = g.before.before.before.before.args in
-    login-done u z a.header.now a.uid s a.password.now p.set-session.new.0
-    (answers-true (g.is-granted.ensures u z h s e) k.if1.false)
-    (p.set-session.ensures u z h (some s) (p.before.before.log-in.ensures ∙ role-is a.role s e))
+    login_done u z a.header.now a.uid s a.password.now p.set_session.new.0
+    (answers_true (g.is-granted.ensures u z h s e) k.if1.false)
+    (p.set_session.ensures u z h (some s) (p.before.before.log-in.ensures ∙ role_is a.role s e))
 
 pub login-spec : {M : Type 1} → statement M
 login-spec =

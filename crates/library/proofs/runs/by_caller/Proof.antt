@@ -1,7 +1,7 @@
 -- `library::runs::by_caller` meets its contract: refused where the setup knows nobody, else the command of whom it knows.
 use mathlib.Core.Path.{sym, ◌∙◌, ap, refl}
 use Rattle.header.specs.HeaderBytes.{known}
-use Rattle.library.specs.RunLaws.{unknown-carries, known-carries, caller-low}
+use Rattle.library.specs.RunLaws.{unknown_carries, known_carries, caller_low}
 use Rattle.library.proofs.runs.by_caller.Statement.{statement}
 use Rattle.library.proofs.runs.by_caller.Tie as tie
 
@@ -20,7 +20,7 @@ run-line-requires c κs =
     let s = c.before.before.before.before.before.before.before.before.before.before in
     let h = s.requires.0 in
     let e = ap known (sym c.before.before.before.caller.given.1) ∙ c.before.before.before.before.before.caller-in.ensures h.0 h.1 in
-    (h, (s.requires.1.0, (s.requires.1.1, caller-low h.1 s.args.uid _ e)))
+    (h, (s.requires.1.0, (s.requires.1.1, caller_low h.1 s.args.uid _ e)))
 
 same_length : tie.Need-same-length
 same_length c = refl
@@ -30,7 +30,7 @@ unfolding known
 returns c s k h m =
     let a = c.before.before.before.before.before.before.before.args in
     let e = ap known (sym c.enum_told.given.1) ∙ c.before.before.caller-in.ensures s h in
-    unknown-carries h a.uid k a.answer.now e
+    unknown_carries h a.uid k a.answer.now e
 
 same-length-2 : tie.Need-same-length-2
 same-length-2 c = c.before.before.before.before.run-line.auto.0
@@ -44,7 +44,7 @@ returns-2 c s k h m =
     let a = c.before.before.before.before.before.before.before.before.before.before.before.before.before.before.before.args in
     let there = c.before.before.before.before.before.before.before.before in
     let e = ap known (sym there.caller.given.1) ∙ there.before.before.caller-in.ensures s h in
-    known-carries h a.uid _ k e (c.before.before.before.before.run-line.ensures s k h m)
+    known_carries h a.uid _ k e (c.before.before.before.before.run-line.ensures s k h m)
 
 pub by-caller-spec : {M : Type 1} → statement M
 by-caller-spec =

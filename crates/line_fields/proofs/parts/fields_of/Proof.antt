@@ -14,7 +14,7 @@ returns c =
       first = record { start = first.0 i; end = first.1 i };
       second = record { start = second.0 i; end = second.1 i };
       third = record { start = third.0 i; end = third.1 i };
-      count = c.before.before.before.before.behind-word.ensures i;
+      count = c.before.before.before.before.behind_word.ensures i;
     }
 
 pub fields-of-spec : {M : Type 1} → statement M

@@ -39,13 +39,13 @@ use Rattle.syntax.specs.Parts.{field_at}
 use Rattle.line_fields.specs.declared.FieldReader.{FieldReader}
 use Rattle.line_fields.specs.declared.Fields.{Fields}
 use Rattle.line_fields.specs.FieldsRead.{place_after, fields_read}
-use Rattle.line_fields.specs.FieldsReadLaws.{place-after-inside, read-in-turn}
+use Rattle.line_fields.specs.FieldsReadLaws.{place_after_inside, read_in_turn}
 use Rattle.line_fields.proofs.FieldReader.TheLaws as T'
 use Rattle.syntax.specs.contracts.Field as S
 use Rattle.syntax.proofs.Field.TheLaws as S'
 use Rattle.line_fields.specs.contracts.Fields as R
 use Rattle.line_fields.proofs.Fields.TheLaws as R'
-use Rattle.line_fields.proofs.Calls.{B, Stands, New, Next, Past, FieldsOf, val_of, Line, Reader, Token, reader-fits, field_fits, makes-reader, reads-field, moves-past, puts-together}
+use Rattle.line_fields.proofs.Calls.{B, Stands, New, Next, Past, FieldsOf, val_of, Line, Reader, Token, reader_fits, field_fits, makes_reader, reads_field, moves_past, puts_together}
 use Rattle.line_fields.proofs.FieldReader.new.Symbol as new-def
 use Rattle.line_fields.proofs.FieldReader.new.Symbol.{name as #fields·new}
 use Rattle.line_fields.proofs.FieldReader.new.Met as new-thm
@@ -131,56 +131,56 @@ module _ {M : Type 1} {𝓤 : Ura M} (𝓛 : Logic 𝓤) (mem : Memory → SProp
           → f₁ ≡ field_at s.now n → f₂ ≡ field_at s.now (place_after s.now f₁) → f₃ ≡ field_at s.now (place_after s.now f₂) → Stands s (place_after s.now f₃) r → Is (B (κ, tt)) r (u ∷ [])
           → Sq 𝓛 (Going r u (holds field l₄ w₁) (holds field l₅ w₂) (holds field l₆ w₃)) (runs C Λ En pieces.t-14 (at_ret En Post))
       ends f₁ w₁ f₂ w₂ f₃ w₃ r u is₁ is₂ is₃ e₁ e₂ e₃ stands is =
-          assigns ! (of_opd ! (load ! (from ! (stop !)) (look ! 26 refl))) (from ! (stop !)) (init ! 4 refl (reader-fits 𝓛 κ r is)) $
-          reads-field ! mem run fm known_next r u stands (place-after-inside s.now f₃) (and_then ! (load ! (from ! (stop !)) (look ! 4 refl)) (no_more !)) (λ f₄ w₄ e₄ is₄.
+          assigns ! (of_opd ! (load ! (from ! (stop !)) (look ! 26 refl))) (from ! (stop !)) (init ! 4 refl (reader_fits 𝓛 κ r is)) $
+          reads_field ! mem run fm known_next r u stands (place_after_inside s.now f₃) (and_then ! (load ! (from ! (stop !)) (look ! 4 refl)) (no_more !)) (λ f₄ w₄ e₄ is₄.
           land ! (from ! (stop !)) (init ! 18 refl (field_fits 𝓛 is₄)) $
-          puts-together ! mem run fm known-four f₁ w₁ f₂ w₂ f₃ w₃ f₄ w₄ is₁ is₂ is₃ is₄
+          puts_together ! mem run fm known-four f₁ w₁ f₂ w₂ f₃ w₃ f₄ w₄ is₁ is₂ is₃ is₄
           (and_then ! (load ! (from ! (stop !)) (look ! 25 refl)) (and_then ! (load ! (from ! (stop !)) (look ! 23 refl)) (and_then ! (load ! (from ! (stop !)) (look ! 21 refl)) (and_then ! (load ! (from ! (stop !)) (look ! 19 refl)) (no_more !))))) (λ f w e is_f.
           land ! (from ! (stop !)) (init ! 32 refl ((LL.lawful R.the_type R'.the_laws 𝓛).typed f _ is_f).0) $
           returns ! (look ! 32 refl) $ forget ! 4 refl $ forget ! 18 refl $ forget ! 20 refl $ forget ! 22 refl $ forget ! 24 refl $ forget ! 26 refl $ forget ! 28 refl $ forget ! 30 refl $ forget ! 32 refl $
           move ! (32 ∷ 33 ∷ []) $ free1 ! $ move ! (30 ∷ 31 ∷ []) $ free1 ! $ move ! (28 ∷ 29 ∷ []) $ free1 ! $ move ! (26 ∷ 27 ∷ []) $ free1 ! $ move ! (24 ∷ 25 ∷ []) $ free1 ! $ move ! (22 ∷ 23 ∷ []) $ free1 ! $
           move ! (20 ∷ 21 ∷ []) $ free1 ! $ move ! (18 ∷ 19 ∷ []) $ free1 ! $ move ! (16 ∷ 17 ∷ []) $ free1 ! $ move ! (14 ∷ 15 ∷ []) $ free1 ! $ move ! (12 ∷ 13 ∷ []) $ free1 ! $ move ! (10 ∷ 11 ∷ []) $ free1 ! $
           move ! (8 ∷ 9 ∷ []) $ free1 ! $ move ! (6 ∷ 7 ∷ []) $ free1 ! $ move ! (4 ∷ 5 ∷ []) $ free1 ! $ free0 ! $
-          keep ! (1 ∷ 2 ∷ 3 ∷ []) $ by ! (exits f w (read-in-turn s.now n f₁ f₂ f₃ f₄ f e₁ e₂ e₃ e₄ e) is_f)))
+          keep ! (1 ∷ 2 ∷ 3 ∷ []) $ by ! (exits f w (read_in_turn s.now n f₁ f₂ f₃ f₄ f e₁ e₂ e₃ e₄ e) is_f)))
 
       -- the third field
       third : (f₁ : Field) (w₁ : Val) (f₂ : Field) (w₂ : Val) (r : FieldReader) (u : Val) → Is S.the_row f₁ (w₁ ∷ []) → Is S.the_row f₂ (w₂ ∷ [])
           → f₁ ≡ field_at s.now n → f₂ ≡ field_at s.now (place_after s.now f₁) → Stands s (place_after s.now f₂) r → Is (B (κ, tt)) r (u ∷ [])
           → Sq 𝓛 (Going r u (holds field l₄ w₁) (holds field l₅ w₂) (room field l₆)) (runs C Λ En pieces.t-10 (at_ret En Post))
       third f₁ w₁ f₂ w₂ r u is₁ is₂ e₁ e₂ stands is =
-          assigns ! (of_opd ! (load ! (from ! (stop !)) (look ! 26 refl))) (from ! (stop !)) (init ! 8 refl (reader-fits 𝓛 κ r is)) $
-          reads-field ! mem run fm known_next r u stands (place-after-inside s.now f₂) (and_then ! (load ! (from ! (stop !)) (look ! 8 refl)) (no_more !)) (λ f₃ w₃ e₃ is₃.
+          assigns ! (of_opd ! (load ! (from ! (stop !)) (look ! 26 refl))) (from ! (stop !)) (init ! 8 refl (reader_fits 𝓛 κ r is)) $
+          reads_field ! mem run fm known_next r u stands (place_after_inside s.now f₂) (and_then ! (load ! (from ! (stop !)) (look ! 8 refl)) (no_more !)) (λ f₃ w₃ e₃ is₃.
           land ! (from ! (stop !)) (init ! 20 refl (field_fits 𝓛 is₃)) $ forget ! 8 refl $
-          assigns ! (of_opd ! (load ! (from ! (stop !)) (look ! 26 refl))) (from ! (stop !)) (init ! 6 refl (reader-fits 𝓛 κ r is)) $
-          moves-past ! mem run fm known_past r u f₃ w₃ stands is₃ (and_then ! (load ! (from ! (stop !)) (look ! 5 refl)) (and_then ! (load ! (from ! (stop !)) (look ! 19 refl)) (no_more !))) (λ r' u' stands' is'.
-          land ! (from ! (stop !)) (store ! 26 refl (reader-fits 𝓛 κ r' is')) $ forget ! 6 refl $ ends f₁ w₁ f₂ w₂ f₃ w₃ r' u' is₁ is₂ is₃ e₁ e₂ e₃ stands' is'))
+          assigns ! (of_opd ! (load ! (from ! (stop !)) (look ! 26 refl))) (from ! (stop !)) (init ! 6 refl (reader_fits 𝓛 κ r is)) $
+          moves_past ! mem run fm known_past r u f₃ w₃ stands is₃ (and_then ! (load ! (from ! (stop !)) (look ! 5 refl)) (and_then ! (load ! (from ! (stop !)) (look ! 19 refl)) (no_more !))) (λ r' u' stands' is'.
+          land ! (from ! (stop !)) (store ! 26 refl (reader_fits 𝓛 κ r' is')) $ forget ! 6 refl $ ends f₁ w₁ f₂ w₂ f₃ w₃ r' u' is₁ is₂ is₃ e₁ e₂ e₃ stands' is'))
 
       -- the second
       second : (f₁ : Field) (w₁ : Val) (r : FieldReader) (u : Val) → Is S.the_row f₁ (w₁ ∷ []) → f₁ ≡ field_at s.now n → Stands s (place_after s.now f₁) r → Is (B (κ, tt)) r (u ∷ [])
           → Sq 𝓛 (Going r u (holds field l₄ w₁) (room field l₅) (room field l₆)) (runs C Λ En pieces.t-6 (at_ret En Post))
       second f₁ w₁ r u is₁ e₁ stands is =
-          assigns ! (of_opd ! (load ! (from ! (stop !)) (look ! 26 refl))) (from ! (stop !)) (init ! 12 refl (reader-fits 𝓛 κ r is)) $
-          reads-field ! mem run fm known_next r u stands (place-after-inside s.now f₁) (and_then ! (load ! (from ! (stop !)) (look ! 12 refl)) (no_more !)) (λ f₂ w₂ e₂ is₂.
+          assigns ! (of_opd ! (load ! (from ! (stop !)) (look ! 26 refl))) (from ! (stop !)) (init ! 12 refl (reader_fits 𝓛 κ r is)) $
+          reads_field ! mem run fm known_next r u stands (place_after_inside s.now f₁) (and_then ! (load ! (from ! (stop !)) (look ! 12 refl)) (no_more !)) (λ f₂ w₂ e₂ is₂.
           land ! (from ! (stop !)) (init ! 22 refl (field_fits 𝓛 is₂)) $ forget ! 12 refl $
-          assigns ! (of_opd ! (load ! (from ! (stop !)) (look ! 26 refl))) (from ! (stop !)) (init ! 10 refl (reader-fits 𝓛 κ r is)) $
-          moves-past ! mem run fm known_past r u f₂ w₂ stands is₂ (and_then ! (load ! (from ! (stop !)) (look ! 9 refl)) (and_then ! (load ! (from ! (stop !)) (look ! 21 refl)) (no_more !))) (λ r' u' stands' is'.
-          land ! (from ! (stop !)) (store ! 26 refl (reader-fits 𝓛 κ r' is')) $ forget ! 10 refl $ third f₁ w₁ f₂ w₂ r' u' is₁ is₂ e₁ e₂ stands' is'))
+          assigns ! (of_opd ! (load ! (from ! (stop !)) (look ! 26 refl))) (from ! (stop !)) (init ! 10 refl (reader_fits 𝓛 κ r is)) $
+          moves_past ! mem run fm known_past r u f₂ w₂ stands is₂ (and_then ! (load ! (from ! (stop !)) (look ! 9 refl)) (and_then ! (load ! (from ! (stop !)) (look ! 21 refl)) (no_more !))) (λ r' u' stands' is'.
+          land ! (from ! (stop !)) (store ! 26 refl (reader_fits 𝓛 κ r' is')) $ forget ! 10 refl $ third f₁ w₁ f₂ w₂ r' u' is₁ is₂ e₁ e₂ stands' is'))
 
       -- the first
       first : (r : FieldReader) (u : Val) → Stands s n r → Is (B (κ, tt)) r (u ∷ []) → Sq 𝓛 (Going r u (room field l₄) (room field l₅) (room field l₆)) (runs C Λ En pieces.t-2 (at_ret En Post))
       first r u stands is =
-          assigns ! (of_opd ! (load ! (from ! (stop !)) (look ! 26 refl))) (from ! (stop !)) (init ! 16 refl (reader-fits 𝓛 κ r is)) $
-          reads-field ! mem run fm known_next r u stands inside (and_then ! (load ! (from ! (stop !)) (look ! 16 refl)) (no_more !)) (λ f₁ w₁ e₁ is₁.
+          assigns ! (of_opd ! (load ! (from ! (stop !)) (look ! 26 refl))) (from ! (stop !)) (init ! 16 refl (reader_fits 𝓛 κ r is)) $
+          reads_field ! mem run fm known_next r u stands inside (and_then ! (load ! (from ! (stop !)) (look ! 16 refl)) (no_more !)) (λ f₁ w₁ e₁ is₁.
           land ! (from ! (stop !)) (init ! 24 refl (field_fits 𝓛 is₁)) $ forget ! 16 refl $
-          assigns ! (of_opd ! (load ! (from ! (stop !)) (look ! 26 refl))) (from ! (stop !)) (init ! 14 refl (reader-fits 𝓛 κ r is)) $
-          moves-past ! mem run fm known_past r u f₁ w₁ stands is₁ (and_then ! (load ! (from ! (stop !)) (look ! 13 refl)) (and_then ! (load ! (from ! (stop !)) (look ! 23 refl)) (no_more !))) (λ r' u' stands' is'.
-          land ! (from ! (stop !)) (store ! 26 refl (reader-fits 𝓛 κ r' is')) $ forget ! 14 refl $ second f₁ w₁ r' u' is₁ e₁ stands' is'))
+          assigns ! (of_opd ! (load ! (from ! (stop !)) (look ! 26 refl))) (from ! (stop !)) (init ! 14 refl (reader_fits 𝓛 κ r is)) $
+          moves_past ! mem run fm known_past r u f₁ w₁ stands is₁ (and_then ! (load ! (from ! (stop !)) (look ! 13 refl)) (and_then ! (load ! (from ! (stop !)) (look ! 23 refl)) (no_more !))) (λ r' u' stands' is'.
+          land ! (from ! (stop !)) (store ! 26 refl (reader_fits 𝓛 κ r' is')) $ forget ! 14 refl $ second f₁ w₁ r' u' is₁ e₁ stands' is'))
 
       -- the reader is made
       starts : Sq 𝓛 (Token κ q ∷ ‵ (Line κ s) ∷ ‵ (Line κ s) ∷ ‵ Place ∷ Locals (room reader l₃) (room field l₄) (room field l₅) (room field l₆)) (runs C Λ En pieces.t-1 (at_ret En Post))
       starts =
-          makes-reader ! mem run fm known-new s n small (and_then ! (load ! (from ! (stop !)) (look ! 29 refl)) (and_then ! (load ! (from ! (stop !)) (look ! 27 refl)) (no_more !))) (λ r u stands is.
-          land ! (from ! (stop !)) (init ! 26 refl (reader-fits 𝓛 κ r is)) $ first r u stands is)
+          makes_reader ! mem run fm known-new s n small (and_then ! (load ! (from ! (stop !)) (look ! 29 refl)) (and_then ! (load ! (from ! (stop !)) (look ! 27 refl)) (no_more !))) (λ r u stands is.
+          land ! (from ! (stop !)) (init ! 26 refl (reader_fits 𝓛 κ r is)) $ first r u stands is)
 
     walk : Is (ShrSlice (named 0) κ u8) s (val_of s ∷ []) → ent 𝓤 (on_entry 𝓛 fields_at.signature (κ, tt) (q, tt) (s, (n, tt)) at) (WpFn 𝓤 H C Λ code.function (val_of s ∷ vint w64 n ∷ []) Post)
     walk p =

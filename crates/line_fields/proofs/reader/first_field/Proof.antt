@@ -36,7 +36,7 @@ use Rattle.syntax.specs.declared.Field.{Field}
 use Rattle.syntax.specs.Parts.{field_at}
 use Rattle.syntax.specs.contracts.Field as S
 use Rattle.syntax.proofs.Field.TheLaws as S'
-use Rattle.line_fields.proofs.Calls.{New, Next, Token, val_of, Line, reader-fits, field_fits, makes-reader, reads-field}
+use Rattle.line_fields.proofs.Calls.{New, Next, Token, val_of, Line, reader_fits, field_fits, makes_reader, reads_field}
 use Rattle.line_fields.proofs.FieldReader.new.Symbol as new-def
 use Rattle.line_fields.proofs.FieldReader.new.Symbol.{name as #fields·new}
 use Rattle.line_fields.proofs.FieldReader.new.Met as new-thm
@@ -73,10 +73,10 @@ module _ {M : Type 1} {𝓤 : Ura M} (𝓛 : Logic 𝓤) (mem : Memory → SProp
         qed 𝓛 (Token κ q ∷ ‵ (owns (ShrSlice (named 0) κ u8 ∷ []) (s, tt) (v ∷ [], tt)) ∷ []) ∵ enter ! C Λ code.function (v ∷ []) _ $
         alloc1 ! (λ l₀. alloc1 ! (λ l₁. alloc1 ! (λ l₂. alloc0 ! $ params1 ! $ pass1 ! (init ! 2 refl ((shr_slice_Lawful 𝓛 (named 0) κ u8).typed s (v ∷ []) p).0) $ pass0 ! $
         move ! (7 ∷ []) $ fsplit ! $ use1 𝓛 (‵ (Line κ s) ⊛ ‵ (Line κ s)) ((shr_slice_copy 𝓛 (named 0) κ u8).twice s (v ∷ [])) $ split ! $ move ! (9 ∷ 0 ∷ []) $
-        makes-reader ! mem run fm known-new s 0 (lit< tt) (and_then ! (load ! (from ! (stop !)) (look ! 5 refl)) (and_then ! (lit ! tt) (no_more !))) (λ r u at is.
+        makes_reader ! mem run fm known-new s 0 (lit< tt) (and_then ! (load ! (from ! (stop !)) (look ! 5 refl)) (and_then ! (lit ! tt) (no_more !))) (λ r u at is.
         -- [what the reader owns; the token; what line owns; true; _2; …; _1; …; room for _0; …]
-        land ! (from ! (stop !)) (init ! 4 refl (reader-fits 𝓛 κ r is)) $
-        reads-field ! mem run fm known_next r u at (omega arith) (and_then ! (load ! (from ! (stop !)) (look ! 4 refl)) (no_more !)) (λ f w e is_f.
+        land ! (from ! (stop !)) (init ! 4 refl (reader_fits 𝓛 κ r is)) $
+        reads_field ! mem run fm known_next r u at (omega arith) (and_then ! (load ! (from ! (stop !)) (look ! 4 refl)) (no_more !)) (λ f w e is_f.
         land ! (from ! (stop !)) (init ! 8 refl (field_fits 𝓛 is_f)) $
         returns ! (look ! 8 refl) $ forget ! 4 refl $ forget ! 6 refl $ forget ! 8 refl $ move ! (8 ∷ 9 ∷ []) $ free1 ! $ move ! (6 ∷ 7 ∷ []) $ free1 ! $ move ! (4 ∷ 5 ∷ []) $ free1 ! $ free0 ! $
         keep ! (1 ∷ 2 ∷ []) $ by ! (exits f w e is_f))))))

@@ -1,7 +1,7 @@
 -- `lines::line::line_at` meets its contract: what the line tells of the text up to its end, it tells of the whole.
 use mathlib.Core.Path.{sym}
 use lib.Seq.{length-take-le}
-use Rattle.lines.specs.LineLaws.{told-whole}
+use Rattle.lines.specs.LineLaws.{told_whole}
 use Rattle.lines.proofs.line.line_at.Statement.{statement}
 use Rattle.lines.proofs.line.line_at.Tie as tie
 
@@ -19,7 +19,7 @@ returns : tie.Need-returns
 returns c =
     let a = c.before.before.before.args in
     let h = c.before.before.before.requires in
-    told-whole a.text.now a.start a.end c.last_line.result h.0 h.1 c.last_line.ensures
+    told_whole a.text.now a.start a.end c.last_line.result h.0 h.1 c.last_line.ensures
 
 pub line-at-spec : {M : Type 1} → statement M
 line-at-spec = tie.close (tie.spec slice-aggregate-last-line last-line-requires returns)

@@ -1,6 +1,6 @@
 -- `lines::line::numbers_at` meets its contract: one law for each return.
-use Rattle.syntax.specs.Parts.{span-text}
-use Rattle.lines.specs.LineLaws.{first-none, second_none, both-numbers}
+use Rattle.syntax.specs.Parts.{span_text}
+use Rattle.lines.specs.LineLaws.{first_none, second_none, both_numbers}
 use borrow.Author.Rules.{rules}
 use Rattle.lines.proofs.line.numbers_at.Statement.{statement}
 use Rattle.lines.proofs.line.numbers_at.Tie as tie
@@ -32,18 +32,18 @@ cast-t16 c = search rules
 returns : tie.Need-returns
 returns c =
     let a = c.before.before.before.before.args in
-    first-none a.low a.high1 a.high2 (span-text a.text.now a.a) (span-text a.text.now a.b) _ c.enum_told.given.1 c.before.before.number_at.ensures
+    first_none a.low a.high1 a.high2 (span_text a.text.now a.a) (span_text a.text.now a.b) _ c.enum_told.given.1 c.before.before.number_at.ensures
 
 returns-2 : tie.Need-returns-2
 returns-2 c =
     let a = c.before.before.before.before.before.before.before.before.args in
-    second_none a.low a.high1 a.high2 (span-text a.text.now a.a) (span-text a.text.now a.b) _ c.enum-told2.given.1 c.before.before.number-at2.ensures
+    second_none a.low a.high1 a.high2 (span_text a.text.now a.a) (span_text a.text.now a.b) _ c.enum-told2.given.1 c.before.before.number-at2.ensures
 
 returns-3 : tie.Need-returns-3
 returns-3 c =
     let a = c.before.before.before.before.before.before.before.before.before.args in
     let h = c.before.before.before.before.before.before.before.before.before.requires in
-    both-numbers a.low a.high1 a.high2 (span-text a.text.now a.a) (span-text a.text.now a.b) _ _ _ _ h.1.1.0 h.1.1.1 c.before.before.before.before.before.m.given.1 c.before.n.given.1 c.before.before.before.before.before.before.before.number_at.ensures c.before.before.before.number-at2.ensures
+    both_numbers a.low a.high1 a.high2 (span_text a.text.now a.a) (span_text a.text.now a.b) _ _ _ _ h.1.1.0 h.1.1.1 c.before.before.before.before.before.m.given.1 c.before.n.given.1 c.before.before.before.before.before.before.before.number_at.ensures c.before.before.before.number-at2.ensures
 
 pub numbers-at-spec : {M : Type 1} → statement M
 numbers-at-spec =

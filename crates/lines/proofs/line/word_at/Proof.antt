@@ -2,8 +2,8 @@
 use Rattle.buffers.specs.Text.{same_text}
 use Rattle.syntax.specs.Pieces.{bytes}
 use Rattle.syntax.specs.Form.{by_form}
-use Rattle.lines.specs.SetupLines.{setup-form, setup-forms, setup-line-of}
-use Rattle.lines.specs.Line.{line-form}
+use Rattle.lines.specs.SetupLines.{setup_form, setup_forms, setup_line_of}
+use Rattle.lines.specs.Line.{line_form}
 use Rattle.lines.specs.LineLaws.{one_byte, other_length, other_byte}
 use borrow.Author.Rules.{rules}
 use Rattle.lines.proofs.line.word_at.Statement.{statement}
@@ -13,7 +13,7 @@ sub-if1 : tie.Need-overflow-sub-if1
 sub-if1 c = search rules
 
 returns : tie.Need-returns
-unfolding line-form
+unfolding line_form
 returns c =
     let a = c.before.before.args in
     λ s. other_length a.text.now a.w s c.before.before.requires c.if1.true
@@ -22,35 +22,35 @@ shared-slice-read-match : tie.Need-shared-slice-read-match
 shared-slice-read-match c = search rules
 
 returns-2 : tie.Need-returns-2
-unfolding setup-line-of by_form setup-forms setup-form line-form same_text bytes
+unfolding setup_line_of by_form setup_forms setup_form line_form same_text bytes
 returns-2 c =
     let a = c.before.before.before.before.args in
     let one = one_byte a.text.now a.w c.before.before.before.before.requires c.before.before.if1.false in
     λ s. rw (one, c.match.keys1)
 
 returns-3 : tie.Need-returns-3
-unfolding setup-line-of by_form setup-forms setup-form line-form same_text bytes
+unfolding setup_line_of by_form setup_forms setup_form line_form same_text bytes
 returns-3 c =
     let a = c.before.before.before.before.args in
     let one = one_byte a.text.now a.w c.before.before.before.before.requires c.before.before.if1.false in
     λ s. rw (one, c.match.keys2)
 
 returns-4 : tie.Need-returns-4
-unfolding setup-line-of by_form setup-forms setup-form line-form same_text bytes
+unfolding setup_line_of by_form setup_forms setup_form line_form same_text bytes
 returns-4 c =
     let a = c.before.before.before.before.args in
     let one = one_byte a.text.now a.w c.before.before.before.before.requires c.before.before.if1.false in
     λ s. rw (one, c.match.keys3)
 
 returns-5 : tie.Need-returns-5
-unfolding setup-line-of by_form setup-forms setup-form line-form same_text bytes
+unfolding setup_line_of by_form setup_forms setup_form line_form same_text bytes
 returns-5 c =
     let a = c.before.before.before.before.args in
     let one = one_byte a.text.now a.w c.before.before.before.before.requires c.before.before.if1.false in
     λ s. rw (one, c.match.keys4)
 
 returns-6 : tie.Need-returns-6
-unfolding line-form
+unfolding line_form
 returns-6 c =
     let a = c.before.before.before.before.args in
     let one = one_byte a.text.now a.w c.before.before.before.before.requires c.before.before.if1.false in

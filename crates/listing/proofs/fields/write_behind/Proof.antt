@@ -4,7 +4,7 @@ use native.Mathlib.Omega.{arith}
 use Prim.Native.Nat.{◌+◌}
 use lib.ListN.{length, set, length-set}
 use Rattle.buffers.specs.Over.{Wrote}
-use Rattle.buffers.specs.OverLaws.{over-paste, wrote-byte, wrote-both}
+use Rattle.buffers.specs.OverLaws.{over_paste, wrote_byte, wrote_both}
 use borrow.Author.Rules.{rules}
 use Rattle.listing.proofs.fields.write_behind.Statement.{statement}
 use Rattle.listing.proofs.fields.write_behind.Tie as tie
@@ -34,8 +34,8 @@ returns c =
     let b = a.answer.now in
     let t = a.text.now in
     let v : Wrote t (set b a.at a.mark) (a.at + 1) w.new.0 (a.at + 1 + length t) =
-    record { ends = refl; holds = w.ensures ∙ over-paste (set b a.at a.mark) t (a.at + 1) } in
-    wrote-both (wrote-byte a.mark b a.at (omega arith)) v (omega arith)
+    record { ends = refl; holds = w.ensures ∙ over_paste (set b a.at a.mark) t (a.at + 1) } in
+    wrote_both (wrote_byte a.mark b a.at (omega arith)) v (omega arith)
 
 pub write-behind-spec : {M : Type 1} → statement M
 write-behind-spec =

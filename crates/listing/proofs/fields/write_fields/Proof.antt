@@ -5,13 +5,13 @@ use native.Mathlib.Omega.{arith}
 use lib.ListN.{length}
 use Rattle.buffers.specs.Text.{Text}
 use Rattle.syntax.specs.Pieces.{comma}
-use Rattle.tree.specs.RowAtLaws.{row-content-fits}
+use Rattle.tree.specs.RowAtLaws.{row_content_fits}
 use Rattle.listing.specs.RowListing.{fields_at}
-use Rattle.listing.specs.RowListingLaws.{writes_as, writes-both, writes-behind}
+use Rattle.listing.specs.RowListingLaws.{writes_as, writes_both, writes_behind}
 use borrow.Author.Rules.{rules}
 use Rattle.listing.proofs.fields.write_fields.Statement.{statement}
 use Rattle.listing.proofs.fields.write_fields.Tie as tie
-use Rattle.tree.specs.Layout.{content-width}
+use Rattle.tree.specs.Layout.{content_width}
 
 write-kind-requires : tie.Need-write-kind-requires
 write-kind-requires c κs = search rules
@@ -33,7 +33,7 @@ write-behind-requires c κs =
     let kind = c.before.before.before.before.before.before.before.before.before.before.before.before.before.before.before.before in
     let a = kind.before.before.before.before.args in
     let e = ap length c.content-at.ensures in
-    omega (arith, row-content-fits a.tree.now a.i)
+    omega (arith, row_content_fits a.tree.now a.i)
 
 same_length : tie.Need-same-length
 same_length c = search rules
@@ -48,12 +48,12 @@ returns c =
     let a = kind.before.before.before.before.args in
     let content = c.before.before.before.content-at.ensures in
     let e = ap length content in
-    let first = writes-both kind.write-kind.ensures owners.write-owners.ensures (omega arith) in
-    let second = writes-both first numbers.write-numbers.ensures (omega arith) in
-    let third = writes-both second tag.write-tag.ensures (omega arith) in
-    writes-both third
+    let first = writes_both kind.write-kind.ensures owners.write-owners.ensures (omega arith) in
+    let second = writes_both first numbers.write-numbers.ensures (omega arith) in
+    let third = writes_both second tag.write-tag.ensures (omega arith) in
+    writes_both third
     (writes_as (ap (λ (t : Text). 44 ∷ t) content)
-    (writes-behind {k = content-width} c.before.before.write-behind.ensures (omega (arith, row-content-fits a.tree.now a.i))))
+    (writes_behind {k = content_width} c.before.before.write-behind.ensures (omega (arith, row_content_fits a.tree.now a.i))))
     (omega arith)
 
 pub write-fields-spec : {M : Type 1} → statement M

@@ -4,7 +4,7 @@ use mathlib.Core.List.{◌∷◌}
 use native.Mathlib.Omega.{arith}
 use Rattle.syntax.specs.Pieces.{bytes, comma}
 use Rattle.tree.specs.declared.Kind.{Kind}
-use Rattle.listing.specs.Listing.{kind-text}
+use Rattle.listing.specs.Listing.{kind_text}
 use Rattle.listing.specs.RowListingLaws.{writes_as}
 use borrow.Author.Rules.{rules}
 use Rattle.listing.proofs.fields.write_kind.Statement.{statement}
@@ -35,23 +35,23 @@ same_length : tie.Need-same-length
 same_length c = search rules
 
 returns : tie.Need-returns
-unfolding comma kind-text bytes
+unfolding comma kind_text bytes
 returns c =
     let w = c.before.before.write-behind in
     let arm = c.before.before.before.before.before in
     let is = sym arm.enum_told.given.1 ∙ arm.before.before.kind_at.ensures in
-    writes_as (ap (λ (k : Kind). 44 ∷ kind-text k) is) (record { wrote = w.ensures; short = omega (arith, w.ensures.ends) })
+    writes_as (ap (λ (k : Kind). 44 ∷ kind_text k) is) (record { wrote = w.ensures; short = omega (arith, w.ensures.ends) })
 
 same-length-2 : tie.Need-same-length-2
 same-length-2 c = search rules
 
 returns-2 : tie.Need-returns-2
-unfolding comma kind-text bytes
+unfolding comma kind_text bytes
 returns-2 c =
     let w = c.before.before.write-behind2 in
     let arm = c.before.before.before.before.before in
     let is = sym arm.enum-told2.given.1 ∙ arm.before.before.kind_at.ensures in
-    writes_as (ap (λ (k : Kind). 44 ∷ kind-text k) is) (record { wrote = w.ensures; short = omega (arith, w.ensures.ends) })
+    writes_as (ap (λ (k : Kind). 44 ∷ kind_text k) is) (record { wrote = w.ensures; short = omega (arith, w.ensures.ends) })
 
 pub write-kind-spec : {M : Type 1} → statement M
 write-kind-spec =

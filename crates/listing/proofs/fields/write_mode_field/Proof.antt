@@ -2,9 +2,9 @@
 use mathlib.Core.Path.{◌∙◌}
 use native.Mathlib.Omega.{arith}
 use lib.ListN.{length-set}
-use Rattle.buffers.specs.OverLaws.{wrote-byte, wrote-both}
+use Rattle.buffers.specs.OverLaws.{wrote_byte, wrote_both}
 use Rattle.syntax.specs.Pieces.{comma}
-use Rattle.syntax.specs.NumberLaws.{mode-length}
+use Rattle.syntax.specs.NumberLaws.{mode_length}
 use borrow.Author.Rules.{rules}
 use Rattle.listing.proofs.fields.write_mode_field.Statement.{statement}
 use Rattle.listing.proofs.fields.write_mode_field.Tie as tie
@@ -28,8 +28,8 @@ returns c =
     let a = c.before.before.before.before.before.args in
     let e = w.ensures.ends in
     record {
-      wrote = wrote-both (wrote-byte 44 a.answer.now a.at (omega arith)) w.ensures (omega (arith, mode-length a.mode));
-      short = omega (arith, mode-length a.mode);
+      wrote = wrote_both (wrote_byte 44 a.answer.now a.at (omega arith)) w.ensures (omega (arith, mode_length a.mode));
+      short = omega (arith, mode_length a.mode);
     }
 
 pub write-mode-field-spec : {M : Type 1} → statement M

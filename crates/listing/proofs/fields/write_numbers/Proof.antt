@@ -4,9 +4,9 @@ use mathlib.Core.List.{◌∷◌, ◌++◌}
 use Prim.Native.Nat.{ℕ}
 use native.Mathlib.Omega.{arith}
 use Rattle.syntax.specs.Pieces.{comma}
-use Rattle.syntax.specs.Number.{decimal-text, mode-text}
-use Rattle.listing.specs.RowListing.{number-fields}
-use Rattle.listing.specs.RowListingLaws.{writes_as, writes-both}
+use Rattle.syntax.specs.Number.{decimal_text, mode_text}
+use Rattle.listing.specs.RowListing.{number_fields}
+use Rattle.listing.specs.RowListingLaws.{writes_as, writes_both}
 use borrow.Author.Rules.{rules}
 use Rattle.listing.proofs.fields.write_numbers.Statement.{statement}
 use Rattle.listing.proofs.fields.write_numbers.Tie as tie
@@ -27,13 +27,13 @@ same_length : tie.Need-same-length
 same_length c = search rules
 
 returns : tie.Need-returns
-unfolding number-fields
+unfolding number_fields
 returns c =
     let first = c.before.before.before.before.before.before.before in
     let mode = first.before.mode-at.ensures in
     let revision = c.before.before.before.revision-at.ensures in
-    writes_as (ap₂ (λ (u v : ℕ). (comma ∷ mode-text u) ++ (comma ∷ decimal-text v)) mode revision)
-    (writes-both first.write-mode-field.ensures c.before.before.write-decimal-field.ensures (omega arith))
+    writes_as (ap₂ (λ (u v : ℕ). (comma ∷ mode_text u) ++ (comma ∷ decimal_text v)) mode revision)
+    (writes_both first.write-mode-field.ensures c.before.before.write-decimal-field.ensures (omega arith))
 
 pub write-numbers-spec : {M : Type 1} → statement M
 write-numbers-spec =

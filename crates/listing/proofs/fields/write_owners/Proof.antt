@@ -6,9 +6,9 @@ use native.Mathlib.Omega.{arith}
 use Rattle.accounts.specs.declared.Uid.{Uid}
 use Rattle.accounts.specs.declared.Gid.{Gid}
 use Rattle.syntax.specs.Pieces.{comma}
-use Rattle.syntax.specs.Number.{decimal-text}
-use Rattle.listing.specs.RowListing.{owner-fields}
-use Rattle.listing.specs.RowListingLaws.{writes_as, writes-both}
+use Rattle.syntax.specs.Number.{decimal_text}
+use Rattle.listing.specs.RowListing.{owner_fields}
+use Rattle.listing.specs.RowListingLaws.{writes_as, writes_both}
 use borrow.Author.Rules.{rules}
 use Rattle.listing.proofs.fields.write_owners.Statement.{statement}
 use Rattle.listing.proofs.fields.write_owners.Tie as tie
@@ -35,13 +35,13 @@ same_length : tie.Need-same-length
 same_length c = search rules
 
 returns : tie.Need-returns
-unfolding owner-fields
+unfolding owner_fields
 returns c =
     let first = c.before.before.before.before.before.before in
     let owner = ap (λ (x : Uid). x.0) c.before.before.before.before.before.before.before.before.before.before.before.owner_at.ensures in
     let group = ap (λ (x : Gid). x.0) c.before.before.before.before.before.before.before.before.before.group_at.ensures in
-    writes_as (ap₂ (λ (u v : ℕ). (comma ∷ decimal-text u) ++ (comma ∷ decimal-text v)) owner group)
-    (writes-both first.write-decimal-field.ensures c.before.before.write-decimal-field2.ensures (omega arith))
+    writes_as (ap₂ (λ (u v : ℕ). (comma ∷ decimal_text u) ++ (comma ∷ decimal_text v)) owner group)
+    (writes_both first.write-decimal-field.ensures c.before.before.write-decimal-field2.ensures (omega arith))
 
 pub write-owners-spec : {M : Type 1} → statement M
 write-owners-spec =

@@ -4,7 +4,7 @@ use mathlib.Core.List.{◌∷◌}
 use native.Mathlib.Omega.{arith}
 use Rattle.buffers.specs.Text.{Text}
 use Rattle.syntax.specs.Pieces.{comma}
-use Rattle.listing.specs.RowListingLaws.{writes_as, dash-none, dash-there}
+use Rattle.listing.specs.RowListingLaws.{writes_as, dash_none, dash_there}
 use borrow.Author.Rules.{rules}
 use Rattle.listing.proofs.fields.write_tag_path.Statement.{statement}
 use Rattle.listing.proofs.fields.write_tag_path.Tie as tie
@@ -23,7 +23,7 @@ unfolding comma
 returns c =
     let w = c.before.before.write-behind in
     let a = c.before.before.before.before.before.before.before.before.args in
-    writes_as (ap (λ (t : Text). 44 ∷ t) (sym (dash-none a.path.now c.before.before.before.before.before.if1.true)))
+    writes_as (ap (λ (t : Text). 44 ∷ t) (sym (dash_none a.path.now c.before.before.before.before.before.if1.true)))
     (record { wrote = w.ensures; short = omega (arith, w.ensures.ends) })
 
 write-behind-requires-2 : tie.Need-write-behind-requires-2
@@ -37,7 +37,7 @@ unfolding comma
 returns-2 c =
     let w = c.before.before.write-behind2 in
     let a = c.before.before.before.before.before.before.before.args in
-    writes_as (ap (λ (t : Text). 44 ∷ t) (sym (dash-there a.path.now c.before.before.before.before.if1.false)))
+    writes_as (ap (λ (t : Text). 44 ∷ t) (sym (dash_there a.path.now c.before.before.before.before.if1.false)))
     (record { wrote = w.ensures; short = omega (arith, w.ensures.ends) })
 
 pub write-tag-path-spec : {M : Type 1} → statement M

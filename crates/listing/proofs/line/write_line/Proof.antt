@@ -1,6 +1,6 @@
 -- `listing::line::write_line` meets its contract: the path and the fields behind it are the line of the row.
 use native.Mathlib.Omega.{arith}
-use Rattle.buffers.specs.OverLaws.{wrote-both}
+use Rattle.buffers.specs.OverLaws.{wrote_both}
 use Rattle.listing.specs.RowListingLaws.{whole_row, line_wrote}
 use borrow.Author.Rules.{rules}
 use Rattle.listing.proofs.line.write_line.Statement.{statement}
@@ -22,7 +22,7 @@ returns c =
     let s = c.before.before.before.before.before.before.before.before.before.before in
     let p = c.before.before.before.before.before.before.write-path.ensures in
     let f = c.before.before.write-fields.ensures in
-    λ t e. line_wrote e s.args.n s.requires.1.0 (wrote-both p.wrote f.wrote (omega (arith, p.short, f.short)))
+    λ t e. line_wrote e s.args.n s.requires.1.0 (wrote_both p.wrote f.wrote (omega (arith, p.short, f.short)))
 
 pub write-line-spec : {M : Type 1} → statement M
 write-line-spec =

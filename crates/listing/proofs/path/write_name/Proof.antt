@@ -4,8 +4,8 @@ use mathlib.Core.List.{◌∷◌}
 use native.Mathlib.Omega.{arith}
 use lib.ListN.{length}
 use Rattle.buffers.specs.Text.{Text}
-use Rattle.tree.specs.RowAtLaws.{row-name-fits}
-use Rattle.listing.specs.RowListingLaws.{writes_as, writes-behind}
+use Rattle.tree.specs.RowAtLaws.{row_name_fits}
+use Rattle.listing.specs.RowListingLaws.{writes_as, writes_behind}
 use borrow.Author.Rules.{rules}
 use Rattle.listing.proofs.path.write_name.Statement.{statement}
 use Rattle.listing.proofs.path.write_name.Tie as tie
@@ -17,7 +17,7 @@ write-behind-requires : tie.Need-write-behind-requires
 write-behind-requires c κs =
     let a = c.before.before.before.before.args in
     let e = ap length c.name-at.ensures in
-    omega (arith, row-name-fits a.tree.now a.i)
+    omega (arith, row_name_fits a.tree.now a.i)
 
 same_length : tie.Need-same-length
 same_length c = search rules
@@ -28,7 +28,7 @@ returns c =
     let name = c.before.before.before.name-at.ensures in
     let e = ap length name in
     writes_as (ap (λ (t : Text). 47 ∷ t) name)
-    (writes-behind {k = 8} c.before.before.write-behind.ensures (omega (arith, row-name-fits a.tree.now a.i)))
+    (writes_behind {k = 8} c.before.before.write-behind.ensures (omega (arith, row_name_fits a.tree.now a.i)))
 
 pub write-name-spec : {M : Type 1} → statement M
 write-name-spec = tie.close (tie.spec name-at-requires write-behind-requires same_length returns)

@@ -5,10 +5,10 @@ use native.Mathlib.Omega.{arith}
 use Prim.Native.Nat.{ℕ, ◌≤◌, ◌<◌, ◌+◌, ◌*◌, ◌-◌}
 use lib.ListN.{length}
 use Rattle.buffers.specs.Over.{Wrote}
-use Rattle.buffers.specs.OverLaws.{wrote_nothing, wrote-both}
-use Rattle.syntax.specs.Path.{names-text}
-use Rattle.listing.specs.RowListing.{path-seen, names-told, Wrote-most}
-use Rattle.listing.specs.RowListingLaws.{names-none, names_more}
+use Rattle.buffers.specs.OverLaws.{wrote_nothing, wrote_both}
+use Rattle.syntax.specs.Path.{names_text}
+use Rattle.listing.specs.RowListing.{path_seen, names_told, WroteMost}
+use Rattle.listing.specs.RowListingLaws.{names_none, names_more}
 use Rattle.listing.proofs.path.write_names.Statement.{statement}
 use Rattle.listing.proofs.path.write_names.Tie as tie
 
@@ -16,20 +16,20 @@ record Going (tree last : List ℕ) (depth : ℕ) (answer₀ answer : List ℕ) 
   le : k ≤ depth
   len : length answer ≡ length answer₀
   far : end ≤ 9 * k
-  done : Wrote (names-text (path-seen (names-told tree last) k)) answer₀ 0 answer end
+  done : Wrote (names_text (path_seen (names_told tree last) k)) answer₀ 0 answer end
 
 begins : (tree last : List ℕ) (depth : ℕ) (answer : List ℕ) → Going tree last depth answer answer 0 0
 begins tree last depth answer =
-    record { le = omega arith; len = refl; far = omega arith; done = rw (names-none (names-told tree last)) (wrote_nothing answer) }
+    record { le = omega arith; len = refl; far = omega arith; done = rw (names_none (names_told tree last)) (wrote_nothing answer) }
 
 -- one name more
 one_more : {tree last : List ℕ} {depth : ℕ} {a b : List ℕ} {end k : ℕ} → Going tree last depth a b end k → (c : List ℕ) (r : ℕ) → k < depth → 9 * depth ≤ length a
-    → length c ≡ length b → Wrote-most 9 (47 ∷ names-told tree last (k + 1)) b end c r → Going tree last depth a c r (k + 1)
+    → length c ≡ length b → WroteMost 9 (47 ∷ names_told tree last (k + 1)) b end c r → Going tree last depth a c r (k + 1)
 one_more {tree} {last} {k = k} g c r h room e w = record {
   le = omega arith;
   len = e ∙ g.len;
   far = omega (arith, g.far, w.short);
-  done = rw (names_more (names-told tree last) k) (wrote-both g.done w.wrote (omega (arith, g.far, w.short)));
+  done = rw (names_more (names_told tree last) k) (wrote_both g.done w.wrote (omega (arith, g.far, w.short)));
 }
 
 abbrev invariant-loop : tie.invariant-loop

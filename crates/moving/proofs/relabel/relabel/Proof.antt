@@ -4,7 +4,7 @@ use mathlib.Core.List.{List}
 use Prim.Native.Nat.{ℕ}
 use lib.Seq.{paste}
 use Rattle.buffers.specs.Fields.{padded}
-use Rattle.tree.specs.Layout.{name-offset, name-width}
+use Rattle.tree.specs.Layout.{name_offset, name_width}
 use Rattle.moving.specs.Relabel.{relabelled}
 use borrow.Author.Rules.{rules}
 use Rattle.moving.proofs.relabel.relabel.Statement.{statement}
@@ -28,7 +28,7 @@ returns c =
     let w = c.before.before in
     let s = w.before.before.before.before in
     let a = c.before.before.before.before.before.before.before.before.before.before.before.args in
-    w.write-padded.ensures ∙ ap (λ (l : List ℕ). paste l name-offset (padded name-width a.name.now) name-width) s.shift-depths.ensures
+    w.write-padded.ensures ∙ ap (λ (l : List ℕ). paste l name_offset (padded name_width a.name.now) name_width) s.shift-depths.ensures
 
 pub relabel-spec : {M : Type 1} → statement M
 relabel-spec =

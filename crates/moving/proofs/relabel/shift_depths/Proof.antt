@@ -3,14 +3,14 @@ use mathlib.Core.Path.{◌≡◌, refl, ap, ◌∙◌}
 use Prim.Native.Nat.{ℕ, ◌+◌, ◌-◌, ◌*◌, ◌≤◌}
 use native.Mathlib.Omega.{arith}
 use lib.ListN.{length, set, length-set}
-use Rattle.tree.specs.Layout.{row-width}
-use Rattle.moving.specs.Relabel.{depths-shifted}
-use Rattle.moving.specs.RelabelLaws.{shift-again, shift-end}
+use Rattle.tree.specs.Layout.{row_width}
+use Rattle.moving.specs.Relabel.{depths_shifted}
+use Rattle.moving.specs.RelabelLaws.{shift_again, shift_end}
 use Rattle.moving.proofs.relabel.shift_depths.Statement.{statement}
 use Rattle.moving.proofs.relabel.shift_depths.Tie as tie
 
 abbrev invariant-loop : tie.invariant-loop
-invariant-loop rows₀ n old new i₀ rows i = (i ≤ n) × (length rows ≡ length rows₀) × (depths-shifted old new i (n - i) rows ≡ depths-shifted old new 0 n rows₀)
+invariant-loop rows₀ n old new i₀ rows i = (i ≤ n) × (length rows ≡ length rows₀) × (depths_shifted old new i (n - i) rows ≡ depths_shifted old new 0 n rows₀)
 
 abbrev decreases-loop : tie.decreases-loop
 decreases-loop rows₀ n old new i₀ rows i = n - i
@@ -19,7 +19,7 @@ loop-holds : tie.Need-loop-init invariant-loop decreases-loop
 loop-holds c =
     let a = c.before.args in
     let z : a.n - 0 ≡ a.n = omega arith in
-    (omega arith, refl, ap (λ (k : ℕ). depths-shifted a.old a.new 0 k a.rows.now) z)
+    (omega arith, refl, ap (λ (k : ℕ). depths_shifted a.old a.new 0 k a.rows.now) z)
 
 mul-shift : tie.Need-overflow-mul-shift invariant-loop decreases-loop
 mul-shift c = omega arith
@@ -50,8 +50,8 @@ loop-again c =
     let rows = l.loop.rows in (
       omega arith,
       simp length-set l.loop.invariant.1,
-      ap (λ (v : ℕ). depths-shifted a.old a.new (i + 1) (a.n - (i + 1)) (set rows (row-width * i) v)) c.shift.ensures
-          ∙ shift-again a.old a.new i a.n rows (omega arith)
+      ap (λ (v : ℕ). depths_shifted a.old a.new (i + 1) (a.n - (i + 1)) (set rows (row_width * i) v)) c.shift.ensures
+          ∙ shift_again a.old a.new i a.n rows (omega arith)
           ∙ l.loop.invariant.2,
     )
 
@@ -62,7 +62,7 @@ returns : tie.Need-returns invariant-loop decreases-loop
 returns c =
     let l = c.before in
     let a = l.before.before.args in
-    shift-end a.old a.new l.loop.i a.n l.loop.rows (omega arith) ∙ l.loop.invariant.2
+    shift_end a.old a.new l.loop.i a.n l.loop.rows (omega arith) ∙ l.loop.invariant.2
 
 pub shift-depths-spec : {M : Type 1} → statement M
 shift-depths-spec =

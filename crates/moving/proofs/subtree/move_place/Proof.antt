@@ -1,21 +1,21 @@
 -- `moving::subtree::move_place` meets its contract: the array that is chosen has room for the rows of the place.
 use native.Mathlib.Omega.{arith}
-use Rattle.tree.specs.TreeBytesLaws.{at-used}
-use Rattle.moving.specs.MovingLaws.{movable-span}
+use Rattle.tree.specs.TreeBytesLaws.{at_used}
+use Rattle.moving.specs.MovingLaws.{movable_span}
 use Rattle.moving.proofs.subtree.move_place.Statement.{statement}
 use Rattle.moving.proofs.subtree.move_place.Tie as tie
 
 subtree-end-requires : tie.Need-subtree-end-requires
-subtree-end-requires c κs = at-used c.before.before.before.requires.stands
+subtree-end-requires c κs = at_used c.before.before.before.requires.stands
 
 sub-n : tie.Need-overflow-sub-n
-sub-n c = (movable-span c.before.before.before.before.requires c.subtree-end.result c.subtree-end.ensures.0).0
+sub-n c = (movable_span c.before.before.before.before.requires c.subtree-end.result c.subtree-end.ensures.0).0
 
 move-few-requires : tie.Need-move-few-requires
 move-few-requires c κs =
     let e = c.before.before in
     let m = e.before.before.before.before.requires in
-    let z = movable-span m e.subtree-end.result e.subtree-end.ensures.0 in
+    let z = movable_span m e.subtree-end.result e.subtree-end.ensures.0 in
     (m, (z.1.0, omega arith))
 
 same_length : tie.Need-same-length
@@ -28,7 +28,7 @@ move-some-requires : tie.Need-move-some-requires
 move-some-requires c κs =
     let e = c.before.before.before in
     let m = e.before.before.before.before.requires in
-    let z = movable-span m e.subtree-end.result e.subtree-end.ensures.0 in
+    let z = movable_span m e.subtree-end.result e.subtree-end.ensures.0 in
     (m, (z.1.0, omega arith))
 
 same-length-2 : tie.Need-same-length-2
@@ -41,7 +41,7 @@ move-many-requires : tie.Need-move-many-requires
 move-many-requires c κs =
     let e = c.before.before.before.before in
     let m = e.before.before.before.before.requires in
-    let z = movable-span m e.subtree-end.result e.subtree-end.ensures.0 in
+    let z = movable_span m e.subtree-end.result e.subtree-end.ensures.0 in
     (m, (z.1.0, omega arith))
 
 same-length-3 : tie.Need-same-length-3
@@ -54,7 +54,7 @@ move-half-requires : tie.Need-move-half-requires
 move-half-requires c κs =
     let e = c.before.before.before.before.before in
     let m = e.before.before.before.before.requires in
-    let z = movable-span m e.subtree-end.result e.subtree-end.ensures.0 in
+    let z = movable_span m e.subtree-end.result e.subtree-end.ensures.0 in
     (m, (z.1.0, omega arith))
 
 same-length-4 : tie.Need-same-length-4
@@ -67,7 +67,7 @@ move-all-requires : tie.Need-move-all-requires
 move-all-requires c κs =
     let e = c.before.before.before.before.before in
     let m = e.before.before.before.before.requires in
-    let z = movable-span m e.subtree-end.result e.subtree-end.ensures.0 in
+    let z = movable_span m e.subtree-end.result e.subtree-end.ensures.0 in
     (m, (z.1.0, z.1.1))
 
 same-length-5 : tie.Need-same-length-5

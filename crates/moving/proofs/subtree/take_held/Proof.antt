@@ -5,7 +5,7 @@ use Prim.Native.Nat.{ℕ, ◌-◌, ◌*◌}
 use native.Mathlib.Omega.{arith}
 use lib.ListN.{length, take, drop, length-drop}
 use lib.Seq.{paste, take_all}
-use Rattle.tree.specs.Layout.{row-width, row-start}
+use Rattle.tree.specs.Layout.{row_width, row_start}
 use borrow.Author.Rules.{rules}
 use Rattle.moving.proofs.subtree.take_held.Statement.{statement}
 use Rattle.moving.proofs.subtree.take_held.Tie as tie
@@ -48,7 +48,7 @@ returns c =
     let w = c.before.before.before.before.before.before in
     let a = w.before.before.before.before.before.before.args in (
       c.before.before.take-rows.ensures,
-      w.write-many.ensures ∙ ap (λ (s : List ℕ). paste a.held.now 0 s (row-width * a.n)) (from-row-on a.tree.now (row-start a.at)),
+      w.write-many.ensures ∙ ap (λ (s : List ℕ). paste a.held.now 0 s (row_width * a.n)) (from-row-on a.tree.now (row_start a.at)),
     )
 
 pub take-held-spec : {M : Type 1} → statement M

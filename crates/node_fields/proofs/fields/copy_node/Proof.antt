@@ -3,9 +3,9 @@ use mathlib.Core.Path.{◌∙◌, ap}
 use mathlib.Core.List.{List}
 use Prim.Native.Nat.{ℕ}
 use borrow.Author.Rules.{rules}
-use Rattle.tree.specs.Layout.{behind-name-width, tag-offset}
-use Rattle.edits.specs.Changes.{field-bytes, field_put}
-use Rattle.node_fields.specs.NodeCopy.{node-copied}
+use Rattle.tree.specs.Layout.{behind_name_width, tag_offset}
+use Rattle.edits.specs.Changes.{field_bytes, field_put}
+use Rattle.node_fields.specs.NodeCopy.{node_copied}
 use Rattle.node_fields.proofs.fields.copy_node.Statement.{statement}
 use Rattle.node_fields.proofs.fields.copy_node.Tie as tie
 
@@ -19,13 +19,13 @@ same_length : tie.Need-same-length
 same_length c = search rules
 
 returns : tie.Need-returns
-unfolding node-copied
+unfolding node_copied
 returns c =
     let p = c.before.before in
     let q = p.before.before.before.before in
     let a = q.before.before.before.args in
     p.copy-part2.ensures
-    ∙ ap (λ (b : List ℕ). field_put b a.to tag-offset (field-bytes b a.from tag-offset behind-name-width)) q.copy-part.ensures
+    ∙ ap (λ (b : List ℕ). field_put b a.to tag_offset (field_bytes b a.from tag_offset behind_name_width)) q.copy-part.ensures
 
 pub copy-node-spec : {M : Type 1} → statement M
 copy-node-spec = tie.close (tie.spec copy-part-requires copy-part-requires-2 same_length returns)

@@ -2,7 +2,7 @@
 use mathlib.Core.Path.{◌∙◌}
 use native.Mathlib.Omega.{arith}
 use borrow.Author.Rules.{rules}
-use Rattle.node_fields.specs.FieldsWrittenLaws.{part-copied}
+use Rattle.node_fields.specs.FieldsWrittenLaws.{part_copied}
 use Rattle.node_fields.proofs.fields.copy_part.Statement.{statement}
 use Rattle.node_fields.proofs.fields.copy_part.Tie as tie
 
@@ -33,7 +33,7 @@ same_length c = search rules
 returns : tie.Need-returns
 returns c =
     let a = c.before.before.before.before.before.args in
-    c.before.before.move-bytes.ensures ∙ part-copied a.tree.now a.from a.to a.at a.n (omega arith) (omega arith)
+    c.before.before.move-bytes.ensures ∙ part_copied a.tree.now a.from a.to a.at a.n (omega arith) (omega arith)
 
 pub copy-part-spec : {M : Type 1} → statement M
 copy-part-spec =

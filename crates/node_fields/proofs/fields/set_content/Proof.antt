@@ -2,9 +2,9 @@
 use mathlib.Core.Path.{◌∙◌}
 use native.Mathlib.Omega.{arith}
 use Rattle.buffers.specs.Fields.{padded}
-use Rattle.buffers.specs.FieldsLaws.{length-padded}
-use Rattle.tree.specs.Layout.{content-width, content-offset}
-use Rattle.node_fields.specs.FieldsWrittenLaws.{piece-put}
+use Rattle.buffers.specs.FieldsLaws.{length_padded}
+use Rattle.tree.specs.Layout.{content_width, content_offset}
+use Rattle.node_fields.specs.FieldsWrittenLaws.{piece_put}
 use borrow.Author.Rules.{rules}
 use Rattle.node_fields.proofs.fields.set_content.Statement.{statement}
 use Rattle.node_fields.proofs.fields.set_content.Tie as tie
@@ -28,7 +28,7 @@ returns : tie.Need-returns
 returns c =
     let a = c.before.before.before.before.before.before.args in
     let s = a.content.now in
-    c.before.before.write-padded.ensures ∙ piece-put a.tree.now a.i content-offset (padded content-width s) content-width (length-padded content-width s (omega arith))
+    c.before.before.write-padded.ensures ∙ piece_put a.tree.now a.i content_offset (padded content_width s) content_width (length_padded content_width s (omega arith))
 
 pub set-content-spec : {M : Type 1} → statement M
 set-content-spec =

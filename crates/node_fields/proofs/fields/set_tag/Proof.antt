@@ -5,8 +5,8 @@ use Prim.Native.Nat.{ℕ, ◌+◌}
 use native.Mathlib.Omega.{arith}
 use lib.Seq.{paste}
 use Rattle.buffers.specs.Fields.{two_bytes}
-use Rattle.tree.specs.Layout.{row-start, tag-revision-offset}
-use Rattle.node_fields.specs.FieldsWrittenLaws.{tag-put}
+use Rattle.tree.specs.Layout.{row_start, tag_revision_offset}
+use Rattle.node_fields.specs.FieldsWrittenLaws.{tag_put}
 use borrow.Author.Rules.{rules}
 use Rattle.node_fields.proofs.fields.set_tag.Statement.{statement}
 use Rattle.node_fields.proofs.fields.set_tag.Tie as tie
@@ -38,8 +38,8 @@ returns c =
     let p = n.before.before.before.before in
     let a = c.before.before.before.before.before.before.before.before.before.before.args in
     n.write-number.ensures
-    ∙ ap (λ (l : List ℕ). paste l (row-start a.i + tag-revision-offset) (two_bytes a.revision) 2) p.write-padded.ensures
-    ∙ tag-put a.tree.now a.path.now a.i a.revision (omega arith) (omega arith)
+    ∙ ap (λ (l : List ℕ). paste l (row_start a.i + tag_revision_offset) (two_bytes a.revision) 2) p.write-padded.ensures
+    ∙ tag_put a.tree.now a.path.now a.i a.revision (omega arith) (omega arith)
 
 pub set-tag-spec : {M : Type 1} → statement M
 set-tag-spec =

@@ -6,9 +6,9 @@ use native.Mathlib.Omega.{arith}
 use lib.ListN.{length, set, drop, length-set}
 use lib.Seq.{paste}
 use Rattle.buffers.specs.Fields.{two_bytes}
-use Rattle.tree.specs.Layout.{row-start, tag-offset, tag-revision-offset}
-use Rattle.tree.specs.RowAt.{tag-text-at}
-use Rattle.node_fields.specs.FieldsWrittenLaws.{tag-below-put}
+use Rattle.tree.specs.Layout.{row_start, tag_offset, tag_revision_offset}
+use Rattle.tree.specs.RowAt.{tag_text_at}
+use Rattle.node_fields.specs.FieldsWrittenLaws.{tag_below_put}
 use borrow.Author.Rules.{rules}
 use Rattle.node_fields.proofs.fields.set_tag_below.Statement.{statement}
 use Rattle.node_fields.proofs.fields.set_tag_below.Tie as tie
@@ -87,15 +87,15 @@ returns c =
     let s = g.before.before.before.before in
     let a = s.args in
     let n = length g.tag-path-at.result.now in
-    let at = row-start a.i in
-    let from = row-start a.above + 16 in
+    let at = row_start a.i in
+    let from = row_start a.above + 16 in
     let name = a.name.now in
-    let q : n ≡ length (tag-text-at a.tree.now a.above) = ap length g.tag-path-at.ensures in
+    let q : n ≡ length (tag_text_at a.tree.now a.above) = ap length g.tag-path-at.ensures in
     w.write-number.ensures
-    ∙ ap (λ (l : List ℕ). paste l (at + tag-revision-offset) (two_bytes a.revision) 2) p.write.ensures
-    ∙ ap (λ (l : List ℕ). paste (paste (set l (at + tag-offset + n) 47) (at + 17 + n) name (length name)) (at + tag-revision-offset) (two_bytes a.revision) 2) m.move-bytes.ensures
-    ∙ ap (λ (l : List ℕ). paste (paste (set (paste l (at + tag-offset) (drop from l) n) (at + tag-offset + n) 47) (at + 17 + n) name (length name)) (at + tag-revision-offset) (two_bytes a.revision) 2) z.clear.ensures
-    ∙ tag-below-put a.tree.now name a.i a.above n a.revision s.requires.0.room s.requires.1.0 q (omega (arith, s.requires.1.1))
+    ∙ ap (λ (l : List ℕ). paste l (at + tag_revision_offset) (two_bytes a.revision) 2) p.write.ensures
+    ∙ ap (λ (l : List ℕ). paste (paste (set l (at + tag_offset + n) 47) (at + 17 + n) name (length name)) (at + tag_revision_offset) (two_bytes a.revision) 2) m.move-bytes.ensures
+    ∙ ap (λ (l : List ℕ). paste (paste (set (paste l (at + tag_offset) (drop from l) n) (at + tag_offset + n) 47) (at + 17 + n) name (length name)) (at + tag_revision_offset) (two_bytes a.revision) 2) z.clear.ensures
+    ∙ tag_below_put a.tree.now name a.i a.above n a.revision s.requires.0.room s.requires.1.0 q (omega (arith, s.requires.1.1))
 
 pub set-tag-below-spec : {M : Type 1} → statement M
 set-tag-below-spec =

@@ -4,7 +4,7 @@ use borrow.Author.Rules.{rules}
 use Rattle.node_fields.specs.FieldsWrittenLaws.{number_put}
 use Rattle.node_fields.proofs.fields.set_tag_revision.Statement.{statement}
 use Rattle.node_fields.proofs.fields.set_tag_revision.Tie as tie
-use Rattle.tree.specs.Layout.{tag-revision-offset}
+use Rattle.tree.specs.Layout.{tag_revision_offset}
 
 mul-write-number : tie.Need-overflow-mul-write-number
 mul-write-number c = search rules
@@ -24,7 +24,7 @@ same_length c = search rules
 returns : tie.Need-returns
 returns c =
     let a = c.before.before.before.before.before.args in
-    c.before.before.write-number.ensures ∙ number_put a.tree.now a.i tag-revision-offset a.revision
+    c.before.before.write-number.ensures ∙ number_put a.tree.now a.i tag_revision_offset a.revision
 
 pub set-tag-revision-spec : {M : Type 1} → statement M
 set-tag-revision-spec =

@@ -1,11 +1,11 @@
 -- `nodes::making::may_create` meets its contract: no room, 256 nodes, or the room.
 use mathlib.Core.Path.{sym, ◌∙◌, ap}
 use native.Mathlib.Omega.{arith}
-use Rattle.tree.specs.TreeBytesLaws.{encoded-count}
-use Rattle.gaps.specs.Gaps.{gap_from, gap-told}
-use Rattle.gaps.specs.GapsLaws.{told-not, room-to, room-not}
-use Rattle.nodes.specs.NodeChecks.{may-create}
-use Rattle.nodes.specs.NodeChecksLaws.{making-stops, making-full, making-done}
+use Rattle.tree.specs.TreeBytesLaws.{encoded_count}
+use Rattle.gaps.specs.Gaps.{gap_from, gap_told}
+use Rattle.gaps.specs.GapsLaws.{told_not, room_to, room_not}
+use Rattle.nodes.specs.NodeChecks.{may_create}
+use Rattle.nodes.specs.NodeChecksLaws.{making_stops, making_full, making_done}
 use Rattle.nodes.proofs.making.may_create.Statement.{statement}
 use Rattle.nodes.proofs.making.may_create.Tie as tie
 
@@ -24,22 +24,22 @@ count-requires c κs = c.before.before.before.before.before.before.requires.0.1.
 returns : tie.Need-returns
 returns c t p tree reads =
     let a = c.before.before.before.before.before.before.before.before.args in
-    let g = room-to tree a.account p (c.before.before.before.before.before.room_for.ensures t p tree reads) c.before.before.before.row.given.1 in
-    told-not t p (may-create a.account t p) (making-full a.account t p g.found (omega (arith, c.if1.true, c.before.count.ensures, encoded-count tree)))
+    let g = room_to tree a.account p (c.before.before.before.before.before.room_for.ensures t p tree reads) c.before.before.before.row.given.1 in
+    told_not t p (may_create a.account t p) (making_full a.account t p g.found (omega (arith, c.if1.true, c.before.count.ensures, encoded_count tree)))
 
 returns-2 : tie.Need-returns-2
 returns-2 c t p tree reads =
     let a = c.before.before.before.before.before.before.args in
-    told-not t p (may-create a.account t p)
-    (making-stops a.account t p (room-not tree a.account p (c.before.before.before.room_for.ensures t p tree reads) c.before.cause.given.1))
+    told_not t p (may_create a.account t p)
+    (making_stops a.account t p (room_not tree a.account p (c.before.before.before.room_for.ensures t p tree reads) c.before.cause.given.1))
 
 returns-3 : tie.Need-returns-3
 returns-3 c t p tree reads =
     let a = c.before.before.before.before.before.before.before.before.args in
     let told = c.before.before.before.before.before.room_for.ensures t p tree reads in
-    let g = room-to tree a.account p told c.before.before.before.row.given.1 in
-    let fits = making-done a.account t p g.found (omega (arith, c.if1.false, c.before.count.ensures, encoded-count tree)) in
-    sym (ap gap-told c.before.before.before.row.given.1) ∙ told ∙ ap (gap_from t p) (g.found ∙ sym fits)
+    let g = room_to tree a.account p told c.before.before.before.row.given.1 in
+    let fits = making_done a.account t p g.found (omega (arith, c.if1.false, c.before.count.ensures, encoded_count tree)) in
+    sym (ap gap_told c.before.before.before.row.given.1) ∙ told ∙ ap (gap_from t p) (g.found ∙ sym fits)
 
 pub may-create-spec : {M : Type 1} → statement M
 may-create-spec =

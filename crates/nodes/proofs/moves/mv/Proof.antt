@@ -3,12 +3,12 @@ use mathlib.Core.Path.{sym, ◌∙◌, ap}
 use mathlib.Core.List.{List}
 use Prim.Native.Nat.{ℕ}
 use borrow.Author.Rules.{rules}
-use Rattle.tree.specs.Encoding.{encode-tree}
+use Rattle.tree.specs.Encoding.{encode_tree}
 use Rattle.edits.specs.Changes.{rows_taken}
-use Rattle.gaps.specs.GapsLaws.{place-row}
-use Rattle.shell.specs.CommandBytesLaws.{refusal-follows, silence-follows}
-use Rattle.nodes.specs.MoveChecksLaws.{mv-refused, mv-done, moving-passed, told-refused, told-itself, found-into, found-onto}
-use Rattle.nodes.specs.NodeChangesLaws.{movable, movable-moves, copied-row, replace-law, still-law}
+use Rattle.gaps.specs.GapsLaws.{place_row}
+use Rattle.shell.specs.CommandBytesLaws.{refusal_follows, silence_follows}
+use Rattle.nodes.specs.MoveChecksLaws.{mv_refused, mv_done, moving_passed, told_refused, told_itself, found_into, found_onto}
+use Rattle.nodes.specs.NodeChangesLaws.{movable, movable_moves, copied_row, replace_law, still_law}
 use Rattle.nodes.proofs.moves.mv.Statement.{statement}
 use Rattle.nodes.proofs.moves.mv.Tie as tie
 
@@ -24,8 +24,8 @@ move-place-requires c κs =
     let t = s.requires.0 in
     let p = s.requires.1.0 in
     let q = s.requires.1.1 in
-    let f = found-into t.1 s.args.caller.account p.0 q.0 (sym c.before.before.row.given.1 ∙ c.before.before.before.before.may-move.ensures t.0 p.0 q.0 t.1 p.1 q.1) in
-    movable t.1 s.args.to.now q.1 f.2 (moving-passed s.args.caller.account t.0 p.0 q.0 f.1)
+    let f = found_into t.1 s.args.caller.account p.0 q.0 (sym c.before.before.row.given.1 ∙ c.before.before.before.before.may_move.ensures t.0 p.0 q.0 t.1 p.1 q.1) in
+    movable t.1 s.args.to.now q.1 f.2 (moving_passed s.args.caller.account t.0 p.0 q.0 f.1)
 
 enum-known-row-2 : tie.Need-enum-known-row-2
 enum-known-row-2 c = search rules
@@ -36,8 +36,8 @@ copy-node-requires c κs =
     let t = s.requires.0 in
     let p = s.requires.1.0 in
     let q = s.requires.1.1 in
-    let f = found-onto t.1 s.args.caller.account p.0 q.0 (sym c.before.before.row2.given.1 ∙ c.before.before.before.before.may-move.ensures t.0 p.0 q.0 t.1 p.1 q.1) in
-    (place-row f.4.0, place-row f.4.1)
+    let f = found_onto t.1 s.args.caller.account p.0 q.0 (sym c.before.before.row2.given.1 ∙ c.before.before.before.before.may_move.ensures t.0 p.0 q.0 t.1 p.1 q.1) in
+    (place_row f.4.0, place_row f.4.1)
 
 take-rows-requires : tie.Need-take-rows-requires
 take-rows-requires c κs =
@@ -45,8 +45,8 @@ take-rows-requires c κs =
     let t = s.requires.0 in
     let p = s.requires.1.0 in
     let q = s.requires.1.1 in
-    let f = found-onto t.1 s.args.caller.account p.0 q.0 (sym c.before.before.before.before.before.before.row2.given.1 ∙ c.before.before.before.before.before.before.before.before.may-move.ensures t.0 p.0 q.0 t.1 p.1 q.1) in
-    rw c.before.before.before.copy-node.ensures (copied-row f.4.0 f.4.1 (moving-passed s.args.caller.account t.0 p.0 q.0 f.2))
+    let f = found_onto t.1 s.args.caller.account p.0 q.0 (sym c.before.before.before.before.before.before.row2.given.1 ∙ c.before.before.before.before.before.before.before.before.may_move.ensures t.0 p.0 q.0 t.1 p.1 q.1) in
+    rw c.before.before.before.copy_node.ensures (copied_row f.4.0 f.4.1 (moving_passed s.args.caller.account t.0 p.0 q.0 f.2))
 
 enum_told : tie.Need-enum-told
 enum_told c = search rules
@@ -60,10 +60,10 @@ same_length c = search rules
 returns : tie.Need-returns
 returns c t p q tree from to =
     let a = c.before.before.before.before.before.before.before.before.before.before.before.before.before.args in
-    let f = found-into tree a.caller.account p q (sym c.before.before.before.before.before.row.given.1 ∙ c.before.before.before.before.before.before.before.may-move.ensures t p q tree from to) in
-    let m = moving-passed a.caller.account t p q f.1 in
-    silence-follows a.tree.now _ (mv-done a.caller t p q f.1)
-    (c.before.before.move-place.ensures (movable tree a.to.now to f.2 m) ∙ ap encode-tree (movable-moves tree a.to.now to f.2 m))
+    let f = found_into tree a.caller.account p q (sym c.before.before.before.before.before.row.given.1 ∙ c.before.before.before.before.before.before.before.may_move.ensures t p q tree from to) in
+    let m = moving_passed a.caller.account t p q f.1 in
+    silence_follows a.tree.now _ (mv_done a.caller t p q f.1)
+    (c.before.before.move-place.ensures (movable tree a.to.now to f.2 m) ∙ ap encode_tree (movable_moves tree a.to.now to f.2 m))
 
 same-length-2 : tie.Need-same-length-2
 same-length-2 c = search rules
@@ -71,10 +71,10 @@ same-length-2 c = search rules
 returns-2 : tie.Need-returns-2
 returns-2 c t p q tree from to =
     let a = c.before.before.before.before.before.before.before.before.before.before.before.before.before.before.before.before.before.args in
-    let f = found-onto tree a.caller.account p q (sym c.before.before.before.before.before.before.before.before.before.row2.given.1 ∙ c.before.before.before.before.before.before.before.before.before.before.before.may-move.ensures t p q tree from to) in
-    let m = moving-passed a.caller.account t p q f.2 in
-    silence-follows a.tree.now _ (mv-done a.caller t p q f.2)
-    (c.before.before.take-rows.ensures ∙ ap (λ (b : List ℕ). rows_taken b c.before.before.before.before.before.before.before.before.before.row2.given.0.0 1) c.before.before.before.before.before.before.copy-node.ensures ∙ replace-law f.4.0 f.4.1 m f.3)
+    let f = found_onto tree a.caller.account p q (sym c.before.before.before.before.before.before.before.before.before.row2.given.1 ∙ c.before.before.before.before.before.before.before.before.before.before.before.may_move.ensures t p q tree from to) in
+    let m = moving_passed a.caller.account t p q f.2 in
+    silence_follows a.tree.now _ (mv_done a.caller t p q f.2)
+    (c.before.before.take-rows.ensures ∙ ap (λ (b : List ℕ). rows_taken b c.before.before.before.before.before.before.before.before.before.row2.given.0.0 1) c.before.before.before.before.before.before.copy_node.ensures ∙ replace_law f.4.0 f.4.1 m f.3)
 
 same-length-3 : tie.Need-same-length-3
 same-length-3 c = search rules
@@ -82,8 +82,8 @@ same-length-3 c = search rules
 returns-3 : tie.Need-returns-3
 returns-3 c t p q tree from to =
     let a = c.before.before.before.before.before.before.before.before.args in
-    let i = told-itself t p q _ (sym c.enum_told.given.1 ∙ c.before.before.may-move.ensures t p q tree from to) in
-    silence-follows a.tree.now _ (mv-done a.caller t p q i.2) (still-law tree p q i.0 i.1 i.3)
+    let i = told_itself t p q _ (sym c.enum_told.given.1 ∙ c.before.before.may_move.ensures t p q tree from to) in
+    silence_follows a.tree.now _ (mv_done a.caller t p q i.2) (still_law tree p q i.0 i.1 i.3)
 
 same-length-4 : tie.Need-same-length-4
 same-length-4 c = search rules
@@ -91,7 +91,7 @@ same-length-4 c = search rules
 returns-4 : tie.Need-returns-4
 returns-4 c t p q tree from to =
     let a = c.before.before.before.before.before.before.before.before.before.args in
-    refusal-follows a.tree.now (mv-refused a.caller t p q (told-refused t p q _ (sym c.before.cause.given.1 ∙ c.before.before.before.may-move.ensures t p q tree from to)))
+    refusal_follows a.tree.now (mv_refused a.caller t p q (told_refused t p q _ (sym c.before.cause.given.1 ∙ c.before.before.before.may_move.ensures t p q tree from to)))
 
 pub mv-spec : {M : Type 1} → statement M
 mv-spec =

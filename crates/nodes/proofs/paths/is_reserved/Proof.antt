@@ -4,17 +4,17 @@ use mathlib.Core.List.{[], ◌∷◌}
 use mathlib.Core.Bool.{Bool, true, false}
 use Rattle.buffers.specs.Text.{Text, same_text}
 use Rattle.syntax.specs.Pieces.{bytes}
-use Rattle.nodes.specs.NodeChecks.{text-reserved}
+use Rattle.nodes.specs.NodeChecks.{text_reserved}
 use Rattle.nodes.proofs.paths.is_reserved.Statement.{statement}
 use Rattle.nodes.proofs.paths.is_reserved.Tie as tie
 
 module _ (s : Text) {r : Bool} (first : r ≡ same_text s (47 ∷ [])) where
-  by_first : r ≡ true → true ≡ text-reserved s
-  unfolding text-reserved bytes
+  by_first : r ≡ true → true ≡ text_reserved s
+  unfolding text_reserved bytes
   by_first e = rw (← first, e)
 
-  by-second : r ≡ false → {z : Bool} → z ≡ same_text s (47 ∷ 114 ∷ 101 ∷ 112 ∷ []) → z ≡ text-reserved s
-  unfolding text-reserved bytes
+  by-second : r ≡ false → {z : Bool} → z ≡ same_text s (47 ∷ 114 ∷ 101 ∷ 112 ∷ []) → z ≡ text_reserved s
+  unfolding text_reserved bytes
   by-second e second = rw (← first, e) second
 
 slice-aggregate-same : tie.Need-slice-aggregate-same

@@ -3,16 +3,16 @@ use mathlib.Core.Path.{◌≡◌, sym, ◌∙◌, ap}
 use mathlib.Core.Bool.{not}
 use Rattle.tree.specs.declared.Kind.{Kind}
 use Rattle.tree.specs.declared.Kind.TheVariants.{File, Directory}
-use Rattle.tree.specs.Node.{is-directory, same_kind}
-use Rattle.tree.specs.JudgeLaws.{file-is-none, directory-is-one, kind-of-file, kind-of-directory}
+use Rattle.tree.specs.Node.{is_directory, same_kind}
+use Rattle.tree.specs.JudgeLaws.{file_is_none, directory_is_one, kind_of_file, kind_of_directory}
 use Rattle.nodes.proofs.removing.is_of_kind.Statement.{statement}
 use Rattle.nodes.proofs.removing.is_of_kind.Tie as tie
 
-asked-file : {j : Kind} (k : Kind) {i : Kind} → j ≡ File → i ≡ k → same_kind i j ≡ not (is-directory k)
-asked-file k e h = rw (e, h) (kind-of-file k)
+asked-file : {j : Kind} (k : Kind) {i : Kind} → j ≡ File → i ≡ k → same_kind i j ≡ not (is_directory k)
+asked-file k e h = rw (e, h) (kind_of_file k)
 
-asked-directory : {j : Kind} (k : Kind) {i : Kind} → j ≡ Directory → i ≡ k → same_kind i j ≡ is-directory k
-asked-directory k e h = rw (e, h) (kind-of-directory k)
+asked-directory : {j : Kind} (k : Kind) {i : Kind} → j ≡ Directory → i ≡ k → same_kind i j ≡ is_directory k
+asked-directory k e h = rw (e, h) (kind_of_directory k)
 
 enum_told : tie.Need-enum-told
 enum_told c = c.match.keys1
@@ -40,19 +40,19 @@ enum-told-6 c = c.match3.keys2
 
 returns : tie.Need-returns
 returns c =
-    sym (asked-file File c.before.before.before.enum_told.given.1 (sym c.before.before.kind_at.ensures ∙ c.enum-told2.given.1) ∙ ap not file-is-none)
+    sym (asked-file File c.before.before.before.enum_told.given.1 (sym c.before.before.kind_at.ensures ∙ c.enum-told2.given.1) ∙ ap not file_is_none)
 
 returns-2 : tie.Need-returns-2
 returns-2 c =
-    sym (asked-file Directory c.before.before.before.enum_told.given.1 (sym c.before.before.kind_at.ensures ∙ c.enum-told3.given.1) ∙ ap not directory-is-one)
+    sym (asked-file Directory c.before.before.before.enum_told.given.1 (sym c.before.before.kind_at.ensures ∙ c.enum-told3.given.1) ∙ ap not directory_is_one)
 
 returns-3 : tie.Need-returns-3
 returns-3 c =
-    sym (asked-directory File c.before.before.before.enum-told4.given.1 (sym c.before.before.kind-at2.ensures ∙ c.enum-told5.given.1) ∙ file-is-none)
+    sym (asked-directory File c.before.before.before.enum-told4.given.1 (sym c.before.before.kind-at2.ensures ∙ c.enum-told5.given.1) ∙ file_is_none)
 
 returns-4 : tie.Need-returns-4
 returns-4 c =
-    sym (asked-directory Directory c.before.before.before.enum-told4.given.1 (sym c.before.before.kind-at2.ensures ∙ c.enum-told6.given.1) ∙ directory-is-one)
+    sym (asked-directory Directory c.before.before.before.enum-told4.given.1 (sym c.before.before.kind-at2.ensures ∙ c.enum-told6.given.1) ∙ directory_is_one)
 
 pub is-of-kind-spec : {M : Type 1} → statement M
 is-of-kind-spec =

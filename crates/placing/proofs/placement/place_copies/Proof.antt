@@ -1,7 +1,7 @@
 -- `placing::placement::place_copies` meets its contract: copies that are ready make the tree of the steps, and a refusal is theirs.
 use mathlib.Core.Path.{refl}
-use Rattle.shell.specs.CommandBytesLaws.{refusal-follows}
-use Rattle.placing.specs.PlacingLaws.{ready_of, refused-of, ready-follows}
+use Rattle.shell.specs.CommandBytesLaws.{refusal_follows}
+use Rattle.placing.specs.PlacingLaws.{ready_of, refused_of, ready_follows}
 use Rattle.placing.proofs.placement.place_copies.Statement.{statement}
 use Rattle.placing.proofs.placement.place_copies.Tie as tie
 
@@ -32,7 +32,7 @@ returns c =
     let s = c.before.before.before.before.before.before.before.before.before.before.before.before.before.before.before.before.before in
     let f = c.before.before.before.before.before.before.before.before.before.before.copies-for in
     let p = c.before.before.put-copies in (
-      (λ j. ready-follows p.new.0 (ready_of s.args.tree.now f.new.1.1.1.1.1.0 s.args.site.at (f.ensures.0 j) c.before.before.before.before.before.before.n.given.1) p.ensures),
+      (λ j. ready_follows p.new.0 (ready_of s.args.tree.now f.new.1.1.1.1.1.0 s.args.site.at (f.ensures.0 j) c.before.before.before.before.before.before.n.given.1) p.ensures),
       f.ensures.1,
     )
 
@@ -47,7 +47,7 @@ returns-2 c =
     let s = c.before.before.before.before.before.before.before.before.before.before.before.before in
     let f = c.before.before.before.before.before.copies-for in
     let b = s.args.tree.now in (
-      (λ j. refusal-follows b (refused-of b f.new.1.1.1.1.1.0 s.args.site.at (f.ensures.0 j) c.before.cause.given.1)),
+      (λ j. refusal_follows b (refused_of b f.new.1.1.1.1.1.0 s.args.site.at (f.ensures.0 j) c.before.cause.given.1)),
       f.ensures.1,
     )
 

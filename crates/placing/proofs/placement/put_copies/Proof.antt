@@ -4,7 +4,7 @@ use Prim.Native.Nat.{◌-◌}
 use native.Mathlib.Omega.{arith}
 use lib.ListN.{length, drop, length-drop}
 use lib.Seq.{take_all}
-use Rattle.edits.specs.Changes.{rows-put}
+use Rattle.edits.specs.Changes.{rows_put}
 use borrow.Author.Rules.{rules}
 use Rattle.placing.proofs.placement.put_copies.Statement.{statement}
 use Rattle.placing.proofs.placement.put_copies.Tie as tie
@@ -22,13 +22,13 @@ put-rows-requires : tie.Need-put-rows-requires
 put-rows-requires c κs = search rules
 
 same_length : tie.Need-same-length
-same_length c = c.before.before.put-rows.auto.0
+same_length c = c.before.before.put_rows.auto.0
 
 returns : tie.Need-returns
 returns c =
     let a = c.before.before.before.before.before.before.before.args in
     let o = a.out.now in
-    c.before.before.put-rows.ensures ∙ ap (rows-put a.tree.now a.at a.n) (take_all (length o - 2) (drop 2 o) (omega (arith, length-drop 2 o)))
+    c.before.before.put_rows.ensures ∙ ap (rows_put a.tree.now a.at a.n) (take_all (length o - 2) (drop 2 o) (omega (arith, length-drop 2 o)))
 
 pub put-copies-spec : {M : Type 1} → statement M
 put-copies-spec =

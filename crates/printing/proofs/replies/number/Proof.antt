@@ -1,5 +1,5 @@
 -- `printing::replies::number` meets its contract: each arm has the number of its row in the table.
-use Rattle.tree.specs.CausesLaws.{no-form-number, unknown-caller-number, missing-number, not-directory-number, access-number, exists-number, wrong-kind-number, not-empty-number, reserved-number, full-number, into-itself-number, no-session-number, no-grant-number, stale-number, untagged-number, revisions-spent-number, unsound-number, too-deep-number, short-answer-number}
+use Rattle.tree.specs.CausesLaws.{no_form_number, unknown_caller_number, missing_number, not_directory_number, access_number, exists_number, wrong_kind_number, not_empty_number, reserved_number, full_number, into_itself_number, no_session_number, no_grant_number, stale_number, untagged_number, revisions_spent_number, unsound_number, too_deep_number, short_answer_number}
 use borrow.Author.Rules.{rules}
 use Rattle.printing.proofs.replies.number.Statement.{statement}
 use Rattle.printing.proofs.replies.number.Tie as tie
@@ -62,61 +62,61 @@ enum-told-19 : tie.Need-enum-told-19
 enum-told-19 c = search rules
 
 returns : tie.Need-returns
-returns c = rw (c.enum_told.given.1, no-form-number)
+returns c = rw (c.enum_told.given.1, no_form_number)
 
 returns-2 : tie.Need-returns-2
-returns-2 c = rw (c.enum-told2.given.1, unknown-caller-number)
+returns-2 c = rw (c.enum-told2.given.1, unknown_caller_number)
 
 returns-3 : tie.Need-returns-3
-returns-3 c = rw (c.enum-told3.given.1, missing-number)
+returns-3 c = rw (c.enum-told3.given.1, missing_number)
 
 returns-4 : tie.Need-returns-4
-returns-4 c = rw (c.enum-told4.given.1, not-directory-number)
+returns-4 c = rw (c.enum-told4.given.1, not_directory_number)
 
 returns-5 : tie.Need-returns-5
-returns-5 c = rw (c.enum-told5.given.1, access-number)
+returns-5 c = rw (c.enum-told5.given.1, access_number)
 
 returns-6 : tie.Need-returns-6
-returns-6 c = rw (c.enum-told6.given.1, exists-number)
+returns-6 c = rw (c.enum-told6.given.1, exists_number)
 
 returns-7 : tie.Need-returns-7
-returns-7 c = rw (c.enum-told7.given.1, wrong-kind-number)
+returns-7 c = rw (c.enum-told7.given.1, wrong_kind_number)
 
 returns-8 : tie.Need-returns-8
-returns-8 c = rw (c.enum-told8.given.1, not-empty-number)
+returns-8 c = rw (c.enum-told8.given.1, not_empty_number)
 
 returns-9 : tie.Need-returns-9
-returns-9 c = rw (c.enum-told9.given.1, reserved-number)
+returns-9 c = rw (c.enum-told9.given.1, reserved_number)
 
 returns-10 : tie.Need-returns-10
-returns-10 c = rw (c.enum-told10.given.1, full-number)
+returns-10 c = rw (c.enum-told10.given.1, full_number)
 
 returns-11 : tie.Need-returns-11
-returns-11 c = rw (c.enum-told11.given.1, into-itself-number)
+returns-11 c = rw (c.enum-told11.given.1, into_itself_number)
 
 returns-12 : tie.Need-returns-12
-returns-12 c = rw (c.enum-told12.given.1, no-session-number)
+returns-12 c = rw (c.enum-told12.given.1, no_session_number)
 
 returns-13 : tie.Need-returns-13
-returns-13 c = rw (c.enum-told13.given.1, no-grant-number)
+returns-13 c = rw (c.enum-told13.given.1, no_grant_number)
 
 returns-14 : tie.Need-returns-14
-returns-14 c = rw (c.enum-told14.given.1, stale-number)
+returns-14 c = rw (c.enum-told14.given.1, stale_number)
 
 returns-15 : tie.Need-returns-15
-returns-15 c = rw (c.enum-told15.given.1, untagged-number)
+returns-15 c = rw (c.enum-told15.given.1, untagged_number)
 
 returns-16 : tie.Need-returns-16
-returns-16 c = rw (c.enum-told16.given.1, revisions-spent-number)
+returns-16 c = rw (c.enum-told16.given.1, revisions_spent_number)
 
 returns-17 : tie.Need-returns-17
-returns-17 c = rw (c.enum-told17.given.1, unsound-number)
+returns-17 c = rw (c.enum-told17.given.1, unsound_number)
 
 returns-18 : tie.Need-returns-18
-returns-18 c = rw (c.enum-told18.given.1, too-deep-number)
+returns-18 c = rw (c.enum-told18.given.1, too_deep_number)
 
 returns-19 : tie.Need-returns-19
-returns-19 c = rw (c.enum-told19.given.1, short-answer-number)
+returns-19 c = rw (c.enum-told19.given.1, short_answer_number)
 
 pub number-spec : {M : Type 1} → statement M
 number-spec =

@@ -3,9 +3,9 @@ use mathlib.Core.Path.{◌∙◌, ap}
 use mathlib.Core.List.{◌++◌}
 use Prim.Native.Nat.{ℕ}
 use native.Mathlib.Omega.{arith}
-use Rattle.syntax.specs.Number.{decimal-text}
+use Rattle.syntax.specs.Number.{decimal_text}
 use Rattle.syntax.specs.Pieces.{bytes}
-use Rattle.printing.specs.PrintedLaws.{wrote-most, wrote-within, done-is, text-is, refusal_is, wrong-line-is}
+use Rattle.printing.specs.PrintedLaws.{wrote_most, wrote_within, done_is, text_is, refusal_is, wrong_line_is}
 use borrow.Author.Rules.{rules}
 use Rattle.printing.proofs.replies.write_answer.Statement.{statement}
 use Rattle.printing.proofs.replies.write_answer.Tie as tie
@@ -56,7 +56,7 @@ returns : tie.Need-returns
 unfolding bytes
 returns c =
     let a = c.before.before.before.before.before.before.before.before.before.args in
-    rw c.before.before.before.before.before.enum_told.given.1 (wrote-within (wrote-most c.before.before.write_word.ensures) (done-is a.answer.now) (omega arith))
+    rw c.before.before.before.before.before.enum_told.given.1 (wrote_within (wrote_most c.before.before.write_word.ensures) (done_is a.answer.now) (omega arith))
 
 same-length-2 : tie.Need-same-length-2
 same-length-2 c = search rules
@@ -66,7 +66,7 @@ unfolding bytes
 returns-2 c =
     let a = c.before.before.before.before.before.before.before.before.before.args in
     let t = c.before.before.before.before.before.r.given in
-    rw t.1 (wrote-within c.before.before.write-ok.ensures (text-is a.answer.now t.0.0) (omega arith))
+    rw t.1 (wrote_within c.before.before.write-ok.ensures (text_is a.answer.now t.0.0) (omega arith))
 
 same-length-3 : tie.Need-same-length-3
 same-length-3 c = search rules
@@ -76,8 +76,8 @@ unfolding bytes
 returns-3 c =
     let a = c.before.before.before.before.before.before.before.before.before.before.before.args in
     let t = c.before.before.before.before.before.before.before.r2.given in
-    let line = ap (λ (n : ℕ). bytes "no," ++ decimal-text n) c.before.before.before.number.ensures ∙ refusal_is a.answer.now t.0.0 in
-    rw t.1 (wrote-within c.before.before.write-no.ensures line (omega arith))
+    let line = ap (λ (n : ℕ). bytes "no," ++ decimal_text n) c.before.before.before.number.ensures ∙ refusal_is a.answer.now t.0.0 in
+    rw t.1 (wrote_within c.before.before.write-no.ensures line (omega arith))
 
 same-length-4 : tie.Need-same-length-4
 same-length-4 c = search rules
@@ -87,7 +87,7 @@ unfolding bytes
 returns-4 c =
     let a = c.before.before.before.before.before.before.before.before.before.before.args in
     let t = c.before.before.before.before.before.before.r3.given in
-    rw t.1 (wrote-within c.before.before.write-no2.ensures (wrong-line-is a.answer.now t.0.0) (omega arith))
+    rw t.1 (wrote_within c.before.before.write-no2.ensures (wrong_line_is a.answer.now t.0.0) (omega arith))
 
 pub write-answer-spec : {M : Type 1} → statement M
 write-answer-spec =

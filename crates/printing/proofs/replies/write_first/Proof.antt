@@ -1,6 +1,6 @@
 -- `printing::replies::write_first` meets its contract: the first bytes are copied, or all where there are no more.
 use native.Mathlib.Omega.{arith}
-use Rattle.printing.specs.PrintedLaws.{wrote-first, wrote-all}
+use Rattle.printing.specs.PrintedLaws.{wrote_first, wrote_all}
 use borrow.Author.Rules.{rules}
 use Rattle.printing.proofs.replies.write_first.Statement.{statement}
 use Rattle.printing.proofs.replies.write_first.Tie as tie
@@ -17,7 +17,7 @@ same_length c = search rules
 returns : tie.Need-returns
 returns c =
     let a = c.before.before.before.before.before.before.before.args in
-    rw c.before.before.write.ensures (wrote-first a.answer.now a.out.now a.at a.n (omega arith))
+    rw c.before.before.write.ensures (wrote_first a.answer.now a.out.now a.at a.n (omega arith))
 
 write-word-requires : tie.Need-write-word-requires
 write-word-requires c κs = search rules
@@ -29,7 +29,7 @@ returns-2 : tie.Need-returns-2
 returns-2 c =
     let a = c.before.before.before.before.before.before.before.args in
     let w = c.before.before.write_word in
-    wrote-all a.answer.now a.out.now w.new.0 a.at a.n w.result (omega arith) w.ensures
+    wrote_all a.answer.now a.out.now w.new.0 a.at a.n w.result (omega arith) w.ensures
 
 pub write-first-spec : {M : Type 1} → statement M
 write-first-spec =

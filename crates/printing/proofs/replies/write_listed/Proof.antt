@@ -1,6 +1,6 @@
 -- `printing::replies::write_listed` meets its contract: the length that an answer tells is that of its text, and 0 where it tells none.
 use Rattle.shell.specs.Replies.{told}
-use Rattle.calls.specs.Program.{text-told}
+use Rattle.calls.specs.Program.{text_told}
 use borrow.Author.Rules.{rules}
 use Rattle.printing.proofs.replies.write_listed.Statement.{statement}
 use Rattle.printing.proofs.replies.write_listed.Tie as tie
@@ -33,28 +33,28 @@ same_length : tie.Need-same-length
 same_length c = search rules
 
 returns : tie.Need-returns
-unfolding told text-told
+unfolding told text_told
 returns c = rw c.before.before.before.before.enum_told.given.1 c.before.before.write-text.ensures
 
 same-length-2 : tie.Need-same-length-2
 same-length-2 c = search rules
 
 returns-2 : tie.Need-returns-2
-unfolding told text-told
+unfolding told text_told
 returns-2 c = rw c.before.before.before.before.before.r.given.1 c.before.before.write-text2.ensures
 
 same-length-3 : tie.Need-same-length-3
 same-length-3 c = search rules
 
 returns-3 : tie.Need-returns-3
-unfolding told text-told
+unfolding told text_told
 returns-3 c = rw c.before.before.before.before.enum-told2.given.1 c.before.before.write-text3.ensures
 
 same-length-4 : tie.Need-same-length-4
 same-length-4 c = search rules
 
 returns-4 : tie.Need-returns-4
-unfolding told text-told
+unfolding told text_told
 returns-4 c = rw c.before.before.before.before.before.r2.given.1 c.before.before.write-text4.ensures
 
 pub write-listed-spec : {M : Type 1} → statement M

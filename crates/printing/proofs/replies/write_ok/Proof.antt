@@ -2,7 +2,7 @@
 use native.Mathlib.Omega.{arith}
 use mathlib.Core.Path.{refl}
 use Rattle.syntax.specs.Pieces.{bytes}
-use Rattle.printing.specs.PrintedLaws.{wrote-behind, wrote-within}
+use Rattle.printing.specs.PrintedLaws.{wrote_behind, wrote_within}
 use borrow.Author.Rules.{rules}
 use Rattle.printing.proofs.replies.write_ok.Statement.{statement}
 use Rattle.printing.proofs.replies.write_ok.Tie as tie
@@ -21,7 +21,7 @@ same_length c = search rules
 
 returns : tie.Need-returns
 unfolding bytes
-returns c = wrote-within (wrote-behind c.before.before.before.before.before.before.write_word.ensures c.before.before.write-first.ensures (omega arith)) refl (omega arith)
+returns c = wrote_within (wrote_behind c.before.before.before.before.before.before.write_word.ensures c.before.before.write-first.ensures (omega arith)) refl (omega arith)
 
 pub write-ok-spec : {M : Type 1} → statement M
 write-ok-spec =

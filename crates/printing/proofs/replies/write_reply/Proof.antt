@@ -1,7 +1,7 @@
 -- `printing::replies::write_reply` meets its contract: byte 10 stands behind the line.
 use native.Mathlib.Omega.{arith}
 use Rattle.syntax.specs.Pieces.{newline}
-use Rattle.printing.specs.PrintedLaws.{printed-line}
+use Rattle.printing.specs.PrintedLaws.{printed_line}
 use borrow.Author.Rules.{rules}
 use Rattle.printing.proofs.replies.write_reply.Statement.{statement}
 use Rattle.printing.proofs.replies.write_reply.Tie as tie
@@ -20,7 +20,7 @@ same_length c = search rules
 
 returns : tie.Need-returns
 unfolding newline
-returns c = let w = c.before.before.write-answer in printed-line w.ensures w.auto.0 (omega arith)
+returns c = let w = c.before.before.write-answer in printed_line w.ensures w.auto.0 (omega arith)
 
 pub write-reply-spec : {M : Type 1} → statement M
 write-reply-spec =

@@ -1,5 +1,5 @@
 -- `runner::sessions_part::as_role` meets its contract: the rows tell the role's account, which acts in the session.
-use Rattle.runner.specs.SessionStepLaws.{acting, acting-as}
+use Rattle.runner.specs.SessionStepLaws.{acting, acting_as}
 use Rattle.runner.proofs.sessions_part.as_role.Statement.{statement}
 use Rattle.runner.proofs.sessions_part.as_role.Tie as tie
 
@@ -18,7 +18,7 @@ entry-command-requires c κs =
     let rows = c.before.before.before.dominance-in.ensures s h in
     let told = c.before.before.account.ensures in
     let j = acting h p.args.caller kept rows told in
-    ((j, h, acting-as h p.args.caller kept rows told, rows), (p.requires.1.0, p.requires.1.1.0))
+    ((j, h, acting_as h p.args.caller kept rows told, rows), (p.requires.1.0, p.requires.1.1.0))
 
 returns : tie.Need-returns
 returns c s k h m =
@@ -27,7 +27,7 @@ returns c s k h m =
     let rows = c.before.before.before.before.before.before.before.before.dominance-in.ensures s h in
     let told = c.before.before.before.before.before.before.before.account.ensures in
     let j = acting h p.args.caller kept rows told in
-    c.before.before.before.before.entry-command.ensures j k h m (acting-as h p.args.caller kept rows told) rows
+    c.before.before.before.before.entry-command.ensures j k h m (acting_as h p.args.caller kept rows told) rows
 
 pub as-role-spec : {M : Type 1} → statement M
 as-role-spec =

@@ -1,7 +1,7 @@
 -- `runner::sessions_part::in_session` meets its contract: without a session it is refused, else it is that of the role.
 use mathlib.Core.Path.{sym, ◌∙◌, refl}
-use Rattle.header.specs.SessionBytesLaws.{role-bounded}
-use Rattle.runner.specs.SessionStepLaws.{nobody-carries}
+use Rattle.header.specs.SessionBytesLaws.{role_bounded}
+use Rattle.runner.specs.SessionStepLaws.{nobody_carries}
 use Rattle.runner.proofs.sessions_part.in_session.Statement.{statement}
 use Rattle.runner.proofs.sessions_part.in_session.Tie as tie
 
@@ -20,7 +20,7 @@ as-role-requires c κs =
     let h = p.requires.0 in
     let is = sym c.before.before.before.role.given.1 in
     let held = c.before.before.before.before.before.session-in.ensures in
-    (h, (p.requires.1.0, (p.requires.1.1.0, (role-bounded _ (_, is ∙ held h.0 h.1), λ s t. is ∙ held s t))))
+    (h, (p.requires.1.0, (p.requires.1.1.0, (role_bounded _ (_, is ∙ held h.0 h.1), λ s t. is ∙ held s t))))
 
 same_length : tie.Need-same-length
 same_length c = refl
@@ -28,7 +28,7 @@ same_length c = refl
 returns : tie.Need-returns
 returns c s k h m =
     let a = c.before.before.before.before.before.before.before.before.args in
-    nobody-carries h a.caller k (sym c.enum_told.given.1 ∙ c.before.before.session-in.ensures s h) a.answer.now
+    nobody_carries h a.caller k (sym c.enum_told.given.1 ∙ c.before.before.session-in.ensures s h) a.answer.now
 
 same-length-2 : tie.Need-same-length-2
 same-length-2 c = c.before.before.before.before.as-role.auto.0

@@ -1,12 +1,12 @@
 -- `setups::directories::write_directories` meets its contract: after k turns those of the accounts below k are written.
 use Prim.Native.Nat.{◌-◌}
 use native.Mathlib.Omega.{arith}
-use Rattle.setups.specs.DirectoriesLaws.{Directories-written, none_written, one_written, all-written}
+use Rattle.setups.specs.DirectoriesLaws.{DirectoriesWritten, none_written, one_written, all_written}
 use Rattle.setups.proofs.directories.write_directories.Statement.{statement}
 use Rattle.setups.proofs.directories.write_directories.Tie as tie
 
 abbrev invariant-loop : tie.invariant-loop
-invariant-loop header₀ persons k₀ header k = Directories-written header₀ persons header k
+invariant-loop header₀ persons k₀ header k = DirectoriesWritten header₀ persons header k
 
 abbrev decreases-loop : tie.decreases-loop
 decreases-loop header₀ persons k₀ header k = 16 - k
@@ -38,7 +38,7 @@ same_length : tie.Need-same-length invariant-loop decreases-loop
 same_length c = omega arith
 
 returns : tie.Need-returns invariant-loop decreases-loop
-returns c = all-written c.before.loop.invariant (omega arith)
+returns c = all_written c.before.loop.invariant (omega arith)
 
 pub write-directories-spec : {M : Type 1} → statement M
 write-directories-spec =

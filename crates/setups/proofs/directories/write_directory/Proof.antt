@@ -5,9 +5,9 @@ use Prim.Native.Nat.{ℕ}
 use native.Mathlib.Omega.{arith}
 use lib.Seq.{paste}
 use Rattle.accounts.specs.declared.Uid.{Uid}
-use Rattle.store.specs.HeaderLayout.{directory-width, directory-start}
-use Rattle.store.specs.InitialRowsLaws.{short-path, long_path}
-use Rattle.setups.specs.DirectoriesLaws.{begins-at-top, begins-at-home}
+use Rattle.store.specs.HeaderLayout.{directory_width, directory_start}
+use Rattle.store.specs.InitialRowsLaws.{short_path, long_path}
+use Rattle.setups.specs.DirectoriesLaws.{begins_at_top, begins_at_home}
 use borrow.Author.Rules.{rules}
 use Rattle.setups.proofs.directories.write_directory.Statement.{statement}
 use Rattle.setups.proofs.directories.write_directory.Tie as tie
@@ -31,7 +31,7 @@ returns : tie.Need-returns
 returns c =
     let a = c.before.before.before.before.before.before.before.before.before.args in
     c.before.before.write-padded.ensures
-    ∙ ap (λ (x : List ℕ). paste a.header.now (directory-start a.k) x directory-width) (begins-at-top (record { 0 = a.k }) a.person (omega arith))
+    ∙ ap (λ (x : List ℕ). paste a.header.now (directory_start a.k) x directory_width) (begins_at_top (record { 0 = a.k }) a.person (omega arith))
 
 cast-uid : tie.Need-overflow-cast-uid
 cast-uid c = search rules
@@ -53,7 +53,7 @@ returns-2 c =
     let a = c.before.before.before.before.before.before.before.before.before.before.args in
     let v : Uid = record { 0 = a.k } in
     c.before.before.write-padded2.ensures
-    ∙ ap (λ (x : List ℕ). paste a.header.now (directory-start a.k) x directory-width) (begins-at-home v a.person _ (λ z. omega arith) (short-path v (omega arith)))
+    ∙ ap (λ (x : List ℕ). paste a.header.now (directory_start a.k) x directory_width) (begins_at_home v a.person _ (λ z. omega arith) (short_path v (omega arith)))
 
 add-t24 : tie.Need-overflow-add-t24
 add-t24 c = search rules
@@ -72,7 +72,7 @@ returns-3 c =
     let a = c.before.before.before.before.before.before.before.before.before.before.args in
     let v : Uid = record { 0 = a.k } in
     c.before.before.write-padded3.ensures
-    ∙ ap (λ (x : List ℕ). paste a.header.now (directory-start a.k) x directory-width) (begins-at-home v a.person _ (λ z. omega arith) (long_path v (omega arith) (omega arith)))
+    ∙ ap (λ (x : List ℕ). paste a.header.now (directory_start a.k) x directory_width) (begins_at_home v a.person _ (λ z. omega arith) (long_path v (omega arith) (omega arith)))
 
 pub write-directory-spec : {M : Type 1} → statement M
 write-directory-spec =

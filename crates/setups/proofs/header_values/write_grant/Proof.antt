@@ -5,7 +5,7 @@ use Prim.Native.Nat.{ℕ, ◌+◌}
 use native.Mathlib.Omega.{arith}
 use lib.Seq.{paste}
 use Rattle.buffers.specs.Fields.{padded}
-use Rattle.setups.specs.HeaderValuesLaws.{grant-stored}
+use Rattle.setups.specs.HeaderValuesLaws.{grant_stored}
 use borrow.Author.Rules.{rules}
 use Rattle.setups.proofs.header_values.write_grant.Statement.{statement}
 use Rattle.setups.proofs.header_values.write_grant.Tie as tie
@@ -28,7 +28,7 @@ returns c =
     let a = s.args in
     c.before.before.write-padded.ensures
     ∙ ap (λ (l : List ℕ). paste l (a.at + 2) (padded 8 a.password.now) 8) c.before.before.before.before.before.before.write_two.ensures
-    ∙ grant-stored a.header.now a.at (record { uid = a.uid; role = a.role; password = a.password.now }) (omega arith) s.requires.1
+    ∙ grant_stored a.header.now a.at (record { uid = a.uid; role = a.role; password = a.password.now }) (omega arith) s.requires.1
 
 pub write-grant-spec : {M : Type 1} → statement M
 write-grant-spec =

@@ -5,7 +5,7 @@ use Prim.Native.Nat.{ℕ}
 use native.Mathlib.Omega.{arith}
 use lib.ListN.{length-set}
 use lib.Seq.{paste}
-use Rattle.setups.specs.HeaderValuesLaws.{slot-cleared, slot-stored, further-fits}
+use Rattle.setups.specs.HeaderValuesLaws.{slot_cleared, slot_stored, further_fits}
 use borrow.Author.Rules.{rules}
 use Rattle.setups.proofs.header_values.write_slot.Statement.{statement}
 use Rattle.setups.proofs.header_values.write_slot.Tie as tie
@@ -19,7 +19,7 @@ same_length c = search rules
 returns : tie.Need-returns
 returns c =
     let a = c.before.before.before.before.before.before.before.before.before.args in
-    c.before.before.clear.ensures ∙ ap (λ (l : List ℕ). paste a.header.now a.at l 3) (slot-cleared a.person (omega arith))
+    c.before.before.clear.ensures ∙ ap (λ (l : List ℕ). paste a.header.now a.at l 3) (slot_cleared a.person (omega arith))
 
 slice-write-header : tie.Need-slice-write-header
 slice-write-header c = search rules
@@ -28,7 +28,7 @@ add-write-number : tie.Need-overflow-add-write-number
 add-write-number c = search rules
 
 cast-write-number : tie.Need-overflow-cast-write-number
-cast-write-number c = let s = c.before.before.before.before.before.before.before in let small = further-fits s.args.person s.requires.1 (λ e. omega arith) in omega arith
+cast-write-number c = let s = c.before.before.before.before.before.before.before in let small = further_fits s.args.person s.requires.1 (λ e. omega arith) in omega arith
 
 write-number-requires : tie.Need-write-number-requires
 write-number-requires c κs = simp length-set (omega arith)
@@ -39,7 +39,7 @@ same-length-2 c = c.before.before.write-number.auto.0 ∙ simp length-set
 returns-2 : tie.Need-returns-2
 returns-2 c =
     let a = c.before.before.before.before.before.before.before.before.before.before.args in
-    c.before.before.write-number.ensures ∙ slot-stored a.header.now a.at a.person (omega arith) (λ e. omega arith)
+    c.before.before.write-number.ensures ∙ slot_stored a.header.now a.at a.person (omega arith) (λ e. omega arith)
 
 pub write-slot-spec : {M : Type 1} → statement M
 write-slot-spec =

@@ -1,7 +1,7 @@
 -- `setups::header_values::write_two` meets its contract: two stores side by side are one piece.
 use native.Mathlib.Omega.{arith}
 use lib.ListN.{length-set}
-use Rattle.setups.specs.HeaderValuesLaws.{two-stored}
+use Rattle.setups.specs.HeaderValuesLaws.{two_stored}
 use borrow.Author.Rules.{rules}
 use Rattle.setups.proofs.header_values.write_two.Statement.{statement}
 use Rattle.setups.proofs.header_values.write_two.Tie as tie
@@ -19,7 +19,7 @@ same_length : tie.Need-same-length
 same_length c = search rules
 
 returns : tie.Need-returns
-returns c = let a = c.args in two-stored a.header.now a.at a.v a.w (omega arith)
+returns c = let a = c.args in two_stored a.header.now a.at a.v a.w (omega arith)
 
 pub write-two-spec : {M : Type 1} → statement M
 write-two-spec =

@@ -7,8 +7,8 @@ use lib.ListN.{length}
 use Rattle.syntax.specs.Pieces.{newline}
 use Rattle.syntax.specs.Parts.{part}
 use Rattle.setups.specs.Making.{header_made}
-use Rattle.setups.specs.LineReadLaws.{begun-wide}
-use Rattle.setups.specs.MakingLaws.{Going, Line, going-first, stopped, going_on, line-wrong, text-accepted, text-behind}
+use Rattle.setups.specs.LineReadLaws.{begun_wide}
+use Rattle.setups.specs.MakingLaws.{Going, Line, going_first, stopped, going_on, line_wrong, text_accepted, text_behind}
 use Rattle.setups.proofs.making.read_header.Statement.{statement}
 use Rattle.setups.proofs.making.read_header.Tie as tie
 
@@ -29,7 +29,7 @@ line x = record {
 }
 
 loop-holds : tie.Need-loop-init invariant-loop decreases-loop
-loop-holds c = (going-first c.before.before.args.text.now c.before.before.args.header.now c.before.before.requires, refl)
+loop-holds c = (going_first c.before.before.args.text.now c.before.before.args.header.now c.before.before.requires, refl)
 
 add-number : tie.Need-overflow-add-number invariant-loop decreases-loop
 add-number c = omega arith
@@ -38,7 +38,7 @@ piece-end-requires : tie.Need-piece-end-requires invariant-loop decreases-loop
 piece-end-requires c κs = omega arith
 
 refuse-requires : tie.Need-refuse-requires invariant-loop decreases-loop
-refuse-requires c κs = let l = c.before.before.before.loop in begun-wide l.header l.invariant.0.begun
+refuse-requires c κs = let l = c.before.before.before.loop in begun_wide l.header l.invariant.0.begun
 
 same_length : tie.Need-same-length invariant-loop decreases-loop
 same_length c = search rules
@@ -86,31 +86,31 @@ same-length-2 : tie.Need-same-length-2 invariant-loop decreases-loop
 same-length-2 c = search rules
 
 returns-2 : tie.Need-returns-2 invariant-loop decreases-loop
-returns-2 c = text-accepted (line c.before.before.before.before.before) c.before.enum_told.given.1 c.if2.true
+returns-2 c = text_accepted (line c.before.before.before.before.before) c.before.enum_told.given.1 c.if2.true
 
 add-refuse : tie.Need-overflow-add-refuse invariant-loop decreases-loop
 add-refuse c = omega arith
 
 refuse-requires-2 : tie.Need-refuse-requires-2 invariant-loop decreases-loop
-refuse-requires-2 c κs = let l = c.before.before.before.before.before.before.before.before.before.before.before.loop in c.before.before.before.before.before.before.read-line.auto.0 ∙ begun-wide l.header l.invariant.0.begun
+refuse-requires-2 c κs = let l = c.before.before.before.before.before.before.before.before.before.before.before.loop in c.before.before.before.before.before.before.read-line.auto.0 ∙ begun_wide l.header l.invariant.0.begun
 
 same-length-3 : tie.Need-same-length-3 invariant-loop decreases-loop
 same-length-3 c = search rules
 
 returns-3 : tie.Need-returns-3 invariant-loop decreases-loop
-returns-3 c = c.before.before.refuse2.ensures ∙ ap header_made (text-behind (line c.before.before.before.before.before.before.before.before.before) c.before.before.before.before.before.enum_told.given.1 c.before.before.before.before.if2.false)
+returns-3 c = c.before.before.refuse2.ensures ∙ ap header_made (text_behind (line c.before.before.before.before.before.before.before.before.before) c.before.before.before.before.before.enum_told.given.1 c.before.before.before.before.if2.false)
 
 enum-told-2 : tie.Need-enum-told-2 invariant-loop decreases-loop
 enum-told-2 c = search rules
 
 refuse-requires-3 : tie.Need-refuse-requires-3 invariant-loop decreases-loop
-refuse-requires-3 c κs = let l = c.before.before.before.before.before.before.before.before.before.before.loop in c.before.before.before.before.before.read-line.auto.0 ∙ begun-wide l.header l.invariant.0.begun
+refuse-requires-3 c κs = let l = c.before.before.before.before.before.before.before.before.before.before.loop in c.before.before.before.before.before.read-line.auto.0 ∙ begun_wide l.header l.invariant.0.begun
 
 same-length-4 : tie.Need-same-length-4 invariant-loop decreases-loop
 same-length-4 c = search rules
 
 returns-4 : tie.Need-returns-4 invariant-loop decreases-loop
-returns-4 c = c.before.before.refuse3.ensures ∙ ap header_made (line-wrong (line c.before.before.before.before.before.before.before.before) c.before.before.before.before.enum-told2.given.1)
+returns-4 c = c.before.before.refuse3.ensures ∙ ap header_made (line_wrong (line c.before.before.before.before.before.before.before.before) c.before.before.before.before.enum-told2.given.1)
 
 pub read-header-spec : {M : Type 1} → statement M
 read-header-spec =

@@ -2,18 +2,18 @@
 use mathlib.Core.Path.{refl}
 use Prim.Native.Nat.{◌-◌}
 use native.Mathlib.Omega.{arith}
-use Rattle.setups.specs.OpeningLaws.{Slots-read, no-slots, one-slot-more, all_slots}
+use Rattle.setups.specs.OpeningLaws.{SlotsRead, no_slots, one_slot_more, all_slots}
 use Rattle.setups.proofs.opening.slots_in.Statement.{statement}
 use Rattle.setups.proofs.opening.slots_in.Tie as tie
 
 abbrev invariant-loop : tie.invariant-loop
-invariant-loop header persons₀ k₀ persons k = Slots-read header persons k
+invariant-loop header persons₀ k₀ persons k = SlotsRead header persons k
 
 abbrev decreases-loop : tie.decreases-loop
 decreases-loop header persons₀ k₀ persons k = 16 - k
 
 loop-holds : tie.Need-loop-init invariant-loop decreases-loop
-loop-holds c = no-slots c.before.args.header.now _ refl
+loop-holds c = no_slots c.before.args.header.now _ refl
 
 slot-in-requires : tie.Need-slot-in-requires invariant-loop decreases-loop
 slot-in-requires c κs = omega arith
@@ -31,7 +31,7 @@ loop-less : tie.Need-loop-smaller invariant-loop decreases-loop
 loop-less c = omega arith
 
 loop-again : tie.Need-loop-preserved invariant-loop decreases-loop
-loop-again c = one-slot-more c.before.before.before.before.args.header.now _ _ c.slot-in.result c.before.before.loop.invariant (omega arith) c.slot-in.ensures
+loop-again c = one_slot_more c.before.before.before.before.args.header.now _ _ c.slot-in.result c.before.before.loop.invariant (omega arith) c.slot-in.ensures
 
 returns : tie.Need-returns invariant-loop decreases-loop
 returns c = all_slots c.before.before.before.args.header.now _ _ c.before.loop.invariant (omega arith)

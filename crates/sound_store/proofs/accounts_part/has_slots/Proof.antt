@@ -2,15 +2,15 @@
 use mathlib.Core.Path.{sym, ◌∙◌}
 use Prim.Native.Nat.{◌-◌}
 use native.Mathlib.Omega.{arith}
-use Rattle.buffers.specs.Cases.{answers-false, answers-true}
-use Rattle.sound_store.specs.HeaderTests.{is-slot-at}
-use Rattle.sound_store.specs.PassesLaws.{Passing, passing, passes_on, passes-not, passes-all}
-use Rattle.sound_store.specs.StoreStepLaws.{root-a-person, by_slots}
+use Rattle.buffers.specs.Cases.{answers_false, answers_true}
+use Rattle.sound_store.specs.HeaderTests.{is_slot_at}
+use Rattle.sound_store.specs.PassesLaws.{Passing, passing, passes_on, passes_not, passes_all}
+use Rattle.sound_store.specs.StoreStepLaws.{root_a_person, by_slots}
 use Rattle.sound_store.proofs.accounts_part.has_slots.Statement.{statement}
 use Rattle.sound_store.proofs.accounts_part.has_slots.Tie as tie
 
 abbrev invariant-loop : tie.invariant-loop
-invariant-loop header k₀ k = Passing (is-slot-at header) 16 k
+invariant-loop header k₀ k = Passing (is_slot_at header) 16 k
 
 abbrev decreases-loop : tie.decreases-loop
 decreases-loop header k₀ k = 16 - k
@@ -19,10 +19,10 @@ shared-slice-read-if1 : tie.Need-shared-slice-read-if1 invariant-loop decreases-
 shared-slice-read-if1 c = omega arith
 
 returns : tie.Need-returns invariant-loop decreases-loop
-returns c = sym (root-a-person c.before.before.before.args.header.now (λ e. omega arith))
+returns c = sym (root_a_person c.before.before.before.args.header.now (λ e. omega arith))
 
 loop-holds : tie.Need-loop-init invariant-loop decreases-loop
-loop-holds c = passing (is-slot-at c.before.before.before.args.header.now) 16
+loop-holds c = passing (is_slot_at c.before.before.before.args.header.now) 16
 
 is-slot-requires : tie.Need-is-slot-requires invariant-loop decreases-loop
 is-slot-requires c κs = (omega arith, omega arith)
@@ -31,7 +31,7 @@ returns-2 : tie.Need-returns-2 invariant-loop decreases-loop
 returns-2 c =
     let b = c.before.before.before.before.before.before.before.args.header.now in
     let l = c.before.before.before.loop in
-    passes-not (is-slot-at b) 16 l.k l.invariant (omega arith) (answers-false c.before.is-slot.ensures c.if2.true) ∙ sym (by_slots b (omega arith))
+    passes_not (is_slot_at b) 16 l.k l.invariant (omega arith) (answers_false c.before.is_slot.ensures c.if2.true) ∙ sym (by_slots b (omega arith))
 
 add-k : tie.Need-overflow-add-k invariant-loop decreases-loop
 add-k c = omega arith
@@ -43,13 +43,13 @@ loop-again : tie.Need-loop-preserved invariant-loop decreases-loop
 loop-again c =
     let b = c.before.before.before.before.before.before.before.args.header.now in
     let l = c.before.before.before.loop in
-    passes_on (is-slot-at b) 16 l.k l.invariant (omega arith) (answers-true c.before.is-slot.ensures c.if2.false)
+    passes_on (is_slot_at b) 16 l.k l.invariant (omega arith) (answers_true c.before.is_slot.ensures c.if2.false)
 
 returns-3 : tie.Need-returns-3 invariant-loop decreases-loop
 returns-3 c =
     let b = c.before.before.before.before.before.args.header.now in
     let l = c.before.loop in
-    passes-all (is-slot-at b) 16 l.k l.invariant (omega arith) ∙ sym (by_slots b (omega arith))
+    passes_all (is_slot_at b) 16 l.k l.invariant (omega arith) ∙ sym (by_slots b (omega arith))
 
 pub has-slots-spec : {M : Type 1} → statement M
 has-slots-spec =

@@ -3,11 +3,11 @@
 use mathlib.Core.Path.{sym, ◌∙◌, ap}
 use native.Mathlib.Omega.{arith}
 use lib.ListN.{length}
-use Rattle.buffers.specs.Cases.{answers-false, answers-true}
-use Rattle.buffers.specs.FieldsLaws.{field-text-fits}
-use Rattle.store.specs.HeaderLayout.{directory-start, directory-width}
-use Rattle.sound_store.specs.HeaderTests.{is-directory-at}
-use Rattle.sound_store.specs.StoreStepLaws.{text-fails, by-filling, reads-path, directory-begins, directory-top}
+use Rattle.buffers.specs.Cases.{answers_false, answers_true}
+use Rattle.buffers.specs.FieldsLaws.{field_text_fits}
+use Rattle.store.specs.HeaderLayout.{directory_start, directory_width}
+use Rattle.sound_store.specs.HeaderTests.{is_directory_at}
+use Rattle.sound_store.specs.StoreStepLaws.{text_fails, by_filling, reads_path, directory_begins, directory_top}
 use borrow.Author.Rules.{rules}
 use Rattle.sound_store.proofs.directories_part.is_directory.Statement.{statement}
 use Rattle.sound_store.proofs.directories_part.is_directory.Tie as tie
@@ -22,7 +22,7 @@ shared-slice-read-if1 : tie.Need-shared-slice-read-if1
 shared-slice-read-if1 c = search rules
 
 returns : tie.Need-returns
-returns c = let a = c.before.before.before.args in sym (directory-begins a.header.now a.k (omega arith) (omega arith) c.if1.true)
+returns c = let a = c.before.before.before.args in sym (directory_begins a.header.now a.k (omega arith) (omega arith) c.if1.true)
 
 add-if2 : tie.Need-overflow-add-if2
 add-if2 c = search rules
@@ -42,7 +42,7 @@ is-zero-requires c κs = search rules
 returns-2 : tie.Need-returns-2
 returns-2 c =
     let a = c.before.before.before.before.before.before.args in
-    c.is_zero.ensures ∙ sym (directory-top a.header.now a.k (omega arith) (omega arith) (omega arith) (omega arith))
+    c.is_zero.ensures ∙ sym (directory_top a.header.now a.k (omega arith) (omega arith) (omega arith) (omega arith))
 
 text-requires : tie.Need-text-requires
 text-requires c κs = search rules
@@ -51,11 +51,11 @@ is-path-requires : tie.Need-is-path-requires
 is-path-requires c κs = search rules
 
 returns-3 : tie.Need-returns-3
-unfolding is-directory-at
+unfolding is_directory_at
 returns-3 c =
     let a = c.before.before.before.before.before.before.before.before.args in
-    let other = ap reads-path (sym c.before.before.text.ensures) ∙ answers-false c.before.is-path.ensures c.if3.true in
-    sym (text-fails reads-path (directory-start a.k) directory-width a.header.now other)
+    let other = ap reads_path (sym c.before.before.text.ensures) ∙ answers_false c.before.is_path.ensures c.if3.true in
+    sym (text_fails reads_path (directory_start a.k) directory_width a.header.now other)
 
 add-is-zero-3 : tie.Need-overflow-add-is-zero-3
 add-is-zero-3 c = search rules
@@ -66,17 +66,17 @@ add-is-zero-4 c = search rules
 is-zero-requires-2 : tie.Need-is-zero-requires-2
 is-zero-requires-2 c κs =
     let a = c.before.before.before.before.before.before.before.before.args in
-    let f = field-text-fits a.header.now (directory-start a.k) directory-width in
+    let f = field_text_fits a.header.now (directory_start a.k) directory_width in
     let e = ap length c.before.before.text.ensures in
     (omega arith, omega arith)
 
 returns-4 : tie.Need-returns-4
-unfolding is-directory-at
+unfolding is_directory_at
 returns-4 c =
     let a = c.before.before.before.before.before.before.before.before.before.args in
     let t = c.before.before.before.text in
-    let reads = ap reads-path (sym t.ensures) ∙ answers-true c.before.before.is-path.ensures c.before.if3.false in
-    c.is-zero2.ensures ∙ sym (by-filling reads-path (directory-start a.k) directory-width a.header.now reads (length t.result.now) (ap length t.ensures))
+    let reads = ap reads_path (sym t.ensures) ∙ answers_true c.before.before.is_path.ensures c.before.if3.false in
+    c.is-zero2.ensures ∙ sym (by_filling reads_path (directory_start a.k) directory_width a.header.now reads (length t.result.now) (ap length t.ensures))
 
 pub is-directory-spec : {M : Type 1} → statement M
 is-directory-spec =

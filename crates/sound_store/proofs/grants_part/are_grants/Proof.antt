@@ -1,20 +1,20 @@
 -- `sound_store::grants_part::are_grants` meets its contract: what is left to test decides the whole.
 use Prim.Native.Nat.{◌-◌}
 use native.Mathlib.Omega.{arith}
-use Rattle.buffers.specs.Cases.{answers-false, answers-true}
-use Rattle.sound_store.specs.HeaderTests.{is-grant-at}
-use Rattle.sound_store.specs.PassesLaws.{Passing, passing, passes_on, passes-not, passes-all}
+use Rattle.buffers.specs.Cases.{answers_false, answers_true}
+use Rattle.sound_store.specs.HeaderTests.{is_grant_at}
+use Rattle.sound_store.specs.PassesLaws.{Passing, passing, passes_on, passes_not, passes_all}
 use Rattle.sound_store.proofs.grants_part.are_grants.Statement.{statement}
 use Rattle.sound_store.proofs.grants_part.are_grants.Tie as tie
 
 abbrev invariant-loop : tie.invariant-loop
-invariant-loop header n k₀ k = Passing (is-grant-at header) n k
+invariant-loop header n k₀ k = Passing (is_grant_at header) n k
 
 abbrev decreases-loop : tie.decreases-loop
 decreases-loop header n k₀ k = n - k
 
 loop-holds : tie.Need-loop-init invariant-loop decreases-loop
-loop-holds c = let a = c.before.args in passing (is-grant-at a.header.now) a.n
+loop-holds c = let a = c.before.args in passing (is_grant_at a.header.now) a.n
 
 is-grant-requires : tie.Need-is-grant-requires invariant-loop decreases-loop
 is-grant-requires c κs = (omega arith, omega arith)
@@ -23,7 +23,7 @@ returns : tie.Need-returns invariant-loop decreases-loop
 returns c =
     let a = c.before.before.before.before.before.args in
     let l = c.before.before.before.loop in
-    passes-not (is-grant-at a.header.now) a.n l.k l.invariant (omega arith) (answers-false c.before.is-grant.ensures c.if1.true)
+    passes_not (is_grant_at a.header.now) a.n l.k l.invariant (omega arith) (answers_false c.before.is_grant.ensures c.if1.true)
 
 add-k : tie.Need-overflow-add-k invariant-loop decreases-loop
 add-k c = omega arith
@@ -35,13 +35,13 @@ loop-again : tie.Need-loop-preserved invariant-loop decreases-loop
 loop-again c =
     let a = c.before.before.before.before.before.args in
     let l = c.before.before.before.loop in
-    passes_on (is-grant-at a.header.now) a.n l.k l.invariant (omega arith) (answers-true c.before.is-grant.ensures c.if1.false)
+    passes_on (is_grant_at a.header.now) a.n l.k l.invariant (omega arith) (answers_true c.before.is_grant.ensures c.if1.false)
 
 returns-2 : tie.Need-returns-2 invariant-loop decreases-loop
 returns-2 c =
     let a = c.before.before.before.args in
     let l = c.before.loop in
-    passes-all (is-grant-at a.header.now) a.n l.k l.invariant (omega arith)
+    passes_all (is_grant_at a.header.now) a.n l.k l.invariant (omega arith)
 
 pub are-grants-spec : {M : Type 1} → statement M
 are-grants-spec =

@@ -2,13 +2,13 @@
 use mathlib.Core.Path.{sym, ◌∙◌, ap}
 use Prim.Native.Nat.{◌+◌}
 use lib.ListN.{length}
-use Rattle.buffers.specs.Cases.{answers-false, answers-true}
+use Rattle.buffers.specs.Cases.{answers_false, answers_true}
 use Rattle.syntax.specs.Path.{is_name}
 use native.Mathlib.Omega.{arith}
-use Rattle.buffers.specs.FieldsLaws.{field-text-fits}
-use Rattle.store.specs.HeaderLayout.{grant-start, password-offset, password-width}
-use Rattle.sound_store.specs.HeaderTests.{is-password-at}
-use Rattle.sound_store.specs.StoreStepLaws.{text-fails, by-filling}
+use Rattle.buffers.specs.FieldsLaws.{field_text_fits}
+use Rattle.store.specs.HeaderLayout.{grant_start, password_offset, password_width}
+use Rattle.sound_store.specs.HeaderTests.{is_password_at}
+use Rattle.sound_store.specs.StoreStepLaws.{text_fails, by_filling}
 use borrow.Author.Rules.{rules}
 use Rattle.sound_store.proofs.grants_part.is_password.Statement.{statement}
 use Rattle.sound_store.proofs.grants_part.is_password.Tie as tie
@@ -32,10 +32,10 @@ is-name-requires : tie.Need-is-name-requires
 is-name-requires c κs = search rules
 
 returns : tie.Need-returns
-unfolding is-password-at
+unfolding is_password_at
 returns c =
     let a = c.before.before.before.before.args in
-    sym (text-fails is_name (grant-start a.k + password-offset) password-width a.header.now (ap is_name (sym c.before.before.text.ensures) ∙ answers-false c.before.is_name.ensures c.if1.true))
+    sym (text_fails is_name (grant_start a.k + password_offset) password_width a.header.now (ap is_name (sym c.before.before.text.ensures) ∙ answers_false c.before.is_name.ensures c.if1.true))
 
 add-is-zero : tie.Need-overflow-add-is-zero
 add-is-zero c = search rules
@@ -46,17 +46,17 @@ add-is-zero-2 c = search rules
 is-zero-requires : tie.Need-is-zero-requires
 is-zero-requires c κs =
     let a = c.before.before.before.before.args in
-    let f = field-text-fits a.header.now (grant-start a.k + password-offset) password-width in
+    let f = field_text_fits a.header.now (grant_start a.k + password_offset) password_width in
     let e = ap length c.before.before.text.ensures in
     (omega arith, omega arith)
 
 returns-2 : tie.Need-returns-2
-unfolding is-password-at
+unfolding is_password_at
 returns-2 c =
     let a = c.before.before.before.before.before.args in
     let t = c.before.before.before.text in
-    let named = ap is_name (sym t.ensures) ∙ answers-true c.before.before.is_name.ensures c.before.if1.false in
-    c.is_zero.ensures ∙ sym (by-filling is_name (grant-start a.k + password-offset) password-width a.header.now named (length t.result.now) (ap length t.ensures))
+    let named = ap is_name (sym t.ensures) ∙ answers_true c.before.before.is_name.ensures c.before.if1.false in
+    c.is_zero.ensures ∙ sym (by_filling is_name (grant_start a.k + password_offset) password_width a.header.now named (length t.result.now) (ap length t.ensures))
 
 pub is-password-spec : {M : Type 1} → statement M
 is-password-spec =

@@ -1,10 +1,10 @@
 -- `sound_store::pairs_part::has_pairs` meets its contract: each return by what has been tested.
 use mathlib.Core.Path.{sym, ◌∙◌}
 use native.Mathlib.Omega.{arith}
-use Rattle.buffers.specs.Cases.{answers-false, answers-true}
-use Rattle.sound_store.specs.StoreStepLaws.{many-pairs, pair-fails, by-pair-zeros}
+use Rattle.buffers.specs.Cases.{answers_false, answers_true}
+use Rattle.sound_store.specs.StoreStepLaws.{many_pairs, pair_fails, by_pair_zeros}
 use borrow.Author.Rules.{rules}
-use Rattle.store.specs.HeaderLayout.{pairs-offset}
+use Rattle.store.specs.HeaderLayout.{pairs_offset}
 use Rattle.sound_store.proofs.pairs_part.has_pairs.Statement.{statement}
 use Rattle.sound_store.proofs.pairs_part.has_pairs.Tie as tie
 
@@ -12,16 +12,16 @@ shared-slice-read-n : tie.Need-shared-slice-read-n
 shared-slice-read-n c = search rules
 
 cast-n : tie.Need-overflow-cast-n
-cast-n c = let small : _ = c.shared-slice-known2.given pairs-offset in omega arith
+cast-n c = let small : _ = c.shared-slice-known2.given pairs_offset in omega arith
 
 returns : tie.Need-returns
-returns c = sym (many-pairs c.before.before.before.args.header.now (omega arith))
+returns c = sym (many_pairs c.before.before.before.args.header.now (omega arith))
 
 are-pairs-requires : tie.Need-are-pairs-requires
 are-pairs-requires c κs = search rules
 
 returns-2 : tie.Need-returns-2
-returns-2 c = sym (pair-fails c.before.before.before.before.before.args.header.now (answers-false c.before.are-pairs.ensures c.if2.true))
+returns-2 c = sym (pair_fails c.before.before.before.before.before.args.header.now (answers_false c.before.are-pairs.ensures c.if2.true))
 
 add-is-zero : tie.Need-overflow-add-is-zero
 add-is-zero c = search rules
@@ -38,7 +38,7 @@ is-zero-requires c κs = search rules
 returns-3 : tie.Need-returns-3
 returns-3 c =
     let b = c.before.before.before.before.before.before.args.header.now in
-    c.is_zero.ensures ∙ sym (by-pair-zeros b (omega arith) (answers-true c.before.before.are-pairs.ensures c.before.if2.false))
+    c.is_zero.ensures ∙ sym (by_pair_zeros b (omega arith) (answers_true c.before.before.are-pairs.ensures c.before.if2.false))
 
 pub has-pairs-spec : {M : Type 1} → statement M
 has-pairs-spec =

@@ -1,7 +1,7 @@
 -- `sound_store::pairs_part::is_pair` meets its contract: each return by the bytes that have been tested.
 use mathlib.Core.Path.{sym}
 use native.Mathlib.Omega.{arith}
-use Rattle.sound_store.specs.StoreStepLaws.{pair-rises, pair-falls}
+use Rattle.sound_store.specs.StoreStepLaws.{pair_rises, pair_falls}
 use borrow.Author.Rules.{rules}
 use Rattle.sound_store.proofs.pairs_part.is_pair.Statement.{statement}
 use Rattle.sound_store.proofs.pairs_part.is_pair.Tie as tie
@@ -25,10 +25,10 @@ shared-slice-read-junior : tie.Need-shared-slice-read-junior
 shared-slice-read-junior c = search rules
 
 returns : tie.Need-returns
-returns c = let a = c.before.before.before.args in sym (pair-rises a.header.now a.k (omega arith))
+returns c = let a = c.before.before.before.args in sym (pair_rises a.header.now a.k (omega arith))
 
 returns-2 : tie.Need-returns-2
-returns-2 c = let a = c.before.before.before.args in sym (pair-falls a.header.now a.k (omega arith))
+returns-2 c = let a = c.before.before.before.args in sym (pair_falls a.header.now a.k (omega arith))
 
 pub is-pair-spec : {M : Type 1} → statement M
 is-pair-spec =

@@ -3,16 +3,16 @@
 use mathlib.Core.Path.{◌∙◌}
 use Prim.Native.Nat.{◌-◌}
 use native.Mathlib.Omega.{arith}
-use Rattle.tree.specs.Layout.{name-width}
-use Rattle.soundness.specs.NameOrderLaws.{Undecided-up-to, begins, one_more, ends-differ, ends-zero, ends_same, name-start, names-in-rows}
+use Rattle.tree.specs.Layout.{name_width}
+use Rattle.soundness.specs.NameOrderLaws.{UndecidedUpTo, begins, one_more, ends_differ, ends_zero, ends_same, name_start, names_in_rows}
 use Rattle.soundness.proofs.order.comes_before.Statement.{statement}
 use Rattle.soundness.proofs.order.comes_before.Tie as tie
 
 abbrev invariant-loop : tie.invariant-loop
-invariant-loop tree i j a b k₀ k = Undecided-up-to tree a b name-width k
+invariant-loop tree i j a b k₀ k = UndecidedUpTo tree a b name_width k
 
 abbrev decreases-loop : tie.decreases-loop
-decreases-loop tree i j a b k₀ k = name-width - k
+decreases-loop tree i j a b k₀ k = name_width - k
 
 mul-a : tie.Need-overflow-mul-a invariant-loop decreases-loop
 mul-a c = omega arith
@@ -33,7 +33,7 @@ add-b-2 : tie.Need-overflow-add-b-2 invariant-loop decreases-loop
 add-b-2 c = omega arith
 
 loop-holds : tie.Need-loop-init invariant-loop decreases-loop
-loop-holds c = let a = c.args in begins a.tree.now (name-start a.i) (name-start a.j) name-width
+loop-holds c = let a = c.args in begins a.tree.now (name_start a.i) (name_start a.j) name_width
 
 add-x : tie.Need-overflow-add-x invariant-loop decreases-loop
 add-x c = omega arith
@@ -51,15 +51,15 @@ returns : tie.Need-returns invariant-loop decreases-loop
 returns c =
     let l = c.before.before.before.before in
     let a = l.before.args in
-    ends-differ a.tree.now (name-start a.i) (name-start a.j) name-width l.loop.invariant (omega arith) (omega arith) (omega arith) (λ e. omega arith)
-    ∙ names-in-rows a.tree.now a.i a.j
+    ends_differ a.tree.now (name_start a.i) (name_start a.j) name_width l.loop.invariant (omega arith) (omega arith) (omega arith) (λ e. omega arith)
+    ∙ names_in_rows a.tree.now a.i a.j
 
 returns-2 : tie.Need-returns-2 invariant-loop decreases-loop
 returns-2 c =
     let l = c.before.before.before.before.before in
     let a = l.before.args in
-    ends-zero a.tree.now (name-start a.i) (name-start a.j) name-width l.loop.invariant (omega arith) (omega arith) (omega arith) (omega arith) (omega arith)
-    ∙ names-in-rows a.tree.now a.i a.j
+    ends_zero a.tree.now (name_start a.i) (name_start a.j) name_width l.loop.invariant (omega arith) (omega arith) (omega arith) (omega arith) (omega arith)
+    ∙ names_in_rows a.tree.now a.i a.j
 
 add-k : tie.Need-overflow-add-k invariant-loop decreases-loop
 add-k c = omega arith
@@ -71,13 +71,13 @@ loop-again : tie.Need-loop-preserved invariant-loop decreases-loop
 loop-again c =
     let l = c.before.before.before.before.before in
     let a = l.before.args in
-    one_more a.tree.now (name-start a.i) (name-start a.j) name-width l.loop.invariant (omega arith) (omega arith) (omega arith) (omega arith) (λ e. omega arith)
+    one_more a.tree.now (name_start a.i) (name_start a.j) name_width l.loop.invariant (omega arith) (omega arith) (omega arith) (omega arith) (λ e. omega arith)
 
 returns-3 : tie.Need-returns-3 invariant-loop decreases-loop
 returns-3 c =
     let a = c.before.before.args in
-    ends_same a.tree.now (name-start a.i) (name-start a.j) name-width c.before.loop.invariant (omega arith)
-    ∙ names-in-rows a.tree.now a.i a.j
+    ends_same a.tree.now (name_start a.i) (name_start a.j) name_width c.before.loop.invariant (omega arith)
+    ∙ names_in_rows a.tree.now a.i a.j
 
 pub comes-before-spec : {M : Type 1} → statement M
 comes-before-spec =

@@ -9,16 +9,16 @@ use mathlib.Core.Bool.{Bool, true, false, not}
 use lib.Dec.{ltb}
 use lib.ListN.{length, get_or, set, replicate, length-set}
 use borrow.Author.Tests.{lt-ltb, ltb-true}
-use Rattle.buffers.specs.Cases.{answers-false, answers-true}
+use Rattle.buffers.specs.Cases.{answers_false, answers_true}
 use Rattle.buffers.specs.Text.{every}
-use Rattle.buffers.specs.TextLaws.{every-getD, every_set}
+use Rattle.buffers.specs.TextLaws.{every_get_or, every_set}
 use Rattle.tree.specs.declared.Kind.{Kind}
-use Rattle.tree.specs.RowAt.{row_count, row-bytes-at, row_at}
-use Rattle.tree.specs.TreeBytesLaws.{has-row}
-use Rattle.soundness.specs.Sound.{is_row, may-follow}
-use Rattle.soundness.specs.Tests.{rest-in-order}
-use Rattle.soundness.specs.OrderTestLaws.{names-to, follow-low, rest-row, rest-follow, rest-next, rest_end}
-use Rattle.soundness.specs.FieldTestLaws.{row-name-filled}
+use Rattle.tree.specs.RowAt.{row_count, row_bytes_at, row_at}
+use Rattle.tree.specs.TreeBytesLaws.{has_row}
+use Rattle.soundness.specs.Sound.{is_row, may_follow}
+use Rattle.soundness.specs.Tests.{rest_in_order}
+use Rattle.soundness.specs.OrderTestLaws.{names_to, follow_low, rest_row, rest_follow, rest_next, rest_end}
+use Rattle.soundness.specs.FieldTestLaws.{row_name_filled}
 use Rattle.soundness.proofs.order.in_order.Statement.{statement}
 use Rattle.soundness.proofs.order.in_order.Tie as tie
 
@@ -26,10 +26,10 @@ record Going (b last : List ℕ) (i : ℕ) : Type 0 where
   some : 1 ≤ i
   size : length last ≡ 7
   held : every (λ j. ltb j 256) last ≡ true
-  goes : rest-in-order b i (names-to b last (row_at b (i - 1)).depth) (row_at b (i - 1)).here.kind ≡ rest-in-order b 1 [] (row_at b 0).here.kind
+  goes : rest_in_order b i (names_to b last (row_at b (i - 1)).depth) (row_at b (i - 1)).here.kind ≡ rest_in_order b 1 [] (row_at b 0).here.kind
 
 begins : (b last : List ℕ) → (row_at b 0).depth ≡ 0 → last ≡ replicate 7 0 → Going b last 1
-unfolding every names-to
+unfolding every names_to
 begins b last d e = rw e (record { some = omega arith; size = refl; held = refl; goes = rw d })
 
 module _ {b last : List ℕ} {i : ℕ} (g : Going b last i) where
@@ -41,30 +41,30 @@ module _ {b last : List ℕ} {i : ℕ} (g : Going b last i) where
   before-kind = (row_at b (i - 1)).here.kind
 
   abbrev all : Bool
-  all = rest-in-order b 1 [] (row_at b 0).here.kind
+  all = rest_in_order b 1 [] (row_at b 0).here.kind
 
   -- the row last seen at a depth
   seen : (k : ℕ) → get_or last k 0 < 256
-  seen k = ltb-true (get_or last k 0) 256 (every-getD (λ j. ltb j 256) last k 0 g.held refl)
+  seen k = ltb-true (get_or last k 0) 256 (every_get_or (λ j. ltb j 256) last k 0 g.held refl)
 
   -- whether the next row may follow, if the row last seen at its depth is given
   abbrev next-follows : ℕ → Bool
-  next-follows k = may-follow before-depth before-kind (row_at b (get_or last k 0)).name (row_at b i)
+  next-follows k = may_follow before-depth before-kind (row_at b (get_or last k 0)).name (row_at b i)
 
   -- the next row is not one
-  unsound : i < row_count b → is_row (row-bytes-at b i) ≡ false → false ≡ all
-  unsound h e = sym (rest-row b last i before-depth before-kind h e) ∙ g.goes
+  unsound : i < row_count b → is_row (row_bytes_at b i) ≡ false → false ≡ all
+  unsound h e = sym (rest_row b last i before-depth before-kind h e) ∙ g.goes
 
   -- it may not follow
   astray : (k : ℕ) → k ≡ (row_at b i).depth → i < row_count b → {r : Bool} → r ≡ next-follows k → not r ≡ true → false ≡ all
-  astray k e h f q = sym (rest-follow b last i before-depth before-kind h (rw e at (answers-false f q))) ∙ g.goes
+  astray k e h f q = sym (rest_follow b last i before-depth before-kind h (rw e at (answers_false f q))) ∙ g.goes
 
   -- it lies too deep
   too-deep : i < row_count b → 6 < (row_at b i).depth → false ≡ all
-  too-deep h l = astray (row_at b i).depth refl h (sym (follow-low before-depth before-kind (row_at b (get_or last (row_at b i).depth 0)).name (row_at b i) l)) refl
+  too-deep h l = astray (row_at b i).depth refl h (sym (follow_low before-depth before-kind (row_at b (get_or last (row_at b i).depth 0)).name (row_at b i) l)) refl
 
   -- it may
-  one_more : (k : ℕ) → k ≡ (row_at b i).depth → i < row_count b → i < 256 → k ≤ 6 → is_row (row-bytes-at b i) ≡ true → {r : Bool} → r ≡ next-follows k → not r ≡ false → Going b (set last k i) (i + 1)
+  one_more : (k : ℕ) → k ≡ (row_at b i).depth → i < row_count b → i < 256 → k ≤ 6 → is_row (row_bytes_at b i) ≡ true → {r : Bool} → r ≡ next-follows k → not r ≡ false → Going b (set last k i) (i + 1)
   one_more k e h l m s f q =
       let p : i + 1 - 1 ≡ i = omega arith in
       record {
@@ -72,12 +72,12 @@ module _ {b last : List ℕ} {i : ℕ} (g : Going b last i) where
         size = length-set last k i ∙ g.size;
         held = every_set (λ j. ltb j 256) last k i g.held (lt-ltb i 256 l);
         goes = rw (p, add-one, e)
-            (rest-next b last i before-depth before-kind h s (rw e at (answers-true f q)) (omega (arith, g.size))) ∙ g.goes;
+            (rest_next b last i before-depth before-kind h s (rw e at (answers_true f q)) (omega (arith, g.size))) ∙ g.goes;
       }
 
   -- there is none
   ends : row_count b ≤ i → true ≡ all
-  ends h = sym (rest_end b i (names-to b last before-depth) before-kind h) ∙ g.goes
+  ends h = sym (rest_end b i (names_to b last before-depth) before-kind h) ∙ g.goes
 
 abbrev invariant-loop : tie.invariant-loop
 invariant-loop tree n last₀ i₀ last i = Going tree last i
@@ -92,7 +92,7 @@ is-row-requires : tie.Need-is-row-requires invariant-loop decreases-loop
 is-row-requires c κs = omega arith
 
 returns : tie.Need-returns invariant-loop decreases-loop
-returns c = unsound c.before.before.before.loop.invariant (omega arith) (answers-false c.before.is_row.ensures c.if1.true)
+returns c = unsound c.before.before.before.loop.invariant (omega arith) (answers_false c.before.is_row.ensures c.if1.true)
 
 depth-at-requires : tie.Need-depth-at-requires invariant-loop decreases-loop
 depth-at-requires c κs = omega arith
@@ -113,14 +113,14 @@ may-follow-requires : tie.Need-may-follow-requires invariant-loop decreases-loop
 may-follow-requires c κs =
     let l = c.before.before.before.before.before in
     let g = l.loop.invariant in
-    let row = answers-true c.before.before.before.is_row.ensures c.before.before.if1.false in
-    let filled = row-name-filled l.before.before.args.tree.now l.loop.i (omega arith) (λ j. omega (arith, l.before.shared-slice-known.given j)) row in
-    (omega arith, (has-row (omega arith) (seen g c.before.depth-at.result), (g.some, (omega arith, filled))))
+    let row = answers_true c.before.before.before.is_row.ensures c.before.before.if1.false in
+    let filled = row_name_filled l.before.before.args.tree.now l.loop.i (omega arith) (λ j. omega (arith, l.before.shared-slice-known.given j)) row in
+    (omega arith, (has_row (omega arith) (seen g c.before.depth-at.result), (g.some, (omega arith, filled))))
 
 returns-3 : tie.Need-returns-3 invariant-loop decreases-loop
 returns-3 c =
     let d = c.before.before.before.depth-at in
-    astray c.before.before.before.before.before.before.before.loop.invariant d.result d.ensures (omega arith) c.before.may-follow.ensures c.if3.true
+    astray c.before.before.before.before.before.before.before.loop.invariant d.result d.ensures (omega arith) c.before.may_follow.ensures c.if3.true
 
 mul-last : tie.Need-overflow-mul-last invariant-loop decreases-loop
 mul-last c = omega arith
@@ -137,8 +137,8 @@ loop-less c = omega arith
 loop-again : tie.Need-loop-preserved invariant-loop decreases-loop
 loop-again c =
     let d = c.before.before.before.depth-at in
-    let row = answers-true c.before.before.before.before.before.is_row.ensures c.before.before.before.before.if1.false in
-    one_more c.before.before.before.before.before.before.before.loop.invariant d.result d.ensures (omega arith) (omega arith) (omega arith) row c.before.may-follow.ensures c.if3.false
+    let row = answers_true c.before.before.before.before.before.is_row.ensures c.before.before.before.before.if1.false in
+    one_more c.before.before.before.before.before.before.before.loop.invariant d.result d.ensures (omega arith) (omega arith) (omega arith) row c.before.may_follow.ensures c.if3.false
 
 returns-4 : tie.Need-returns-4 invariant-loop decreases-loop
 returns-4 c = ends c.before.loop.invariant (omega arith)

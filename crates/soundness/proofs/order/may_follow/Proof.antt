@@ -2,10 +2,10 @@
 use mathlib.Core.Path.{sym, ◌∙◌, ap}
 use Prim.Native.Nat.{◌-◌}
 use native.Mathlib.Omega.{arith}
-use Rattle.buffers.specs.Cases.{answers-false, answers-true}
-use Rattle.tree.specs.Node.{is-directory}
+use Rattle.buffers.specs.Cases.{answers_false, answers_true}
+use Rattle.tree.specs.Node.{is_directory}
 use Rattle.tree.specs.RowAt.{row_at}
-use Rattle.soundness.specs.OrderTestLaws.{follow-name, follow-top, follow-far, follow-below, follow-beside}
+use Rattle.soundness.specs.OrderTestLaws.{follow_name, follow_top, follow_far, follow_below, follow_beside}
 use borrow.Author.Rules.{rules}
 use Rattle.soundness.proofs.order.may_follow.Statement.{statement}
 use Rattle.soundness.proofs.order.may_follow.Tie as tie
@@ -27,14 +27,14 @@ returns c =
     let a = c.before.before.before.before.before.args in
     let t = a.tree.now in
     let p = row_at t (a.i - 1) in
-    sym (follow-name p.depth p.here.kind (row_at t a.beside).name (row_at t a.i) (answers-false c.before.has-name.ensures c.if1.true))
+    sym (follow_name p.depth p.here.kind (row_at t a.beside).name (row_at t a.i) (answers_false c.before.has-name.ensures c.if1.true))
 
 returns-2 : tie.Need-returns-2
 returns-2 c =
     let a = c.before.before.before.before.before.before.args in
     let t = a.tree.now in
     let p = row_at t (a.i - 1) in
-    sym (follow-top p.depth p.here.kind (row_at t a.beside).name (row_at t a.i) (omega arith))
+    sym (follow_top p.depth p.here.kind (row_at t a.beside).name (row_at t a.i) (omega arith))
 
 sub-if4 : tie.Need-overflow-sub-if4
 sub-if4 c = search rules
@@ -44,7 +44,7 @@ returns-3 c =
     let a = c.before.before.before.before.before.before.before.before.args in
     let t = a.tree.now in
     let p = row_at t (a.i - 1) in
-    sym (follow-far p.depth p.here.kind (row_at t a.beside).name (row_at t a.i) (omega arith))
+    sym (follow_far p.depth p.here.kind (row_at t a.beside).name (row_at t a.i) (omega arith))
 
 sub-kind-at : tie.Need-overflow-sub-kind-at
 sub-kind-at c = search rules
@@ -60,8 +60,8 @@ returns-4 c =
     let a = c.before.before.before.before.before.before.before.before.before.before.args in
     let t = a.tree.now in
     let p = row_at t (a.i - 1) in
-    let name = answers-true c.before.before.before.before.before.before.has-name.ensures c.before.before.before.before.before.if1.false in
-    c.is-directory.ensures ∙ ap is-directory c.before.kind_at.ensures ∙ sym (follow-below p.depth p.here.kind (row_at t a.beside).name (row_at t a.i) name (omega arith) (omega arith) (omega arith))
+    let name = answers_true c.before.before.before.before.before.before.has-name.ensures c.before.before.before.before.before.if1.false in
+    c.is_directory.ensures ∙ ap is_directory c.before.kind_at.ensures ∙ sym (follow_below p.depth p.here.kind (row_at t a.beside).name (row_at t a.i) name (omega arith) (omega arith) (omega arith))
 
 comes-before-requires : tie.Need-comes-before-requires
 comes-before-requires c κs = search rules
@@ -72,8 +72,8 @@ returns-5 c =
     let a = l.before.before.before.before.before.args in
     let t = a.tree.now in
     let p = row_at t (a.i - 1) in
-    let name = answers-true l.before.has-name.ensures l.if1.false in
-    c.comes-before.ensures ∙ sym (follow-beside p.depth p.here.kind (row_at t a.beside).name (row_at t a.i) name (omega arith) (omega arith) (omega arith))
+    let name = answers_true l.before.has-name.ensures l.if1.false in
+    c.comes-before.ensures ∙ sym (follow_beside p.depth p.here.kind (row_at t a.beside).name (row_at t a.i) name (omega arith) (omega arith) (omega arith))
 
 pub may-follow-spec : {M : Type 1} → statement M
 may-follow-spec =

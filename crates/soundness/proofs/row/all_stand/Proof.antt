@@ -1,20 +1,20 @@
 -- `soundness::row::all_stand` meets its contract: what is left, with what was seen, is the whole.
 use Prim.Native.Nat.{◌-◌}
 use native.Mathlib.Omega.{arith}
-use Rattle.syntax.specs.Field.{content-byte}
-use Rattle.soundness.specs.Tests.{may-stand}
-use Rattle.soundness.specs.NeighbourLaws.{Passed-up-to, begins, one_more, ends}
+use Rattle.syntax.specs.Field.{content_byte}
+use Rattle.soundness.specs.Tests.{may_stand}
+use Rattle.soundness.specs.NeighbourLaws.{PassedUpTo, begins, one_more, ends}
 use Rattle.soundness.proofs.row.all_stand.Statement.{statement}
 use Rattle.soundness.proofs.row.all_stand.Tie as tie
 
 abbrev invariant-loop : tie.invariant-loop
-invariant-loop s at n all₀ i₀ all i = Passed-up-to (may-stand content-byte) s at n all i
+invariant-loop s at n all₀ i₀ all i = PassedUpTo (may_stand content_byte) s at n all i
 
 abbrev decreases-loop : tie.decreases-loop
 decreases-loop s at n all₀ i₀ all i = n - i
 
 loop-holds : tie.Need-loop-init invariant-loop decreases-loop
-loop-holds c = let a = c.before.args in begins (may-stand content-byte) a.s.now a.at a.n
+loop-holds c = let a = c.before.args in begins (may_stand content_byte) a.s.now a.at a.n
 
 add-may-stand : tie.Need-overflow-add-may-stand invariant-loop decreases-loop
 add-may-stand c = omega arith
@@ -44,12 +44,12 @@ loop-again : tie.Need-loop-preserved invariant-loop decreases-loop
 loop-again c =
     let l = c.before.before.before.before in
     let a = l.before.before.args in
-    one_more (may-stand content-byte) a.s.now a.at a.n c.may-stand.result l.loop.invariant (omega arith) c.may-stand.ensures
+    one_more (may_stand content_byte) a.s.now a.at a.n c.may_stand.result l.loop.invariant (omega arith) c.may_stand.ensures
 
 returns : tie.Need-returns invariant-loop decreases-loop
 returns c =
     let a = c.before.before.before.args in
-    ends (may-stand content-byte) a.s.now a.at a.n c.before.loop.invariant (omega arith)
+    ends (may_stand content_byte) a.s.now a.at a.n c.before.loop.invariant (omega arith)
 
 pub all-stand-spec : {M : Type 1} → statement M
 all-stand-spec =

@@ -2,9 +2,9 @@
 use mathlib.Core.Path.{sym, ◌∙◌}
 use mathlib.Core.Bool.{and-false}
 use native.Mathlib.Omega.{arith}
-use Rattle.buffers.specs.Cases.{answers-false, answers-true}
+use Rattle.buffers.specs.Cases.{answers_false, answers_true}
 use Rattle.tree.specs.RowAt.{row_at}
-use Rattle.soundness.specs.FieldTestLaws.{content-empty, content-in-row}
+use Rattle.soundness.specs.FieldTestLaws.{content_empty, content_in_row}
 use borrow.Author.Rules.{rules}
 use Rattle.soundness.proofs.row.has_content.Statement.{statement}
 use Rattle.soundness.proofs.row.has_content.Tie as tie
@@ -24,8 +24,8 @@ content-stands-requires c κs = search rules
 returns : tie.Need-returns
 returns c =
     let a = c.before.before.before.args in
-    let e = answers-false c.before.content-stands.ensures c.if1.true in
-    sym (content-in-row a.tree.now a.i (omega arith) ∙ rw e)
+    let e = answers_false c.before.content_stands.ensures c.if1.true in
+    sym (content_in_row a.tree.now a.i (omega arith) ∙ rw e)
 
 kind-at-requires : tie.Need-kind-at-requires
 kind-at-requires c κs = search rules
@@ -46,9 +46,9 @@ returns-2 : tie.Need-returns-2
 returns-2 c =
     let a = c.before.before.before.before.before.before.before.before.args in
     let t = a.tree.now in
-    let f = answers-false (c.before.fits-kind.ensures (row_at t a.i).here.content (content-empty t a.i)) c.if2.true in
+    let f = answers_false (c.before.fits_kind.ensures (row_at t a.i).here.content (content_empty t a.i)) c.if2.true in
     let e = rw (c.before.before.before.before.kind_at.ensures, c.before.before.before.mode-at.ensures) at f in
-    sym (content-in-row t a.i (omega arith) ∙ simp (e, and-false))
+    sym (content_in_row t a.i (omega arith) ∙ simp (e, and-false))
 
 add-is-zero : tie.Need-overflow-add-is-zero
 add-is-zero c = search rules
@@ -66,10 +66,10 @@ returns-3 : tie.Need-returns-3
 returns-3 c =
     let a = c.before.before.before.before.before.before.before.before.before.args in
     let t = a.tree.now in
-    let s = answers-true c.before.before.before.before.before.before.before.content-stands.ensures c.before.before.before.before.before.before.if1.false in
-    let f = answers-true (c.before.before.fits-kind.ensures (row_at t a.i).here.content (content-empty t a.i)) c.before.if2.false in
+    let s = answers_true c.before.before.before.before.before.before.before.content_stands.ensures c.before.before.before.before.before.before.if1.false in
+    let f = answers_true (c.before.before.fits_kind.ensures (row_at t a.i).here.content (content_empty t a.i)) c.before.if2.false in
     let e = rw (c.before.before.before.before.before.kind_at.ensures, c.before.before.before.before.mode-at.ensures) at f in
-    c.is_zero.ensures ∙ sym (content-in-row t a.i (omega arith) ∙ rw (s, e))
+    c.is_zero.ensures ∙ sym (content_in_row t a.i (omega arith) ∙ rw (s, e))
 
 pub has-content-spec : {M : Type 1} → statement M
 has-content-spec =

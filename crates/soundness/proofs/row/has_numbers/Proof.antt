@@ -3,10 +3,10 @@ use mathlib.Core.Path.{sym, ◌∙◌, ap}
 use native.Mathlib.Omega.{arith}
 use Prim.Native.Nat.{ℕ}
 use lib.Dec.{leb}
-use Rattle.buffers.specs.Cases.{answers-false, answers-true}
-use Rattle.syntax.specs.Number.{is-mode}
-use Rattle.tree.specs.WellFormed.{last-revision}
-use Rattle.soundness.specs.FieldTestLaws.{numbers-kind, numbers-owner, numbers-group, numbers-mode, numbers-revision}
+use Rattle.buffers.specs.Cases.{answers_false, answers_true}
+use Rattle.syntax.specs.Number.{is_mode}
+use Rattle.tree.specs.WellFormed.{last_revision}
+use Rattle.soundness.specs.FieldTestLaws.{numbers_kind, numbers_owner, numbers_group, numbers_mode, numbers_revision}
 use borrow.Author.Rules.{rules}
 use Rattle.soundness.proofs.row.has_numbers.Statement.{statement}
 use Rattle.soundness.proofs.row.has_numbers.Tie as tie
@@ -29,7 +29,7 @@ is-kind-requires c κs = search rules
 returns : tie.Need-returns
 returns c =
     let a = c.before.before.before.before.args in
-    sym (numbers-kind a.tree.now a.i (answers-false c.before.is-kind.ensures c.if1.true))
+    sym (numbers_kind a.tree.now a.i (answers_false c.before.is-kind.ensures c.if1.true))
 
 add-if2 : tie.Need-overflow-add-if2
 add-if2 c = search rules
@@ -40,7 +40,7 @@ shared-slice-read-if2 c = search rules
 returns-2 : tie.Need-returns-2
 returns-2 c =
     let a = c.before.before.before.before.before.before.args in
-    sym (numbers-owner a.tree.now a.i (omega arith))
+    sym (numbers_owner a.tree.now a.i (omega arith))
 
 add-if3 : tie.Need-overflow-add-if3
 add-if3 c = search rules
@@ -51,7 +51,7 @@ shared-slice-read-if3 c = search rules
 returns-3 : tie.Need-returns-3
 returns-3 c =
     let a = c.before.before.before.before.before.before.before.before.args in
-    sym (numbers-group a.tree.now a.i (omega arith))
+    sym (numbers_group a.tree.now a.i (omega arith))
 
 mode-at-requires : tie.Need-mode-at-requires
 mode-at-requires c κs = search rules
@@ -62,18 +62,18 @@ is-mode-requires c κs = search rules
 returns-4 : tie.Need-returns-4
 returns-4 c =
     let a = c.before.before.before.before.before.before.before.before.before.before.before.args in
-    sym (numbers-mode a.tree.now a.i (ap is-mode (sym c.before.before.mode-at.ensures) ∙ answers-false c.before.is-mode.ensures c.if4.true))
+    sym (numbers_mode a.tree.now a.i (ap is_mode (sym c.before.before.mode-at.ensures) ∙ answers_false c.before.is_mode.ensures c.if4.true))
 
 revision-at-requires : tie.Need-revision-at-requires
 revision-at-requires c κs = search rules
 
 returns-5 : tie.Need-returns-5
-unfolding last-revision
+unfolding last_revision
 returns-5 c =
     let a = c.before.before.before.before.before.before.before.before.before.before.before.before.args in
-    let kind = answers-true c.before.before.before.before.before.before.before.before.before.is-kind.ensures c.before.before.before.before.before.before.before.before.if1.false in
-    let mode = ap is-mode (sym c.before.before.before.mode-at.ensures) ∙ answers-true c.before.before.is-mode.ensures c.before.if4.false in
-    ap (λ (v : ℕ). leb v last-revision) c.revision-at.ensures ∙ sym (numbers-revision a.tree.now a.i kind (omega arith) (omega arith) mode)
+    let kind = answers_true c.before.before.before.before.before.before.before.before.before.is-kind.ensures c.before.before.before.before.before.before.before.before.if1.false in
+    let mode = ap is_mode (sym c.before.before.before.mode-at.ensures) ∙ answers_true c.before.before.is_mode.ensures c.before.if4.false in
+    ap (λ (v : ℕ). leb v last_revision) c.revision-at.ensures ∙ sym (numbers_revision a.tree.now a.i kind (omega arith) (omega arith) mode)
 
 pub has-numbers-spec : {M : Type 1} → statement M
 has-numbers-spec =

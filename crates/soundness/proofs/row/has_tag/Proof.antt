@@ -3,12 +3,12 @@ use mathlib.Core.Path.{sym, ◌∙◌, ap}
 use Prim.Native.Nat.{ℕ}
 use native.Mathlib.Omega.{arith}
 use lib.Dec.{eqb, leb}
-use Rattle.buffers.specs.Cases.{answers-false, answers-true}
+use Rattle.buffers.specs.Cases.{answers_false, answers_true}
 use Rattle.buffers.specs.Text.{Text}
-use Rattle.syntax.specs.Path.{entry-path}
+use Rattle.syntax.specs.Path.{entry_path}
 use Rattle.syntax.specs.Form.{is_some}
-use Rattle.tree.specs.WellFormed.{last-revision}
-use Rattle.soundness.specs.FieldTestLaws.{tag-unfilled, tag-none, tag-wrong, tag-right}
+use Rattle.tree.specs.WellFormed.{last_revision}
+use Rattle.soundness.specs.FieldTestLaws.{tag_unfilled, tag_none, tag_wrong, tag_right}
 use borrow.Author.Rules.{rules}
 use Rattle.soundness.proofs.row.has_tag.Statement.{statement}
 use Rattle.soundness.proofs.row.has_tag.Tie as tie
@@ -28,7 +28,7 @@ is-filled-requires c κs = search rules
 returns : tie.Need-returns
 returns c =
     let a = c.before.before.before.args in
-    sym (tag-unfilled a.tree.now a.i (omega arith) (answers-false c.before.is-filled.ensures c.if1.true))
+    sym (tag_unfilled a.tree.now a.i (omega arith) (answers_false c.before.is_filled.ensures c.if1.true))
 
 tag-revision-at-requires : tie.Need-tag-revision-at-requires
 tag-revision-at-requires c κs = search rules
@@ -40,8 +40,8 @@ returns-2 : tie.Need-returns-2
 returns-2 c =
     let r = c.before.before in
     let a = r.before.before.before.before.args in
-    let f = answers-true r.before.before.is-filled.ensures r.before.if1.false in
-    ap (λ (v : ℕ). eqb v 0) r.tag-revision-at.ensures ∙ sym (tag-none a.tree.now a.i (omega arith) f (omega (arith, c.if2.true)))
+    let f = answers_true r.before.before.is_filled.ensures r.before.if1.false in
+    ap (λ (v : ℕ). eqb v 0) r.tag-revision-at.ensures ∙ sym (tag_none a.tree.now a.i (omega arith) f (omega (arith, c.if2.true)))
 
 tag-path-at-requires : tie.Need-tag-path-at-requires
 tag-path-at-requires c κs = search rules
@@ -53,18 +53,18 @@ returns-3 : tie.Need-returns-3
 returns-3 c =
     let p = c.before.before in
     let a = p.before.before.before.before.before.before.before.args in
-    let e = ap (λ (t : Text). is_some (entry-path t)) (sym p.tag-path-at.ensures) ∙ answers-false c.before.is-entry-path.ensures c.if3.true in
-    sym (tag-wrong a.tree.now a.i (omega arith) (λ z. omega (arith, p.before.if2.false)) e)
+    let e = ap (λ (t : Text). is_some (entry_path t)) (sym p.tag-path-at.ensures) ∙ answers_false c.before.is_entry_path.ensures c.if3.true in
+    sym (tag_wrong a.tree.now a.i (omega arith) (λ z. omega (arith, p.before.if2.false)) e)
 
 returns-4 : tie.Need-returns-4
-unfolding last-revision
+unfolding last_revision
 returns-4 c =
     let p = c.before.before in
     let r = p.before.before.before in
     let a = r.before.before.before.before.args in
-    let f = answers-true r.before.before.is-filled.ensures r.before.if1.false in
-    let e = ap (λ (t : Text). is_some (entry-path t)) (sym p.tag-path-at.ensures) ∙ answers-true c.before.is-entry-path.ensures c.if3.false in
-    ap (λ (v : ℕ). leb v last-revision) r.tag-revision-at.ensures ∙ sym (tag-right a.tree.now a.i (omega arith) f e)
+    let f = answers_true r.before.before.is_filled.ensures r.before.if1.false in
+    let e = ap (λ (t : Text). is_some (entry_path t)) (sym p.tag-path-at.ensures) ∙ answers_true c.before.is_entry_path.ensures c.if3.false in
+    ap (λ (v : ℕ). leb v last_revision) r.tag-revision-at.ensures ∙ sym (tag_right a.tree.now a.i (omega arith) f e)
 
 pub has-tag-spec : {M : Type 1} → statement M
 has-tag-spec =

@@ -4,22 +4,22 @@ use mathlib.Core.Bool.{◌||◌, not}
 use Prim.Native.Nat.{ℕ, suc, ◌-◌}
 use native.Mathlib.Omega.{arith}
 use lib.Dec.{eqb}
-use Rattle.buffers.specs.Fields.{is-filled}
+use Rattle.buffers.specs.Fields.{is_filled}
 use Rattle.buffers.specs.Cases.{case}
-use Rattle.soundness.specs.Tests.{may-stand, any-byte}
-use Rattle.soundness.specs.NeighbourLaws.{Passed-up-to, begins, one_more, ends}
-use Rattle.soundness.specs.FilledLaws.{filled-by-bytes}
+use Rattle.soundness.specs.Tests.{may_stand, any_byte}
+use Rattle.soundness.specs.NeighbourLaws.{PassedUpTo, begins, one_more, ends}
+use Rattle.soundness.specs.FilledLaws.{filled_by_bytes}
 use Rattle.soundness.proofs.row.is_filled.Statement.{statement}
 use Rattle.soundness.proofs.row.is_filled.Tie as tie
 
 abbrev invariant-loop : tie.invariant-loop
-invariant-loop s at width all₀ k₀ all k = Passed-up-to (may-stand any-byte) s at (width - 1) all k
+invariant-loop s at width all₀ k₀ all k = PassedUpTo (may_stand any_byte) s at (width - 1) all k
 
 abbrev decreases-loop : tie.decreases-loop
 decreases-loop s at width all₀ k₀ all k = width - 1 - k
 
 loop-holds : tie.Need-loop-init invariant-loop decreases-loop
-loop-holds c = let a = c.args in begins (may-stand any-byte) a.s.now a.at (a.width - 1)
+loop-holds c = let a = c.args in begins (may_stand any_byte) a.s.now a.at (a.width - 1)
 
 sub-loop : tie.Need-overflow-sub-loop invariant-loop decreases-loop
 sub-loop c = omega arith
@@ -45,24 +45,24 @@ add-k c = omega arith
 loop-less : tie.Need-loop-smaller invariant-loop decreases-loop
 loop-less c = omega arith
 
-by_zero : (b next : ℕ) → (not (eqb b 0) || eqb next 0) ≡ may-stand any-byte b next
-unfolding may-stand any-byte
+by_zero : (b next : ℕ) → (not (eqb b 0) || eqb next 0) ≡ may_stand any_byte b next
+unfolding may_stand any_byte
 by_zero b next = case (eqb b 0) (λ e. rw e) (λ e. rw e)
 
 loop-again : tie.Need-loop-preserved invariant-loop decreases-loop
 loop-again c =
     let l = c.before.before.before in
     let a = l.before.args in
-    one_more (may-stand any-byte) a.s.now a.at (a.width - 1) _ l.loop.invariant (omega arith) (by_zero _ _)
+    one_more (may_stand any_byte) a.s.now a.at (a.width - 1) _ l.loop.invariant (omega arith) (by_zero _ _)
 
 returns : tie.Need-returns invariant-loop decreases-loop
 returns c =
     let a = c.before.before.args in
     let s = a.s.now in
     let q : suc (a.width - 1) ≡ a.width = omega arith in
-    ends (may-stand any-byte) s a.at (a.width - 1) c.before.loop.invariant (omega arith)
-    ∙ sym (filled-by-bytes a.at (a.width - 1) s (omega arith))
-    ∙ ap (λ (w : ℕ). is-filled a.at w s) q
+    ends (may_stand any_byte) s a.at (a.width - 1) c.before.loop.invariant (omega arith)
+    ∙ sym (filled_by_bytes a.at (a.width - 1) s (omega arith))
+    ∙ ap (λ (w : ℕ). is_filled a.at w s) q
 
 pub is-filled-spec : {M : Type 1} → statement M
 is-filled-spec =

@@ -1,8 +1,8 @@
 -- `soundness::row::name_is_filled` meets its contract: a field is filled up in its row as among all bytes.
 use mathlib.Core.Path.{sym, ◌∙◌}
 use native.Mathlib.Omega.{arith}
-use Rattle.tree.specs.Layout.{name-offset, name-width}
-use Rattle.soundness.specs.FieldTestLaws.{filled-in-row}
+use Rattle.tree.specs.Layout.{name_offset, name_width}
+use Rattle.soundness.specs.FieldTestLaws.{filled_in_row}
 use borrow.Author.Rules.{rules}
 use Rattle.soundness.proofs.row.name_is_filled.Statement.{statement}
 use Rattle.soundness.proofs.row.name_is_filled.Tie as tie
@@ -22,7 +22,7 @@ is-filled-requires c κs = search rules
 returns : tie.Need-returns
 returns c =
     let a = c.before.before.args in
-    c.is-filled.ensures ∙ sym (filled-in-row a.tree.now a.i (omega arith) name-offset name-width (omega arith))
+    c.is_filled.ensures ∙ sym (filled_in_row a.tree.now a.i (omega arith) name_offset name_width (omega arith))
 
 pub name-is-filled-spec : {M : Type 1} → statement M
 name-is-filled-spec = tie.close (tie.spec mul-is-filled add-is-filled add-is-filled-2 is-filled-requires returns)

@@ -3,12 +3,12 @@ use mathlib.Core.Path.{◌≡◌, ◌∙◌, ap}
 use mathlib.Core.List.{List, map}
 use Prim.Native.Nat.{ℕ, ◌-◌, ◌≤◌, ◌<◌}
 use native.Mathlib.Omega.{arith}
-use Rattle.tree.specs.Encoding.{encode-tree}
+use Rattle.tree.specs.Encoding.{encode_tree}
 use Rattle.tree.specs.TreeBytes.{Wide}
 use Rattle.store.specs.declared.Person.{Person as Slot}
 use Rattle.store.specs.Initial.{homes, topped}
-use Rattle.store.specs.InitialRows.{slot-value}
-use Rattle.store.specs.InitialRowsLaws.{with-persons, turn-opens, turn-home, turned-all}
+use Rattle.store.specs.InitialRows.{slot_value}
+use Rattle.store.specs.InitialRowsLaws.{with_persons, turn_opens, turn_home, turned_all}
 use borrow.Author.Rules.{rules}
 use Rattle.store.proofs.initial.write_initial.Statement.{statement}
 use Rattle.store.proofs.initial.write_initial.Tie as tie
@@ -17,7 +17,7 @@ use Rattle.store.proofs.initial.write_initial.Tie as tie
 record Turned (persons : List Slot) (b : List ℕ) (k : ℕ) : Type 0 where
   le : k ≤ 16
   wide : Wide b
-  encoded : b ≡ encode-tree (topped (homes (with-persons (map slot-value persons)) k))
+  encoded : b ≡ encode_tree (topped (homes (with_persons (map slot_value persons)) k))
 
 abbrev invariant-loop : tie.invariant-loop
 invariant-loop tree₀ persons k₀ tree k = Turned persons tree k
@@ -47,7 +47,7 @@ put-home-requires c κs =
     let l = c.before.before.before.loop in
     let s = c.before.before.before.before.before.before.before.before.before in
     let h : l.k < 16 = omega arith in
-    (h, (homes (with-persons (map slot-value s.args.t2)) l.k, turn-opens s.args.t2 s.requires.1 l.tree l.k h l.invariant.encoded))
+    (h, (homes (with_persons (map slot_value s.args.t2)) l.k, turn_opens s.args.t2 s.requires.1 l.tree l.k h l.invariant.encoded))
 
 add-k : tie.Need-overflow-add-k invariant-loop decreases-loop
 add-k c = search rules
@@ -65,7 +65,7 @@ loop-again c =
     record {
       le = omega arith;
       wide = p.auto.0 ∙ l.invariant.wide;
-      encoded = p.ensures (homes (with-persons (map slot-value ps)) l.k) (turn-opens ps f l.tree l.k (omega arith) l.invariant.encoded) ∙ ap encode-tree (turn-home ps l.k);
+      encoded = p.ensures (homes (with_persons (map slot_value ps)) l.k) (turn_opens ps f l.tree l.k (omega arith) l.invariant.encoded) ∙ ap encode_tree (turn_home ps l.k);
     }
 
 same_length : tie.Need-same-length invariant-loop decreases-loop
@@ -75,7 +75,7 @@ returns : tie.Need-returns invariant-loop decreases-loop
 returns c u e =
     let l = c.before.loop in
     let s = c.before.before.before.before.before.before.before in
-    turned-all (with-persons (map slot-value s.args.t2)) u l.tree l.k (omega arith) l.invariant.encoded e
+    turned_all (with_persons (map slot_value s.args.t2)) u l.tree l.k (omega arith) l.invariant.encoded e
 
 pub write-initial-spec : {M : Type 1} → statement M
 write-initial-spec =

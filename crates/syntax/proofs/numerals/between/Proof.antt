@@ -9,18 +9,18 @@ use lib.ListN.{length}
 use borrow.Author.Tests.{le-leb, lt-leb, not-true, leb-true, eqb-false}
 use borrow.Author.Rules.{rules}
 use mathlib.Core.Option.{none, some}
-use Rattle.buffers.specs.Cases.{case, and_both, answers-false, answers-true}
+use Rattle.buffers.specs.Cases.{case, and_both, answers_false, answers_true}
 use Rattle.buffers.specs.Text.{Text, every}
 use Rattle.syntax.specs.Form.{◌>>=◌, ◌>>◌, check}
-use Rattle.syntax.specs.Number.{digit, value_after, no-leading-zero, decimal, between}
-use Rattle.syntax.specs.Parts.{number_of, of-class}
+use Rattle.syntax.specs.Number.{digit, value_after, no_leading_zero, decimal, between}
+use Rattle.syntax.specs.Parts.{number_of, of_class}
 use Rattle.syntax.proofs.numerals.between.Statement.{statement}
 use Rattle.syntax.proofs.numerals.between.Tie as tie
 
 -- a text of the form of a decimal number
 record Form (s : Text) : Type 0 where
   digits : every (digit 10) s ≡ true
-  first : no-leading-zero s ≡ true
+  first : no_leading_zero s ≡ true
 
 -- its value, where it is in range
 of-form : (low high : ℕ) (s : Text) → Form s → between low high s ≡
@@ -34,7 +34,7 @@ unfolding between decimal check ◌>>=◌ ◌>>◌
 no-digits low high s e = rw e
 
 -- nor behind a leading zero
-leading : (low high : ℕ) (s : Text) → no-leading-zero s ≡ false → none ≡ between low high s
+leading : (low high : ℕ) (s : Text) → no_leading_zero s ≡ false → none ≡ between low high s
 unfolding between decimal check ◌>>=◌ ◌>>◌
 leading low high s e = simp (e, and-false)
 
@@ -71,7 +71,7 @@ from_one d ds h k =
 
 -- five digits without a leading zero are from 10000 on
 five-digits : (s : Text) → 4 < length s → Form s → 10000 ≤ value_after 10 0 s
-unfolding value_after no-leading-zero
+unfolding value_after no_leading_zero
 five-digits [] h f = let z : ⊥ = omega arith in absurd z
 five-digits (a ∷ []) h f = let z : ⊥ = omega arith in absurd z
 five-digits (a ∷ (b ∷ [])) h f = let z : ⊥ = omega arith in absurd z
@@ -84,7 +84,7 @@ five-digits (a ∷ (b ∷ (c ∷ (d ∷ (e ∷ ds))))) h f =
 -- a text of five digits or more is no number in range
 too_long : (low high : ℕ) (s : Text) → 4 < length s → high < 10000 → none ≡ between low high s
 too_long low high s h l = case (every (digit 10) s)
-    (λ d. case (no-leading-zero s)
+    (λ d. case (no_leading_zero s)
     (λ z. let f : Form s = record { digits = d; first = z } in too-great low high s f (omega (arith, five-digits s h f)))
     (λ z. leading low high s z))
     (λ d. no-digits low high s d)
@@ -99,10 +99,10 @@ all-of-requires : tie.Need-all-of-requires
 all-of-requires c κs = search rules
 
 returns-2 : tie.Need-returns-2
-unfolding number_of of-class
+unfolding number_of of_class
 returns-2 c =
     let a = c.before.before.before.before.args in
-    no-digits a.low a.high a.s.now (answers-false c.before.all_of.ensures c.if2.true)
+    no-digits a.low a.high a.s.now (answers_false c.before.all_of.ensures c.if2.true)
 
 no-leading-zero-requires : tie.Need-no-leading-zero-requires
 no-leading-zero-requires c κs = search rules
@@ -111,34 +111,34 @@ returns-3 : tie.Need-returns-3
 unfolding number_of
 returns-3 c =
     let a = c.before.before.before.before.before.before.args in
-    leading a.low a.high a.s.now (answers-false c.before.no-leading-zero.ensures c.if3.true)
+    leading a.low a.high a.s.now (answers_false c.before.no_leading_zero.ensures c.if3.true)
 
 value-requires : tie.Need-value-requires
-unfolding of-class
-value-requires c κs = (omega arith, (omega arith, answers-true c.before.before.before.all_of.ensures c.before.before.if2.false))
+unfolding of_class
+value-requires c κs = (omega arith, (omega arith, answers_true c.before.before.before.all_of.ensures c.before.before.if2.false))
 
 returns-4 : tie.Need-returns-4
-unfolding number_of of-class
+unfolding number_of of_class
 returns-4 c =
     let a = c.before.before.before.before.before.before.before.before.args in
-    let d = answers-true c.before.before.before.before.before.all_of.ensures c.before.before.before.before.if2.false in
-    let z = answers-true c.before.before.before.no-leading-zero.ensures c.before.before.if3.false in
+    let d = answers_true c.before.before.before.before.before.all_of.ensures c.before.before.before.before.if2.false in
+    let z = answers_true c.before.before.before.no_leading_zero.ensures c.before.before.if3.false in
     too_small a.low a.high a.s.now (record { digits = d; first = z }) (omega (arith, c.if4.true, c.before.value.ensures.0))
 
 returns-5 : tie.Need-returns-5
-unfolding number_of of-class
+unfolding number_of of_class
 returns-5 c =
     let a = c.before.before.before.before.before.before.before.before.before.args in
-    let d = answers-true c.before.before.before.before.before.before.all_of.ensures c.before.before.before.before.before.if2.false in
-    let z = answers-true c.before.before.before.before.no-leading-zero.ensures c.before.before.before.if3.false in
+    let d = answers_true c.before.before.before.before.before.before.all_of.ensures c.before.before.before.before.before.if2.false in
+    let z = answers_true c.before.before.before.before.no_leading_zero.ensures c.before.before.before.if3.false in
     too-great a.low a.high a.s.now (record { digits = d; first = z }) (omega (arith, c.if5.true, c.before.before.value.ensures.0))
 
 returns-6 : tie.Need-returns-6
-unfolding number_of of-class
+unfolding number_of of_class
 returns-6 c =
     let a = c.before.before.before.before.before.before.before.before.before.args in
-    let d = answers-true c.before.before.before.before.before.before.all_of.ensures c.before.before.before.before.before.if2.false in
-    let z = answers-true c.before.before.before.before.no-leading-zero.ensures c.before.before.before.if3.false in
+    let d = answers_true c.before.before.before.before.before.before.all_of.ensures c.before.before.before.before.before.if2.false in
+    let z = answers_true c.before.before.before.before.no_leading_zero.ensures c.before.before.before.if3.false in
     let f : Form a.s.now = record { digits = d; first = z } in
     let v = c.before.before.value.ensures.0 in
     ap some v ∙ fits a.low a.high a.s.now f (omega (arith, c.before.if4.false, v)) (omega (arith, c.if5.false, v))

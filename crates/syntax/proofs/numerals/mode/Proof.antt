@@ -10,11 +10,11 @@ use borrow.Author.Tests.{eq-eqb, ne_eqb, eqb-true}
 use borrow.Author.Rules.{rules}
 use mathlib.Core.Logic.{⊎_elim}
 use mathlib.Core.Option.{none, some}
-use Rattle.buffers.specs.Cases.{case, and_both, answers-false, answers-true}
+use Rattle.buffers.specs.Cases.{case, and_both, answers_false, answers_true}
 use Rattle.buffers.specs.Text.{Text, every}
 use Rattle.syntax.specs.Form.{◌>>◌, check}
-use Rattle.syntax.specs.Number.{digit, value_after, mode-digits, mode}
-use Rattle.syntax.specs.Parts.{number_of, of-class}
+use Rattle.syntax.specs.Number.{digit, value_after, mode_digits, mode}
+use Rattle.syntax.specs.Parts.{number_of, of_class}
 use Rattle.syntax.proofs.numerals.mode.Statement.{statement}
 use Rattle.syntax.proofs.numerals.mode.Tie as tie
 
@@ -30,13 +30,13 @@ two-first s e = simp (eq-eqb (get_or s 0 0) 50 e, or-true)
 
 -- no mode is read of other than four bytes
 other_length : (s : Text) → (length s ≡ 4 → ⊥) → none ≡ mode s
-unfolding mode mode-digits check ◌>>◌
+unfolding mode mode_digits check ◌>>◌
 other_length [] h = refl
 other_length (d ∷ ds) h = simp (ne_eqb (length ds) 3 (λ e. h (ap suc e)), and-false)
 
 -- nor where the first is neither 0 nor 2
 other-first : (s : Text) → (get_or s 0 0 ≡ 48 → ⊥) → (get_or s 0 0 ≡ 50 → ⊥) → none ≡ mode s
-unfolding mode mode-digits check ◌>>◌
+unfolding mode mode_digits check ◌>>◌
 other-first [] h k = refl
 other-first (d ∷ ds) h k = rw (ne_eqb d 48 h, ne_eqb d 50 k)
 
@@ -49,13 +49,13 @@ octal-first d h = case (eqb d 48)
 
 -- nor where one is no octal digit
 not-octal : (s : Text) → First s → every (digit 8) s ≡ false → none ≡ mode s
-unfolding mode mode-digits check ◌>>◌ every
+unfolding mode mode_digits check ◌>>◌ every
 not-octal [] f e = refl
 not-octal (d ∷ ds) f e = rw (f, rw (octal-first d f) at e)
 
 -- otherwise its value is read
 octal : (s : Text) → First s → every (digit 8) s ≡ true → length s ≡ 4 → some (value_after 8 0 s) ≡ mode s
-unfolding mode mode-digits check ◌>>◌ every
+unfolding mode mode_digits check ◌>>◌ every
 octal [] f e l = let z : ⊥ = omega arith in absurd z
 octal (d ∷ ds) f e l =
     let i : _ = and_both (digit 8 d) (every (digit 8) ds) e in
@@ -79,22 +79,22 @@ all-of-requires : tie.Need-all-of-requires
 all-of-requires c κs = search rules
 
 returns-3 : tie.Need-returns-3
-unfolding number_of of-class
+unfolding number_of of_class
 returns-3 c =
     let s = c.before.before.before.before.before.before.args.s.now in
     let f : First s = ⊎_elim (λ w. two-first s w.2.left) (λ w. zero-first s w.left) c.before.before.if2.branch in
-    not-octal s f (answers-false c.before.all_of.ensures c.if4.true)
+    not-octal s f (answers_false c.before.all_of.ensures c.if4.true)
 
 value-requires : tie.Need-value-requires
-unfolding of-class
-value-requires c κs = (omega arith, (omega arith, answers-true c.before.all_of.ensures c.if4.false))
+unfolding of_class
+value-requires c κs = (omega arith, (omega arith, answers_true c.before.all_of.ensures c.if4.false))
 
 returns-4 : tie.Need-returns-4
-unfolding number_of of-class
+unfolding number_of of_class
 returns-4 c =
     let s = c.before.before.before.before.before.before.before.args.s.now in
     let f : First s = ⊎_elim (λ w. two-first s w.2.left) (λ w. zero-first s w.left) c.before.before.before.if2.branch in
-    ap some c.value.ensures.0 ∙ octal s f (answers-true c.before.before.all_of.ensures c.before.if4.false) (omega arith)
+    ap some c.value.ensures.0 ∙ octal s f (answers_true c.before.before.all_of.ensures c.before.if4.false) (omega arith)
 
 pub mode-spec : {M : Type 1} → statement M
 mode-spec =

@@ -7,32 +7,32 @@ use mathlib.Core.List.{List, [], ◌∷◌}
 use lib.Dec.{eqb}
 use lib.ListN.{length, get_or}
 use borrow.Author.Rules.{rules}
-use Rattle.syntax.specs.Number.{no-leading-zero}
+use Rattle.syntax.specs.Number.{no_leading_zero}
 use Rattle.syntax.proofs.numerals.no_leading_zero.Statement.{statement}
 use Rattle.syntax.proofs.numerals.no_leading_zero.Tie as tie
 
 -- no digit
-empty : (s : List ℕ) → length s ≡ 0 → false ≡ no-leading-zero s
-unfolding no-leading-zero
+empty : (s : List ℕ) → length s ≡ 0 → false ≡ no_leading_zero s
+unfolding no_leading_zero
 empty [] h = refl
 empty (d ∷ s) h = let z : ⊥ = omega arith in absurd z
 
 -- one digit
-single : (s : List ℕ) → length s ≡ 1 → true ≡ no-leading-zero s
-unfolding no-leading-zero
+single : (s : List ℕ) → length s ≡ 1 → true ≡ no_leading_zero s
+unfolding no_leading_zero
 single [] h = let z : ⊥ = omega arith in absurd z
 single (d ∷ []) h = refl
 single (d ∷ (e ∷ s)) h = let z : ⊥ = omega arith in absurd z
 
 -- more digits
-several : (s : List ℕ) → 2 ≤ length s → not (eqb (get_or s 0 0) 48) ≡ no-leading-zero s
-unfolding no-leading-zero
+several : (s : List ℕ) → 2 ≤ length s → not (eqb (get_or s 0 0) 48) ≡ no_leading_zero s
+unfolding no_leading_zero
 several [] h = let z : ⊥ = omega arith in absurd z
 several (d ∷ []) h = let z : ⊥ = omega arith in absurd z
 several (d ∷ (e ∷ s)) h = refl
 
 returns : tie.Need-returns
-unfolding no-leading-zero
+unfolding no_leading_zero
 returns c = empty c.before.args.s.now c.if1.true
 
 returns-2 : tie.Need-returns-2

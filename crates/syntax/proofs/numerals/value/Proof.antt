@@ -13,7 +13,7 @@ use lib.Seq.{drop-cons}
 use borrow.Author.Tests.{ltb-true, leb-true}
 use Rattle.buffers.specs.Cases.{and_both}
 use Rattle.buffers.specs.Text.{every}
-use Rattle.buffers.specs.TextLaws.{every-from}
+use Rattle.buffers.specs.TextLaws.{every_from}
 use Rattle.syntax.specs.Number.{digit, value_after}
 use Rattle.syntax.proofs.numerals.value.Statement.{statement}
 use Rattle.syntax.proofs.numerals.value.Tie as tie
@@ -37,7 +37,7 @@ below_power n i k h l = omega (arith, pow-le-pow_right {n = 10} (omega arith) l)
 digit-here : (s : List ℕ) (base n i : ℕ) → Going s base n i → i < length s → length s ≤ 4 → base ≤ 10 → Digit base n (get_or s i 0)
 unfolding digit
 digit-here s base n i g h l b =
-    let e : _ = and_both (digit base (get_or s i 0)) (every (digit base) (drop (suc i) s)) (sym (every-from (digit base) s i h) ∙ g.digits) in
+    let e : _ = and_both (digit base (get_or s i 0)) (every (digit base) (drop (suc i) s)) (sym (every_from (digit base) s i h) ∙ g.digits) in
     let d : _ = and_both (leb 48 (get_or s i 0)) (ltb (get_or s i 0) (48 + base)) e.0 in
     record {
       from = leb-true 48 (get_or s i 0) d.0;
@@ -52,7 +52,7 @@ turn : (s : List ℕ) (base n i : ℕ) → Going s base n i → i < length s →
 unfolding value_after
 turn s base n i g h l b =
     let d : _ = digit-here s base n i g h l b in
-    let e : _ = and_both (digit base (get_or s i 0)) (every (digit base) (drop (suc i) s)) (sym (every-from (digit base) s i h) ∙ g.digits) in
+    let e : _ = and_both (digit base (get_or s i 0)) (every (digit base) (drop (suc i) s)) (sym (every_from (digit base) s i h) ∙ g.digits) in
     record {
       le = omega arith;
       small = rw (add-one, pow-suc 10 i) (omega (arith, d.from, d.below, d.times, g.small));

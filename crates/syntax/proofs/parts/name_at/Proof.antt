@@ -1,6 +1,6 @@
 -- `syntax::parts::name_at` meets its contract: what it calls tests the part.
 use borrow.Author.Rules.{rules}
-use Rattle.syntax.specs.Parts.{span-text, part}
+use Rattle.syntax.specs.Parts.{span_text, part}
 use Rattle.syntax.proofs.parts.name_at.Statement.{statement}
 use Rattle.syntax.proofs.parts.name_at.Tie as tie
 
@@ -17,7 +17,7 @@ is-name-requires : tie.Need-is-name-requires
 is-name-requires c κs = search rules
 
 returns : tie.Need-returns
-unfolding span-text part
+unfolding span_text part
 returns c = c.is_name.ensures
 
 pub name-at-spec : {M : Type 1} → statement M

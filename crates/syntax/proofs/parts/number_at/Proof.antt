@@ -1,6 +1,6 @@
 -- `syntax::parts::number_at` meets its contract: what it calls reads the part.
 use borrow.Author.Rules.{rules}
-use Rattle.syntax.specs.Parts.{span-text, part}
+use Rattle.syntax.specs.Parts.{span_text, part}
 use Rattle.syntax.proofs.parts.number_at.Statement.{statement}
 use Rattle.syntax.proofs.parts.number_at.Tie as tie
 
@@ -17,7 +17,7 @@ between-requires : tie.Need-between-requires
 between-requires c κs = search rules
 
 returns : tie.Need-returns
-unfolding span-text part
+unfolding span_text part
 returns c = c.between.ensures
 
 pub number-at-spec : {M : Type 1} → statement M

@@ -1,6 +1,6 @@
 -- `syntax::parts::word_is` meets its contract: what it calls compares the part.
 use borrow.Author.Rules.{rules}
-use Rattle.syntax.specs.Parts.{span-text, part}
+use Rattle.syntax.specs.Parts.{span_text, part}
 use Rattle.syntax.proofs.parts.word_is.Statement.{statement}
 use Rattle.syntax.proofs.parts.word_is.Tie as tie
 
@@ -17,7 +17,7 @@ same-requires : tie.Need-same-requires
 same-requires c κs = search rules
 
 returns : tie.Need-returns
-unfolding span-text part
+unfolding span_text part
 returns c = c.same.ensures
 
 pub word-is-spec : {M : Type 1} → statement M

@@ -4,11 +4,11 @@ use native.Mathlib.Omega.{arith}
 use mathlib.Core.Path.{◌≡◌, sym, ap, ◌∙◌}
 use mathlib.Core.List.{List}
 use lib.ListN.{length, drop}
-use Rattle.buffers.specs.Cases.{answers-false, answers-true}
+use Rattle.buffers.specs.Cases.{answers_false, answers_true}
 use Rattle.syntax.specs.Pieces.{pieces}
-use Rattle.syntax.specs.Path.{some-names}
+use Rattle.syntax.specs.Path.{some_names}
 use Rattle.syntax.specs.Form.{is_some}
-use Rattle.syntax.specs.PathPartsLaws.{names-left, names-full, names-stop-from, names-last-from, names-next-from, names-are}
+use Rattle.syntax.specs.PathPartsLaws.{names_left, names_full, names_stop_from, names_last_from, names_next_from, names_are}
 use Rattle.syntax.specs.Parts.{part}
 use Rattle.syntax.proofs.paths.are_names.Statement.{statement}
 use Rattle.syntax.proofs.paths.are_names.Tie as tie
@@ -16,7 +16,7 @@ use Rattle.syntax.proofs.paths.are_names.Tie as tie
 record Going (s : List ℕ) (from at count : ℕ) : Type 0 where
   le : at ≤ length s
   few : count ≤ 6
-  goes : names-left count (pieces 47 (drop at s)) ≡ is_some (some-names (pieces 47 (drop from s)))
+  goes : names_left count (pieces 47 (drop at s)) ≡ is_some (some_names (pieces 47 (drop from s)))
 
 abbrev invariant-loop : tie.invariant-loop
 invariant-loop s from at₀ count₀ at count = Going s from at count
@@ -27,7 +27,7 @@ decreases-loop s from at₀ count₀ at count = length s - at
 loop-holds : tie.Need-loop-init invariant-loop decreases-loop
 loop-holds c =
     let s = c.before.args.s.now in
-    record { le = omega arith; few = omega arith; goes = sym (names-are (drop c.before.args.from s)) }
+    record { le = omega arith; few = omega arith; goes = sym (names_are (drop c.before.args.from s)) }
 
 piece-end-requires : tie.Need-piece-end-requires invariant-loop decreases-loop
 piece-end-requires c κs = omega arith
@@ -36,7 +36,7 @@ returns : tie.Need-returns invariant-loop decreases-loop
 returns c =
     let l = c.before.before.loop in
     let s = c.before.before.before.before.args.s.now in
-    sym (ap (λ (k : ℕ). names-left k (pieces 47 (drop l.at s))) c.if1.true ∙ names-full (drop l.at s)) ∙ l.invariant.goes
+    sym (ap (λ (k : ℕ). names_left k (pieces 47 (drop l.at s))) c.if1.true ∙ names_full (drop l.at s)) ∙ l.invariant.goes
 
 sub-is-name : tie.Need-overflow-sub-is-name invariant-loop decreases-loop
 sub-is-name c = omega arith
@@ -56,8 +56,8 @@ returns-2 c =
     let l = c.before.before.before.before.before.loop in
     let s = c.before.before.before.before.before.before.before.args.s.now in
     let p = c.before.before.before.before.piece-end in
-    let n = answers-false c.before.is_name.ensures c.if2.true in
-    sym (names-stop-from s l.at p.result l.count (omega arith) p.ensures.0 n) ∙ l.invariant.goes
+    let n = answers_false c.before.is_name.ensures c.if2.true in
+    sym (names_stop_from s l.at p.result l.count (omega arith) p.ensures.0 n) ∙ l.invariant.goes
 
 returns-3 : tie.Need-returns-3 invariant-loop decreases-loop
 unfolding part
@@ -65,9 +65,9 @@ returns-3 c =
     let l = c.before.before.before.before.before.before.loop in
     let s = c.before.before.before.before.before.before.before.before.args.s.now in
     let p = c.before.before.before.before.before.piece-end in
-    let n = answers-true c.before.before.is_name.ensures c.before.if2.false in
+    let n = answers_true c.before.before.is_name.ensures c.before.if2.false in
     let few : l.count < 6 = omega (arith, l.invariant.few, c.before.before.before.before.if1.false) in
-    sym (names-last-from s l.at p.result l.count (omega arith) p.ensures.0 c.if3.true n few) ∙ l.invariant.goes
+    sym (names_last_from s l.at p.result l.count (omega arith) p.ensures.0 c.if3.true n few) ∙ l.invariant.goes
 
 add_at : tie.Need-overflow-add-at invariant-loop decreases-loop
 add_at c = omega arith
@@ -84,8 +84,8 @@ loop-again c =
     let l = c.before.before.before.before.before.before.loop in
     let s = c.before.before.before.before.before.before.before.before.args.s.now in
     let p = c.before.before.before.before.before.piece-end in
-    let n = answers-true c.before.before.is_name.ensures c.before.if2.false in
-    let next = names-next-from s l.at p.result l.count (omega arith) p.ensures.0 (omega arith) n in
+    let n = answers_true c.before.before.is_name.ensures c.before.if2.false in
+    let next = names_next_from s l.at p.result l.count (omega arith) p.ensures.0 (omega arith) n in
     record { le = omega arith; few = omega arith; goes = next ∙ l.invariant.goes }
 
 pub are-names-spec : {M : Type 1} → statement M

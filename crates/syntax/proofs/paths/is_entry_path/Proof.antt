@@ -3,14 +3,14 @@ use native.Mathlib.Omega.{arith}
 use mathlib.Core.Path.{sym, ◌∙◌}
 use borrow.Author.Rules.{rules}
 use lib.Seq.{length-take-le}
-use Rattle.buffers.specs.Cases.{answers-false, answers-true}
+use Rattle.buffers.specs.Cases.{answers_false, answers_true}
 use Rattle.syntax.specs.Pieces.{bytes}
-use Rattle.syntax.specs.PathPartsLaws.{entry-long, entry-begins, entry-is-path}
+use Rattle.syntax.specs.PathPartsLaws.{entry_long, entry_begins, entry_is_path}
 use Rattle.syntax.proofs.paths.is_entry_path.Statement.{statement}
 use Rattle.syntax.proofs.paths.is_entry_path.Tie as tie
 
 returns : tie.Need-returns
-returns c = sym (entry-long c.before.before.args.s.now c.if1.true)
+returns c = sym (entry_long c.before.before.args.s.now c.if1.true)
 
 slice-aggregate-same : tie.Need-slice-aggregate-same
 slice-aggregate-same c = sym (length-take-le 5 c.before.before.before.args.s.now (omega arith))
@@ -23,7 +23,7 @@ same-requires c κs = search rules
 
 returns-2 : tie.Need-returns-2
 unfolding bytes
-returns-2 c = sym (entry-begins c.before.before.before.before.before.before.args.s.now (answers-false c.before.same.ensures c.if2.true))
+returns-2 c = sym (entry_begins c.before.before.before.before.before.before.args.s.now (answers_false c.before.same.ensures c.if2.true))
 
 is-path-requires : tie.Need-is-path-requires
 is-path-requires c κs = search rules
@@ -32,7 +32,7 @@ returns-3 : tie.Need-returns-3
 unfolding bytes
 returns-3 c =
     let s = c.before.before.before.before.before.before.before.args.s.now in
-    c.is-path.ensures ∙ sym (entry-is-path s (omega arith) (answers-true c.before.before.same.ensures c.before.if2.false))
+    c.is_path.ensures ∙ sym (entry_is_path s (omega arith) (answers_true c.before.before.same.ensures c.before.if2.false))
 
 pub is-entry-path-spec : {M : Type 1} → statement M
 is-entry-path-spec =

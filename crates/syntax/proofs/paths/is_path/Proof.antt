@@ -1,7 +1,7 @@
 -- `syntax::paths::is_path` meets its contract: a text that begins with `/` is a path where nothing or names stand behind it.
 use native.Mathlib.Omega.{arith}
 use mathlib.Core.Path.{sym, ◌∙◌}
-use Rattle.syntax.specs.PathPartsLaws.{path_empty, path-begins, path-top, path-is-names}
+use Rattle.syntax.specs.PathPartsLaws.{path_empty, path_begins, path_top, path_is_names}
 use borrow.Author.Rules.{rules}
 use Rattle.syntax.proofs.paths.is_path.Statement.{statement}
 use Rattle.syntax.proofs.paths.is_path.Tie as tie
@@ -13,17 +13,17 @@ shared-slice-read-if2 : tie.Need-shared-slice-read-if2
 shared-slice-read-if2 c = search rules
 
 returns-2 : tie.Need-returns-2
-returns-2 c = sym (path-begins c.before.before.before.before.args.s.now (omega arith) c.if2.true)
+returns-2 c = sym (path_begins c.before.before.before.before.args.s.now (omega arith) c.if2.true)
 
 returns-3 : tie.Need-returns-3
-returns-3 c = sym (path-top c.before.before.before.before.before.args.s.now c.if3.true c.before.if2.false)
+returns-3 c = sym (path_top c.before.before.before.before.before.args.s.now c.if3.true c.before.if2.false)
 
 are-names-requires : tie.Need-are-names-requires
 are-names-requires c κs = search rules
 
 returns-4 : tie.Need-returns-4
 returns-4 c =
-    c.are-names.ensures ∙ sym (path-is-names c.before.before.before.before.before.before.args.s.now (omega arith) c.before.before.if2.false)
+    c.are-names.ensures ∙ sym (path_is_names c.before.before.before.before.before.before.args.s.now (omega arith) c.before.before.if2.false)
 
 pub is-path-spec : {M : Type 1} → statement M
 is-path-spec =

@@ -4,14 +4,14 @@ use native.Mathlib.Omega.{arith}
 use mathlib.Core.Path.{◌≡◌, refl, sym, ap, ◌∙◌}
 use mathlib.Core.List.{List}
 use lib.ListN.{length}
-use Rattle.syntax.specs.Parts.{slash-before, last-slash}
-use Rattle.syntax.specs.ParentLaws.{slash-here, slash-not-here}
+use Rattle.syntax.specs.Parts.{slash_before, last_slash}
+use Rattle.syntax.specs.ParentLaws.{slash_here, slash_not_here}
 use Rattle.syntax.proofs.paths.last_slash.Statement.{statement}
 use Rattle.syntax.proofs.paths.last_slash.Tie as tie
 
 record Going (path : List ℕ) (i : ℕ) : Type 0 where
   le : i ≤ length path
-  goes : slash-before path i ≡ last-slash path
+  goes : slash_before path i ≡ last_slash path
 
 abbrev invariant-loop : tie.invariant-loop
 invariant-loop path i₀ i = Going path i
@@ -20,7 +20,7 @@ abbrev decreases-loop : tie.decreases-loop
 decreases-loop path i₀ i = i
 
 loop-holds : tie.Need-loop-init invariant-loop decreases-loop
-unfolding last-slash
+unfolding last_slash
 loop-holds c = record { le = omega arith; goes = refl }
 
 sub-i : tie.Need-overflow-sub-i invariant-loop decreases-loop
@@ -33,7 +33,7 @@ returns : tie.Need-returns invariant-loop decreases-loop
 returns c =
     let l = c.before.before.before.loop in
     let s = c.before.before.before.before.args.path.now in
-    (sym (slash-here s l.i (l.i - 1) (omega arith) c.if1.true) ∙ l.invariant.goes, omega arith)
+    (sym (slash_here s l.i (l.i - 1) (omega arith) c.if1.true) ∙ l.invariant.goes, omega arith)
 
 loop-less : tie.Need-loop-smaller invariant-loop decreases-loop
 loop-less c = omega arith
@@ -42,15 +42,15 @@ loop-again : tie.Need-loop-preserved invariant-loop decreases-loop
 loop-again c =
     let l = c.before.before.before.loop in
     let s = c.before.before.before.before.args.path.now in
-    record { le = omega arith; goes = slash-not-here s l.i (l.i - 1) (omega arith) c.if1.false ∙ l.invariant.goes }
+    record { le = omega arith; goes = slash_not_here s l.i (l.i - 1) (omega arith) c.if1.false ∙ l.invariant.goes }
 
 returns-2 : tie.Need-returns-2 invariant-loop decreases-loop
-unfolding slash-before
+unfolding slash_before
 returns-2 c =
     let l = c.before.loop in
     let s = c.before.before.args.path.now in
     let none : 0 ≡ l.i = omega arith in
-    (ap (slash-before s) none ∙ l.invariant.goes, omega arith)
+    (ap (slash_before s) none ∙ l.invariant.goes, omega arith)
 
 pub last-slash-spec : {M : Type 1} → statement M
 last-slash-spec =

@@ -3,8 +3,8 @@
 use mathlib.Core.Path.{◌∙◌}
 use native.Mathlib.Omega.{arith}
 use lib.ListN.{length-set}
-use Rattle.syntax.specs.RenderLaws.{wrote-digit, wrote-last, before-last-ends}
-use Rattle.syntax.specs.NumberLaws.{decimal-one, decimal-longer}
+use Rattle.syntax.specs.RenderLaws.{wrote_digit, wrote_last, before_last_ends}
+use Rattle.syntax.specs.NumberLaws.{decimal_one, decimal_longer}
 use Prim.Native.Nat.{ℕ, ◌+◌, ◌<◌}
 use borrow.Fn.Kinds.{In}
 use borrow.Fn.PlainCycle.{Measures, is, falls, and}
@@ -45,7 +45,7 @@ write-decimal-slice-write-b : (t : ℕ) → write-decimal-lts.Need-slice-write-b
   write-decimal-below t,
   write-decimal.Post,
 ) (write-decimal-at t) write-decimal.Post
-write-decimal-slice-write-b t c = omega (arith, decimal-one c.before.before.args.n (omega arith))
+write-decimal-slice-write-b t c = omega (arith, decimal_one c.before.before.args.n (omega arith))
 
 write-decimal-add-result : (t : ℕ) → write-decimal-lts.Need-overflow-add-result (
   write-decimal-below t,
@@ -63,13 +63,13 @@ write-decimal-returns : (t : ℕ) → write-decimal-lts.Need-returns (
   write-decimal-below t,
   write-decimal.Post,
 ) (write-decimal-at t) write-decimal.Post
-write-decimal-returns t c = let a = c.before.before.args in wrote-digit a.n a.b.now a.at (omega arith) (omega (arith, decimal-one a.n (omega arith)))
+write-decimal-returns t c = let a = c.before.before.args in wrote_digit a.n a.b.now a.at (omega arith) (omega (arith, decimal_one a.n (omega arith)))
 
 write-decimal-write-decimal-requires : (t : ℕ) → write-decimal-lts.Need-write-decimal-requires (
   write-decimal-below t,
   write-decimal.Post,
 ) (write-decimal-at t) write-decimal.Post
-write-decimal-write-decimal-requires t c κs = (omega arith, omega (arith, decimal-longer c.before.before.before.args.n (omega arith)))
+write-decimal-write-decimal-requires t c κs = (omega arith, omega (arith, decimal_longer c.before.before.before.args.n (omega arith)))
 
 write-decimal-cast-b-2 : (t : ℕ) → write-decimal-lts.Need-overflow-cast-b-2 (
   write-decimal-below t,
@@ -90,7 +90,7 @@ write-decimal-slice-write-b-2 : (t : ℕ) → write-decimal-lts.Need-slice-write
 write-decimal-slice-write-b-2 t c =
     let w = c.before.before.write-decimal in
     let a = c.before.before.before.before.before.before.args in
-    omega (arith, w.auto.0, before-last-ends a.n a.b.now a.at w.new.0 w.result (omega arith) c.before.before.before.before.before.before.requires.1 w.ensures)
+    omega (arith, w.auto.0, before_last_ends a.n a.b.now a.at w.new.0 w.result (omega arith) c.before.before.before.before.before.before.requires.1 w.ensures)
 
 write-decimal-add-result-2 : (t : ℕ) → write-decimal-lts.Need-overflow-add-result-2 (
   write-decimal-below t,
@@ -99,7 +99,7 @@ write-decimal-add-result-2 : (t : ℕ) → write-decimal-lts.Need-overflow-add-r
 write-decimal-add-result-2 t c =
     let w = c.before.before.write-decimal in
     let a = c.before.before.before.before.before.before.args in
-    omega (arith, before-last-ends a.n a.b.now a.at w.new.0 w.result (omega arith) c.before.before.before.before.before.before.requires.1 w.ensures)
+    omega (arith, before_last_ends a.n a.b.now a.at w.new.0 w.result (omega arith) c.before.before.before.before.before.before.requires.1 w.ensures)
 
 write-decimal-same-length-2 : (t : ℕ) → write-decimal-lts.Need-same-length-2 (
   write-decimal-below t,
@@ -114,8 +114,8 @@ write-decimal-returns-2 : (t : ℕ) → write-decimal-lts.Need-returns-2 (
 write-decimal-returns-2 t c =
     let w = c.before.before.write-decimal in
     let a = c.before.before.before.before.before.before.args in
-    wrote-last a.n a.b.now a.at w.new.0 w.result (omega arith) w.ensures w.auto.0
-    (omega (arith, before-last-ends a.n a.b.now a.at w.new.0 w.result (omega arith) c.before.before.before.before.before.before.requires.1 w.ensures))
+    wrote_last a.n a.b.now a.at w.new.0 w.result (omega arith) w.ensures w.auto.0
+    (omega (arith, before_last_ends a.n a.b.now a.at w.new.0 w.result (omega arith) c.before.before.before.before.before.before.requires.1 w.ensures))
 
 pub +write-decimal-spec : {M : Type 1} → statement M
 +write-decimal-spec = close μ-write-decimal λ t. write-decimal-lts.spec (

@@ -1,6 +1,6 @@
 -- `syntax::render::write_mode` meets its contract: its four digits are written side by side.
 use borrow.Author.Rules.{rules}
-use Rattle.syntax.specs.RenderLaws.{wrote-mode}
+use Rattle.syntax.specs.RenderLaws.{wrote_mode}
 use Rattle.syntax.proofs.render.write_mode.Statement.{statement}
 use Rattle.syntax.proofs.render.write_mode.Tie as tie
 
@@ -41,7 +41,7 @@ returns : tie.Need-returns
 returns c =
     let w = c.before.before.write-four in
     let a = c.before.before.before.before.before.args in
-    wrote-mode a.mode a.b.now a.at w.new.0 w.ensures
+    wrote_mode a.mode a.b.now a.at w.new.0 w.ensures
 
 pub write-mode-spec : {M : Type 1} → statement M
 write-mode-spec =

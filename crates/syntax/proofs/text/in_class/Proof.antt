@@ -6,7 +6,7 @@ use lib.Dec.{leb, ltb}
 use borrow.Author.Tests.{lt-ltb, le-ltb, leb-true, leb-false}
 use borrow.Author.Rules.{rules}
 use Rattle.buffers.specs.Cases.{case}
-use Rattle.syntax.specs.Parts.{of-class}
+use Rattle.syntax.specs.Parts.{of_class}
 use Rattle.syntax.specs.Number.{digit}
 use Rattle.syntax.proofs.text.in_class.Statement.{statement}
 use Rattle.syntax.proofs.text.in_class.Tie as tie
@@ -42,19 +42,19 @@ within-requires-2 : tie.Need-within-requires-2
 within-requires-2 c κs = search rules
 
 returns : tie.Need-returns
-unfolding of-class digit
+unfolding of_class digit
 returns c = rw c.before.enum_told.given.1 c.is-name-byte.ensures
 
 returns-2 : tie.Need-returns-2
-unfolding of-class digit
+unfolding of_class digit
 returns-2 c = rw c.before.enum-told2.given.1 c.is-content-byte.ensures
 
 returns-3 : tie.Need-returns-3
-unfolding of-class digit
+unfolding of_class digit
 returns-3 c = rw (c.before.enum-told3.given.1, ← up_to c.before.before.before.args.b 57) c.within.ensures
 
 returns-4 : tie.Need-returns-4
-unfolding of-class digit
+unfolding of_class digit
 returns-4 c = rw (c.before.enum-told4.given.1, ← up_to c.before.before.before.args.b 55) c.within2.ensures
 
 pub in-class-spec : {M : Type 1} → statement M

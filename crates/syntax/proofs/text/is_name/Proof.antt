@@ -6,7 +6,7 @@ use lib.ListN.{length}
 use borrow.Author.Tests.{le-leb, lt-leb}
 use borrow.Author.Rules.{rules}
 use Rattle.syntax.specs.Path.{is_name}
-use Rattle.syntax.specs.Parts.{of-class}
+use Rattle.syntax.specs.Parts.{of_class}
 use Rattle.syntax.proofs.text.is_name.Statement.{statement}
 use Rattle.syntax.proofs.text.is_name.Tie as tie
 
@@ -22,7 +22,7 @@ all-of-requires : tie.Need-all-of-requires
 all-of-requires c κs = search rules
 
 returns-3 : tie.Need-returns-3
-unfolding is_name of-class
+unfolding is_name of_class
 returns-3 c =
     let s = c.before.before.before.before.args.s.now in
     rw (c.all_of.ensures, le-leb 1 (length s) (omega arith), le-leb (length s) 8 (omega arith)) (sym (and-true _))

@@ -2,7 +2,7 @@
 use mathlib.Core.Path.{ap}
 use borrow.Author.Rules.{rules}
 use Rattle.tree.specs.declared.Search.{Search}
-use Rattle.tree.specs.Search.{search-in}
+use Rattle.tree.specs.Search.{search_in}
 use Rattle.tree.proofs.children.find_child.Statement.{statement}
 use Rattle.tree.proofs.children.find_child.Tie as tie
 
@@ -10,7 +10,7 @@ search-child-requires : tie.Need-search-child-requires
 search-child-requires c κs = search rules
 
 returns : tie.Need-returns
-unfolding search-in
+unfolding search_in
 returns c = ap (λ (x : Search). x.child) c.search-child.ensures
 
 pub find-child-spec : {M : Type 1} → statement M

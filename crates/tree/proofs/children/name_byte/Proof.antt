@@ -4,8 +4,8 @@ use mathlib.Core.Path.{sym}
 use lib.ListN.{get_or-eq_default}
 use borrow.Author.Rules.{rules}
 use Rattle.tree.specs.RowAt.{row_at}
-use Rattle.tree.specs.RowAtLaws.{row-name-fits}
-use Rattle.tree.specs.SearchLaws.{name-byte}
+use Rattle.tree.specs.RowAtLaws.{row_name_fits}
+use Rattle.tree.specs.SearchLaws.{name_byte}
 use Rattle.tree.proofs.children.name_byte.Statement.{statement}
 use Rattle.tree.proofs.children.name_byte.Tie as tie
 
@@ -27,12 +27,12 @@ shared-slice-read-result c = search rules
 returns : tie.Need-returns
 returns c =
     let a = c.before.before.args in
-    sym (name-byte a.tree.now a.i a.k (omega arith) (omega arith))
+    sym (name_byte a.tree.now a.i a.k (omega arith) (omega arith))
 
 returns-2 : tie.Need-returns-2
 returns-2 c =
     let a = c.before.args in
-    sym (get_or-eq_default (row_at a.tree.now a.i).name 0 (omega (arith, row-name-fits a.tree.now a.i)))
+    sym (get_or-eq_default (row_at a.tree.now a.i).name 0 (omega (arith, row_name_fits a.tree.now a.i)))
 
 pub name-byte-spec : {M : Type 1} → statement M
 name-byte-spec =

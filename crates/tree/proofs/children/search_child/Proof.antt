@@ -10,15 +10,15 @@ use Rattle.buffers.specs.Text.{Text}
 use Rattle.tree.specs.declared.Child.{Child}
 use Rattle.tree.specs.declared.Child.TheVariants.{Missing}
 use Rattle.tree.specs.declared.Search.{Search}
-use Rattle.tree.specs.Layout.{most-rows, name-width}
-use Rattle.tree.specs.RowScan.{Order, Before, Same, After, order-in, child-by, child-in}
-use Rattle.tree.specs.RowScanLaws.{order_below, order-above, order-beside}
-use Rattle.tree.specs.Search.{steps-at, steps-by, steps-in, search-in}
-use Rattle.tree.specs.ComparedLaws.{Compared, Decided, compared-none, one_more, first_ends, stands-before, stands_after, both_end, second-ends}
-use Rattle.tree.specs.RowAt.{row_count, row_at, all-rows}
-use Rattle.tree.specs.TreeBytes.{Has-row}
-use Rattle.tree.specs.RowAtLaws.{row-name-fits}
-use Rattle.tree.specs.SearchLaws.{name-nonzero, steps-aside, steps-beside, child-left, child-left-row, child-left-end, child-left-all, steps-left, steps-left-row, steps-left-end, steps-left-all}
+use Rattle.tree.specs.Layout.{most_rows, name_width}
+use Rattle.tree.specs.RowScan.{Order, Before, Same, After, order_in, child_by, child_in}
+use Rattle.tree.specs.RowScanLaws.{order_below, order_above, order_beside}
+use Rattle.tree.specs.Search.{steps_at, steps_by, steps_in, search_in}
+use Rattle.tree.specs.ComparedLaws.{Compared, Decided, compared_none, one_more, first_ends, stands_before, stands_after, both_end, second_ends}
+use Rattle.tree.specs.RowAt.{row_count, row_at, all_rows}
+use Rattle.tree.specs.TreeBytes.{HasRow}
+use Rattle.tree.specs.RowAtLaws.{row_name_fits}
+use Rattle.tree.specs.SearchLaws.{name_nonzero, steps_aside, steps_beside, child_left, child_left_row, child_left_end, child_left_all, steps_left, steps_left_row, steps_left_end, steps_left_all}
 use Rattle.tree.proofs.children.search_child.Statement.{statement}
 use Rattle.tree.proofs.children.search_child.Tie as tie
 
@@ -26,40 +26,40 @@ use Rattle.tree.proofs.children.search_child.Tie as tie
 record Going (tree : List ℕ) (at : ℕ) (name : Text) (n depth steps i : ℕ) : Type 0 where
   le : i ≤ n
   all : n ≡ row_count tree
-  few : n ≤ most-rows
-  small : steps ≤ suc name-width * i
-  goes : child-left tree depth name i ≡ child-in (all-rows tree) at name
-  sums : steps + steps-left tree depth name i ≡ steps-in (all-rows tree) at name
+  few : n ≤ most_rows
+  small : steps ≤ suc name_width * i
+  goes : child_left tree depth name i ≡ child_in (all_rows tree) at name
+  sums : steps + steps_left tree depth name i ≡ steps_in (all_rows tree) at name
 
 -- the search answers a child and its steps
 abbrev Answers : List ℕ → ℕ → Text → Child → ℕ → Type 0
-Answers tree at name child steps = ◌≡◌ {A = Search} (record { child = child; steps = steps }) (search-in (all-rows tree) at name)
+Answers tree at name child steps = ◌≡◌ {A = Search} (record { child = child; steps = steps }) (search_in (all_rows tree) at name)
 
 whole : {child : Child} {steps : ℕ} (tree : List ℕ) (at : ℕ) (name : Text)
-    → child ≡ child-in (all-rows tree) at name → steps ≡ steps-in (all-rows tree) at name → Answers tree at name child steps
-unfolding search-in
+    → child ≡ child_in (all_rows tree) at name → steps ≡ steps_in (all_rows tree) at name → Answers tree at name child steps
+unfolding search_in
 whole tree at name c s = λ j. record { child = c j; steps = s j }
 
 module _ {tree : List ℕ} {at : ℕ} {name : Text} {n depth steps i : ℕ} (g : Going tree at name n depth steps i) where
   -- at a row the search goes by how that stands and what steps it takes
-  module _ (h : i < n) {o : Order} {s : ℕ} (e : order-in depth name (row_at tree i) ≡ o) (q : steps-at depth name (row_at tree i) ≡ s) where
-    child-turns : child-by o i (child-left tree depth name (suc i)) ≡ child-in (all-rows tree) at name
+  module _ (h : i < n) {o : Order} {s : ℕ} (e : order_in depth name (row_at tree i) ≡ o) (q : steps_at depth name (row_at tree i) ≡ s) where
+    child-turns : child_by o i (child_left tree depth name (suc i)) ≡ child_in (all_rows tree) at name
     child-turns =
-        ap (λ (x : Order). child-by x i (child-left tree depth name (suc i))) (sym e)
-        ∙ sym (child-left-row tree depth name i (omega (arith, g.all)))
+        ap (λ (x : Order). child_by x i (child_left tree depth name (suc i))) (sym e)
+        ∙ sym (child_left_row tree depth name i (omega (arith, g.all)))
         ∙ g.goes
 
-    steps-turn : steps + steps-by o s (steps-left tree depth name (suc i)) ≡ steps-in (all-rows tree) at name
+    steps-turn : steps + steps_by o s (steps_left tree depth name (suc i)) ≡ steps_in (all_rows tree) at name
     steps-turn =
-        ap (λ (x : Order). steps + steps-by x s (steps-left tree depth name (suc i))) (sym e)
-        ∙ ap (λ (x : ℕ). steps + steps-by (order-in depth name (row_at tree i)) x (steps-left tree depth name (suc i))) (sym q)
-        ∙ ap (λ (x : ℕ). steps + x) (sym (steps-left-row tree depth name i (omega (arith, g.all))))
+        ap (λ (x : Order). steps + steps_by x s (steps_left tree depth name (suc i))) (sym e)
+        ∙ ap (λ (x : ℕ). steps + steps_by (order_in depth name (row_at tree i)) x (steps_left tree depth name (suc i))) (sym q)
+        ∙ ap (λ (x : ℕ). steps + x) (sym (steps_left_row tree depth name i (omega (arith, g.all))))
         ∙ g.sums
 
-  module _ (h : i < n) {s sum : ℕ} (q : steps-at depth name (row_at tree i) ≡ s) (f : sum ≡ steps + s) where
+  module _ (h : i < n) {s sum : ℕ} (q : steps_at depth name (row_at tree i) ≡ s) (f : sum ≡ steps + s) where
     -- past a row that stands before the child
-    past : order-in depth name (row_at tree i) ≡ Before → s ≤ suc name-width → Going tree at name n depth sum (i + 1)
-    unfolding child-by steps-by
+    past : order_in depth name (row_at tree i) ≡ Before → s ≤ suc name_width → Going tree at name n depth sum (i + 1)
+    unfolding child_by steps_by
     past e l =
         record {
           le = omega arith;
@@ -71,8 +71,8 @@ module _ {tree : List ℕ} {at : ℕ} {name : Text} {n depth steps i : ℕ} (g :
         }
 
     -- at its own it ends, and at one that stands behind it
-    halts : (o : Order) → order-in depth name (row_at tree i) ≡ o → steps-by o s (steps-left tree depth name (suc i)) ≡ s
-        → Answers tree at name (child-by o i (child-left tree depth name (suc i))) sum
+    halts : (o : Order) → order_in depth name (row_at tree i) ≡ o → steps_by o s (steps_left tree depth name (suc i)) ≡ s
+        → Answers tree at name (child_by o i (child_left tree depth name (suc i))) sum
     halts o e z = whole tree at name (child-turns h e q) (omega (arith, f, z, steps-turn h e q))
 
   -- behind the last row
@@ -80,42 +80,42 @@ module _ {tree : List ℕ} {at : ℕ} {name : Text} {n depth steps i : ℕ} (g :
   over h =
       let e : n ≡ i = omega (arith, g.le) in
       whole tree at name
-      (ap Missing e ∙ sym (child-left-end tree depth name i (omega (arith, g.all))) ∙ g.goes)
-      (omega (arith, g.sums, steps-left-end tree depth name i (omega (arith, g.all))))
+      (ap Missing e ∙ sym (child_left_end tree depth name i (omega (arith, g.all))) ∙ g.goes)
+      (omega (arith, g.sums, steps_left_end tree depth name i (omega (arith, g.all))))
 
 -- behind the row of the place all of the search is left
 starts : (tree : List ℕ) (at : ℕ) (name : Text) {n depth : ℕ} → at < row_count tree → depth ≡ suc (row_at tree at).depth
-    → n ≡ row_count tree → n ≤ most-rows → Going tree at name n depth 0 (at + 1)
+    → n ≡ row_count tree → n ≤ most_rows → Going tree at name n depth 0 (at + 1)
 starts tree at name {n} {depth} h e all few =
     record {
       le = omega arith;
       all = all;
       few = few;
       small = omega arith;
-      goes = rw add-one (child-left-all tree at depth name h e);
-      sums = rw add-one (omega (arith, steps-left-all tree at depth name h e));
+      goes = rw add-one (child_left_all tree at depth name h e);
+      sums = rw add-one (omega (arith, steps_left_all tree at depth name h e));
     }
 
 -- at a child's row the first k bytes of its name are alike
 record Inner (tree : List ℕ) (at : ℕ) (name : Text) (n depth i₀ steps i k : ℕ) : Type 0 where
   same : i ≡ i₀
   lt : i < n
-  row : Has-row tree i
+  row : HasRow tree i
   level : (row_at tree i).depth ≡ depth
   compared : Compared (row_at tree i).name name k
   outer : Going tree at name n depth steps i
 
-begins : {tree : List ℕ} {at : ℕ} {name : Text} {n depth steps i : ℕ} → Going tree at name n depth steps i → i < n → Has-row tree i → (row_at tree i).depth ≡ depth
+begins : {tree : List ℕ} {at : ℕ} {name : Text} {n depth steps i : ℕ} → Going tree at name n depth steps i → i < n → HasRow tree i → (row_at tree i).depth ≡ depth
     → Inner tree at name n depth i steps i 0
 begins {tree} {name = name} {i = i} g h r e =
-    record { same = refl; lt = h; row = r; level = e; compared = compared-none (row_at tree i).name name; outer = g }
+    record { same = refl; lt = h; row = r; level = e; compared = compared_none (row_at tree i).name name; outer = g }
 
 module _ {tree : List ℕ} {at : ℕ} {name : Text} {n depth i₀ steps i k : ℕ} (v : Inner tree at name n depth i₀ steps i k) where
   nonzero : k < length (row_at tree i).name → get_or (row_at tree i).name k 0 ≡ 0 → ⊥
-  nonzero h = name-nonzero tree i k h
+  nonzero h = name_nonzero tree i k h
 
-  short : k ≤ name-width
-  short = omega (arith, v.compared.in-first, row-name-fits tree i)
+  short : k ≤ name_width
+  short = omega (arith, v.compared.in_first, row_name_fits tree i)
 
   -- one byte more is alike
   more : {a b : ℕ} → a ≡ get_or (row_at tree i).name k 0 → b ≡ get_or name k 0 → k < length name → a ≡ b → (a ≡ 0 → ⊥)
@@ -132,17 +132,17 @@ module _ {tree : List ℕ} {at : ℕ} {name : Text} {n depth i₀ steps i k : �
 
   -- where the next byte decides, the row stands as the names do, and takes a step for it
   module _ {o : Order} (d : Decided (row_at tree i).name name k o) where
-    child-steps : steps-at depth name (row_at tree i) ≡ k + 1
-    child-steps = steps-beside depth name (row_at tree i) v.level ∙ omega (arith, d.count)
+    child-steps : steps_at depth name (row_at tree i) ≡ k + 1
+    child-steps = steps_beside depth name (row_at tree i) v.level ∙ omega (arith, d.count)
 
-    child-order : order-in depth name (row_at tree i) ≡ o
-    child-order = order-beside depth name (row_at tree i) v.level ∙ d.order
+    child-order : order_in depth name (row_at tree i) ≡ o
+    child-order = order_beside depth name (row_at tree i) v.level ∙ d.order
 
   passed : Decided (row_at tree i).name name k Before → Going tree at name n depth (steps + (k + 1)) (i + 1)
   passed d = past v.outer v.lt (child-steps d) refl (child-order d) (omega (arith, short))
 
   halted : {sum : ℕ} (o : Order) → sum ≡ steps + (k + 1) → Decided (row_at tree i).name name k o
-      → steps-by o (k + 1) (steps-left tree depth name (suc i)) ≡ k + 1 → Answers tree at name (child-by o i (child-left tree depth name (suc i))) sum
+      → steps_by o (k + 1) (steps_left tree depth name (suc i)) ≡ k + 1 → Answers tree at name (child_by o i (child_left tree depth name (suc i))) sum
   halted o f d z = halts v.outer v.lt (child-steps d) f o (child-order d) z
 
 abbrev invariant-bytes : tie.invariant-bytes
@@ -187,11 +187,11 @@ missing-requires : tie.Need-missing-requires invariant-bytes decreases-bytes inv
 missing-requires c κs = omega arith
 
 returns : tie.Need-returns invariant-bytes decreases-bytes invariant-children decreases-children
-unfolding child-by steps-by
+unfolding child_by steps_by
 returns c =
     let a = c.before.before.before.before.before.before.before.before.before.args in
     let r = row_at a.tree.now c.before.before.before.before.children.i in
-    c.missing.ensures ∙ halts c.before.before.before.before.children.invariant (omega arith) (steps-aside _ a.name.now r (λ e. omega arith)) (omega arith) After (order-above _ a.name.now r (omega arith)) refl
+    c.missing.ensures ∙ halts c.before.before.before.before.children.invariant (omega arith) (steps_aside _ a.name.now r (λ e. omega arith)) (omega arith) After (order_above _ a.name.now r (omega arith)) refl
 
 add-i-2 : tie.Need-overflow-add-i-2 invariant-bytes decreases-bytes invariant-children decreases-children
 add-i-2 c = omega arith
@@ -203,7 +203,7 @@ children-again : tie.Need-children-preserved invariant-bytes decreases-bytes inv
 children-again c =
     let a = c.before.before.before.before.before.before.before.before.before.args in
     let r = row_at a.tree.now c.before.before.before.before.children.i in
-    past c.before.before.before.before.children.invariant (omega arith) (steps-aside _ a.name.now r (λ e. omega arith)) (omega arith) (order_below _ a.name.now r (omega arith)) (omega arith)
+    past c.before.before.before.before.children.invariant (omega arith) (steps_aside _ a.name.now r (λ e. omega arith)) (omega arith) (order_below _ a.name.now r (omega arith)) (omega arith)
 
 bytes-holds : tie.Need-bytes-init invariant-bytes decreases-bytes invariant-children decreases-children
 bytes-holds c = begins c.before.before.before.before.children.invariant (omega arith) (record { room = omega arith }) (omega arith)
@@ -214,8 +214,8 @@ name-byte-requires c κs = omega arith
 shared-slice-read-b : tie.Need-shared-slice-read-b invariant-bytes decreases-bytes invariant-children decreases-children
 shared-slice-read-b c = omega arith
 
-add-steps : tie.Need-overflow-add-steps invariant-bytes decreases-bytes invariant-children decreases-children
-add-steps c = omega arith
+add_steps : tie.Need-overflow-add-steps invariant-bytes decreases-bytes invariant-children decreases-children
+add_steps c = omega arith
 
 add-steps-2 : tie.Need-overflow-add-steps-2 invariant-bytes decreases-bytes invariant-children decreases-children
 add-steps-2 c = omega arith
@@ -224,7 +224,7 @@ missing-requires-2 : tie.Need-missing-requires-2 invariant-bytes decreases-bytes
 missing-requires-2 c κs = omega arith
 
 returns-2 : tie.Need-returns-2 invariant-bytes decreases-bytes invariant-children decreases-children
-unfolding child-by steps-by
+unfolding child_by steps_by
 returns-2 c = let v = c.before.before.before.before.before.before.bytes.invariant in c.missing2.ensures ∙ halted v After refl (stands_after v.compared (nonzero v) (omega arith) (omega arith)) refl
 
 add-i-3 : tie.Need-overflow-add-i-3 invariant-bytes decreases-bytes invariant-children decreases-children
@@ -234,7 +234,7 @@ children-less-2 : tie.Need-children-smaller-2 invariant-bytes decreases-bytes in
 children-less-2 c = omega arith
 
 children-again-2 : tie.Need-children-preserved-2 invariant-bytes decreases-bytes invariant-children decreases-children
-children-again-2 c = let v = c.before.before.before.before.before.bytes.invariant in passed v (stands-before v.compared (nonzero v) (omega arith) (omega arith))
+children-again-2 c = let v = c.before.before.before.before.before.bytes.invariant in passed v (stands_before v.compared (nonzero v) (omega arith) (omega arith))
 
 add-steps-3 : tie.Need-overflow-add-steps-3 invariant-bytes decreases-bytes invariant-children decreases-children
 add-steps-3 c = omega arith
@@ -258,7 +258,7 @@ bytes-less : tie.Need-bytes-smaller invariant-bytes decreases-bytes invariant-ch
 bytes-less c = omega arith
 
 bytes-again : tie.Need-bytes-preserved invariant-bytes decreases-bytes invariant-children decreases-children
-bytes-again c = more c.before.before.before.before.before.bytes.invariant c.before.before.before.name-byte.ensures refl (omega arith) (omega arith) c.if5.false
+bytes-again c = more c.before.before.before.before.before.bytes.invariant c.before.before.before.name_byte.ensures refl (omega arith) (omega arith) c.if5.false
 
 name-byte-requires-2 : tie.Need-name-byte-requires-2 invariant-bytes decreases-bytes invariant-children decreases-children
 name-byte-requires-2 c κs = omega arith
@@ -273,7 +273,7 @@ found-requires : tie.Need-found-requires invariant-bytes decreases-bytes invaria
 found-requires c κs = omega arith
 
 returns-3 : tie.Need-returns-3 invariant-bytes decreases-bytes invariant-children decreases-children
-unfolding child-by steps-by
+unfolding child_by steps_by
 returns-3 c = let v = c.before.before.before.before.bytes.invariant in c.found.ensures ∙ halted v Same (omega arith) (both_end v.compared (nonzero v) (omega arith) (omega arith)) refl
 
 add-missing : tie.Need-overflow-add-missing invariant-bytes decreases-bytes invariant-children decreases-children
@@ -286,8 +286,8 @@ missing-requires-3 : tie.Need-missing-requires-3 invariant-bytes decreases-bytes
 missing-requires-3 c κs = omega arith
 
 returns-4 : tie.Need-returns-4 invariant-bytes decreases-bytes invariant-children decreases-children
-unfolding child-by steps-by
-returns-4 c = let v = c.before.before.before.before.bytes.invariant in c.missing3.ensures ∙ halted v After (omega arith) (second-ends v.compared (nonzero v) (omega arith) (λ z. omega arith)) refl
+unfolding child_by steps_by
+returns-4 c = let v = c.before.before.before.before.bytes.invariant in c.missing3.ensures ∙ halted v After (omega arith) (second_ends v.compared (nonzero v) (omega arith) (λ z. omega arith)) refl
 
 missing-requires-4 : tie.Need-missing-requires-4 invariant-bytes decreases-bytes invariant-children decreases-children
 missing-requires-4 c κs = omega arith
@@ -319,7 +319,7 @@ search-child-spec =
     bytes-holds
     name-byte-requires
     shared-slice-read-b
-    add-steps
+    add_steps
     add-steps-2
     missing-requires-2
     returns-2

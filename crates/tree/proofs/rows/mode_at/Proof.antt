@@ -1,9 +1,9 @@
 -- `tree::rows::mode_at` meets its contract: the mode is the number at byte 4 of the row.
 use mathlib.Core.Path.{◌∙◌, sym}
 use native.Mathlib.Omega.{arith}
-use Rattle.tree.specs.Encoding.{read-row}
+use Rattle.tree.specs.Encoding.{read_row}
 use Rattle.tree.specs.RowAt.{row_at}
-use Rattle.tree.specs.RowAtLaws.{number-in-row}
+use Rattle.tree.specs.RowAtLaws.{number_in_row}
 use borrow.Author.Rules.{rules}
 use Rattle.tree.proofs.rows.mode_at.Statement.{statement}
 use Rattle.tree.proofs.rows.mode_at.Tie as tie
@@ -21,8 +21,8 @@ number-requires : tie.Need-number-requires
 number-requires c κs = search rules
 
 returns : tie.Need-returns
-unfolding row_at read-row
-returns c = c.number.ensures ∙ sym (number-in-row c.before.before.args.tree.now c.before.before.args.i 4 (omega arith))
+unfolding row_at read_row
+returns c = c.number.ensures ∙ sym (number_in_row c.before.before.args.tree.now c.before.before.args.i 4 (omega arith))
 
 pub mode-at-spec : {M : Type 1} → statement M
 mode-at-spec = tie.close (tie.spec mul-number add-number add-number-2 number-requires returns)

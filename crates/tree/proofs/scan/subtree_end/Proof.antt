@@ -4,9 +4,9 @@ use native.Mathlib.Omega.{arith}
 use mathlib.Core.Path.{◌≡◌, refl}
 use mathlib.Core.List.{List}
 use borrow.Author.Tests.{lt-ltb, le-ltb}
-use Rattle.tree.specs.RowScan.{is-deeper, end-of-subtree}
-use Rattle.tree.specs.RowAt.{row_count, row_at, all-rows}
-use Rattle.tree.specs.RowAtLaws.{Scanned, scan-go, scan-stop, scan-end, end-at}
+use Rattle.tree.specs.RowScan.{is_deeper, end_of_subtree}
+use Rattle.tree.specs.RowAt.{row_count, row_at, all_rows}
+use Rattle.tree.specs.RowAtLaws.{Scanned, scan_go, scan_stop, scan_end, end_at}
 use Rattle.tree.proofs.scan.subtree_end.Statement.{statement}
 use Rattle.tree.proofs.scan.subtree_end.Tie as tie
 
@@ -15,30 +15,30 @@ record Going (tree : List ℕ) (at n depth i : ℕ) : Type 0 where
   all : n ≡ row_count tree
   from : at < row_count tree
   level : depth ≡ (row_at tree at).depth
-  goes : Scanned tree (is-deeper depth) (at + 1) i
+  goes : Scanned tree (is_deeper depth) (at + 1) i
 
 module _ {tree : List ℕ} {at n depth i : ℕ} (g : Going tree at n depth i) where
   -- a deeper row
   goes_on : i < n → depth < (row_at tree i).depth → Going tree at n depth (i + 1)
-  unfolding is-deeper
+  unfolding is_deeper
   goes_on h e = record {
     le = omega arith;
     all = g.all;
     from = g.from;
     level = g.level;
-    goes = scan-go tree (is-deeper depth) i (at + 1) (omega (arith, g.all)) (lt-ltb depth (row_at tree i).depth e) g.goes;
+    goes = scan_go tree (is_deeper depth) i (at + 1) (omega (arith, g.all)) (lt-ltb depth (row_at tree i).depth e) g.goes;
   }
 
   -- one that is not
-  stops : i < n → (row_at tree i).depth ≤ depth → i ≡ end-of-subtree (all-rows tree) at
-  unfolding is-deeper
+  stops : i < n → (row_at tree i).depth ≤ depth → i ≡ end_of_subtree (all_rows tree) at
+  unfolding is_deeper
   stops h e =
-      let stop = scan-stop tree (is-deeper depth) i (omega (arith, g.all)) (le-ltb depth (row_at tree i).depth e) in
-      end-at tree at i g.from depth g.level g.goes stop
+      let stop = scan_stop tree (is_deeper depth) i (omega (arith, g.all)) (le-ltb depth (row_at tree i).depth e) in
+      end_at tree at i g.from depth g.level g.goes stop
 
   -- the end of the rows
-  ends : n ≤ i → i ≡ end-of-subtree (all-rows tree) at
-  ends h = end-at tree at i g.from depth g.level g.goes (scan-end tree (is-deeper depth) i (omega (arith, g.all)))
+  ends : n ≤ i → i ≡ end_of_subtree (all_rows tree) at
+  ends h = end_at tree at i g.from depth g.level g.goes (scan_end tree (is_deeper depth) i (omega (arith, g.all)))
 
 abbrev invariant-loop : tie.invariant-loop
 invariant-loop tree at n depth i₀ i = Going tree at n depth i

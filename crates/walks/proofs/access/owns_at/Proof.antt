@@ -10,7 +10,7 @@ is-root-requires c κs = search rules
 
 returns : tie.Need-returns
 unfolding owns
-returns c = rw (sym c.before.is-root.ensures ∙ c.if1.true)
+returns c = rw (sym c.before.is_root.ensures ∙ c.if1.true)
 
 owner-at-requires : tie.Need-owner-at-requires
 owner-at-requires c κs = search rules
@@ -20,7 +20,7 @@ is-requires c κs = search rules
 
 returns-2 : tie.Need-returns-2
 unfolding owns
-returns-2 c = rw (sym c.before.before.before.is-root.ensures ∙ c.before.before.if1.false, ← c.before.owner_at.ensures) c.is.ensures
+returns-2 c = rw (sym c.before.before.before.is_root.ensures ∙ c.before.before.if1.false, ← c.before.owner_at.ensures) c.is.ensures
 
 pub owns-at-spec : {M : Type 1} → statement M
 owns-at-spec = tie.close (tie.spec is-root-requires returns owner-at-requires is-requires returns-2)

@@ -1,8 +1,8 @@
 -- `walks::along::step` meets its contract: one law of a step for each return.
 use mathlib.Core.Path.{sym, ap, ◌∙◌}
-use Rattle.tree.specs.RowAt.{all-rows}
+use Rattle.tree.specs.RowAt.{all_rows}
 use Rattle.walks.specs.RowWalk.{spot, outcome}
-use Rattle.walks.specs.RowWalkLaws.{step-shut, step-found, step-missing}
+use Rattle.walks.specs.RowWalkLaws.{step_shut, step_found, step_missing}
 use borrow.Author.Rules.{rules}
 use Rattle.walks.proofs.along.step.Statement.{statement}
 use Rattle.walks.proofs.along.step.Tie as tie
@@ -30,7 +30,7 @@ returns c =
     let a = c.before.before.before.before.before.before.before.before.before.args in
     let t = c.before.before.before.before.enum_told.given in
     let entered = ap outcome (sym t.1) ∙ c.before.before.before.before.before.before.enter.ensures in
-    step-found a.account (all-rows a.tree.now) (spot a.row a.above) a.name.now t.0.0 t.0.1.0
+    step_found a.account (all_rows a.tree.now) (spot a.row a.above) a.name.now t.0.0 t.0.1.0
     entered c.before.i.given.0.0 (sym c.before.i.given.1 ∙ c.before.before.before.find-child.ensures)
 
 returns-2 : tie.Need-returns-2
@@ -39,14 +39,14 @@ returns-2 c =
     let a = c.before.before.before.before.before.before.before.before.args in
     let t = c.before.before.before.enum_told.given in
     let entered = ap outcome (sym t.1) ∙ c.before.before.before.before.before.enter.ensures in
-    step-missing a.account (all-rows a.tree.now) (spot a.row a.above) a.name.now t.0.0 t.0.1.0
+    step_missing a.account (all_rows a.tree.now) (spot a.row a.above) a.name.now t.0.0 t.0.1.0
     entered c.enum-told2.given.0.0 (sym c.enum-told2.given.1 ∙ c.before.before.find-child.ensures)
 
 returns-3 : tie.Need-returns-3
 returns-3 c =
     let a = c.before.before.before.before.before.before.args in
     let t = c.before.cause.given in
-    step-shut a.account (all-rows a.tree.now) (spot a.row a.above) a.name.now t.0.0 (ap outcome (sym t.1) ∙ c.before.before.before.enter.ensures)
+    step_shut a.account (all_rows a.tree.now) (spot a.row a.above) a.name.now t.0.0 (ap outcome (sym t.1) ∙ c.before.before.before.enter.ensures)
 
 pub step_spec : {M : Type 1} → statement M
 step_spec =

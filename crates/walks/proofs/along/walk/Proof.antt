@@ -8,68 +8,68 @@ use borrow.Author.Rules.{rules}
 use Rattle.accounts.specs.declared.Account.{Account}
 use Rattle.syntax.specs.declared.Names.{Names}
 use Rattle.syntax.specs.declared.NextName.TheVariants.{End}
-use Rattle.syntax.specs.Parts.{part, next-name}
-use Rattle.syntax.specs.ParentLaws.{names-from, Named, names-from-first, names-from-end, names-from-next}
+use Rattle.syntax.specs.Parts.{part, next_name}
+use Rattle.syntax.specs.ParentLaws.{names_from, Named, names_from_first, names_from_end, names_from_next}
 use Rattle.tree.specs.declared.Cause.{Cause}
 use Rattle.tree.specs.Result.{refused, done}
-use Rattle.tree.specs.RowAt.{row_count, all-rows}
-use Rattle.tree.specs.RowAtLaws.{length-all-rows}
-use Rattle.walks.specs.RowWalk.{spot, top-spot, step_in, walk-names-in, walk-in, outcome}
-use Rattle.walks.specs.RowWalkLaws.{step-within, walk_none, walk-on, walk-stops, outcome-at, outcome-refused}
+use Rattle.tree.specs.RowAt.{row_count, all_rows}
+use Rattle.tree.specs.RowAtLaws.{length_all_rows}
+use Rattle.walks.specs.RowWalk.{spot, top_spot, step_in, walk_names_in, walk_in, outcome}
+use Rattle.walks.specs.RowWalkLaws.{step_within, walk_none, walk_on, walk_stops, outcome_at, outcome_refused}
 use Rattle.walks.proofs.along.walk.Statement.{statement}
 use Rattle.walks.proofs.along.walk.Tie as tie
 
 record Going (tree : List ℕ) (account : Account) (path : List ℕ) (row above at : ℕ) : Type 0 where
   row_in : row < row_count tree
   above_in : above < row_count tree
-  goes : walk-names-in account (all-rows tree) (spot row above) (names-from path at) ≡ walk-in account (all-rows tree) path
+  goes : walk_names_in account (all_rows tree) (spot row above) (names_from path at) ≡ walk_in account (all_rows tree) path
 
 -- from `/` along all names
 begins : (tree : List ℕ) (account : Account) (path : List ℕ) (at : ℕ) → at ≡ 1
-    → walk-names-in account (all-rows tree) (spot 0 0) (names-from path at) ≡ walk-in account (all-rows tree) path
-unfolding walk-in top-spot
-begins tree account path at e = rw (e, names-from-first path)
+    → walk_names_in account (all_rows tree) (spot 0 0) (names_from path at) ≡ walk_in account (all_rows tree) path
+unfolding walk_in top_spot
+begins tree account path at e = rw (e, names_from_first path)
 
 -- a name more leaves fewer
-fewer : {t : List ℕ} {at start end : ℕ} {rest : Names} → Named t at start end rest → length (names-from t rest.at) < length (names-from t at)
+fewer : {t : List ℕ} {at start end : ℕ} {rest : Names} → Named t at start end rest → length (names_from t rest.at) < length (names_from t at)
 fewer n = omega (arith, ap length n.follow)
 
 module _ {tree : List ℕ} {account : Account} {path : List ℕ} {row above at : ℕ} (g : Going tree account path row above at) where
   module _ {start end : ℕ} {rest : Names} (n : Named path at start end rest) where
     -- a step that is done
-    goes_on : (r a : ℕ) → step_in account (all-rows tree) (spot row above) (part path start end) ≡ done (spot r a) → Going tree account path r a rest.at
+    goes_on : (r a : ℕ) → step_in account (all_rows tree) (spot row above) (part path start end) ≡ done (spot r a) → Going tree account path r a rest.at
     goes_on r a e =
-        let rs = all-rows tree in
-        let q = length-all-rows tree in
-        let w = step-within account rs (spot row above) (spot r a) (part path start end) (omega (arith, g.row_in)) e in
+        let rs = all_rows tree in
+        let q = length_all_rows tree in
+        let w = step_within account rs (spot row above) (spot r a) (part path start end) (omega (arith, g.row_in)) e in
         record {
           row_in = omega (arith, w.row_in);
           above_in = omega (arith, w.above_in);
           goes =
-              sym (walk-on account rs (spot row above) (spot r a) (part path start end) (names-from path rest.at) e)
-              ∙ ap (walk-names-in account rs (spot row above)) (sym n.follow)
+              sym (walk_on account rs (spot row above) (spot r a) (part path start end) (names_from path rest.at) e)
+              ∙ ap (walk_names_in account rs (spot row above)) (sym n.follow)
               ∙ g.goes;
         }
 
     -- one that is refused
-    stops : (k : Cause) → step_in account (all-rows tree) (spot row above) (part path start end) ≡ refused k → refused k ≡ walk-in account (all-rows tree) path
+    stops : (k : Cause) → step_in account (all_rows tree) (spot row above) (part path start end) ≡ refused k → refused k ≡ walk_in account (all_rows tree) path
     stops k e =
-        sym (walk-stops account (all-rows tree) (spot row above) k (part path start end) (names-from path rest.at) e)
-        ∙ ap (walk-names-in account (all-rows tree) (spot row above)) (sym n.follow)
+        sym (walk_stops account (all_rows tree) (spot row above) k (part path start end) (names_from path rest.at) e)
+        ∙ ap (walk_names_in account (all_rows tree) (spot row above)) (sym n.follow)
         ∙ g.goes
 
   -- the end of the names
-  ends : next-name path at ≡ End → done (spot row above) ≡ walk-in account (all-rows tree) path
+  ends : next_name path at ≡ End → done (spot row above) ≡ walk_in account (all_rows tree) path
   ends e =
-      sym (walk_none account (all-rows tree) (spot row above))
-      ∙ ap (walk-names-in account (all-rows tree) (spot row above)) (sym (names-from-end path at e))
+      sym (walk_none account (all_rows tree) (spot row above))
+      ∙ ap (walk_names_in account (all_rows tree) (spot row above)) (sym (names_from_end path at e))
       ∙ g.goes
 
 abbrev invariant-loop : tie.invariant-loop
 invariant-loop tree account path row₀ above₀ names₀ row above names = Going tree account path row above names.at
 
 abbrev decreases-loop : tie.decreases-loop
-decreases-loop tree account path row₀ above₀ names₀ row above names = length (names-from path names.at)
+decreases-loop tree account path row₀ above₀ names₀ row above names = length (names_from path names.at)
 
 -- the name that was read
 named : (c : tie.After-start invariant-loop decreases-loop)
@@ -78,7 +78,7 @@ named : (c : tie.After-start invariant-loop decreases-loop)
 named c =
     let f = c.start.given.0 in
     let s = c.before.before.before.before.before.before.before.args.path.now in
-    names-from-next s c.before.before.before.loop.names.at f.0 f.1.0 f.1.1.0 (sym c.before.before.next.ensures ∙ c.start.given.1)
+    names_from_next s c.before.before.before.loop.names.at f.0 f.1.0 f.1.1.0 (sym c.before.before.next.ensures ∙ c.start.given.1)
 
 first-requires : tie.Need-first-requires invariant-loop decreases-loop
 first-requires c κs = search rules
@@ -116,7 +116,7 @@ loop-again : tie.Need-loop-preserved invariant-loop decreases-loop
 unfolding part
 loop-again c =
     let t = c.before.r.given in
-    let stepped = sym c.before.before.before.step.ensures ∙ ap outcome t.1 ∙ outcome-at t.0.0 t.0.1.0 in
+    let stepped = sym c.before.before.before.step.ensures ∙ ap outcome t.1 ∙ outcome_at t.0.0 t.0.1.0 in
     goes_on c.before.before.before.before.before.before.before.before.before.loop.invariant (named c.before.before.before.before.before.before) t.0.0 t.0.1.0 stepped
 
 enum-known-cause : tie.Need-enum-known-cause invariant-loop decreases-loop
@@ -126,8 +126,8 @@ returns : tie.Need-returns invariant-loop decreases-loop
 unfolding part
 returns c =
     let t = c.before.cause.given in
-    let stepped = sym c.before.before.before.step.ensures ∙ ap outcome t.1 ∙ outcome-refused t.0.0 in
-    outcome-refused t.0.0 ∙ stops c.before.before.before.before.before.before.before.before.before.loop.invariant (named c.before.before.before.before.before.before) t.0.0 stepped
+    let stepped = sym c.before.before.before.step.ensures ∙ ap outcome t.1 ∙ outcome_refused t.0.0 in
+    outcome_refused t.0.0 ∙ stops c.before.before.before.before.before.before.before.before.before.loop.invariant (named c.before.before.before.before.before.before) t.0.0 stepped
 
 enum_told : tie.Need-enum-told invariant-loop decreases-loop
 enum_told c = search rules
@@ -135,7 +135,7 @@ enum_told c = search rules
 returns-2 : tie.Need-returns-2 invariant-loop decreases-loop
 returns-2 c =
     let l = c.before.before.before.loop in
-    outcome-at l.row l.above ∙ ends l.invariant (sym c.before.before.next.ensures ∙ c.enum_told.given.1)
+    outcome_at l.row l.above ∙ ends l.invariant (sym c.before.before.next.ensures ∙ c.enum_told.given.1)
 
 pub walk-spec : {M : Type 1} → statement M
 walk-spec =

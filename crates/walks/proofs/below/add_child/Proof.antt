@@ -4,8 +4,8 @@ use mathlib.Core.List.{append-nil}
 use native.Mathlib.Omega.{arith}
 use lib.ListN.{length}
 use Rattle.tree.specs.RowAt.{row_at}
-use Rattle.tree.specs.RowAtLaws.{row-name-fits}
-use Rattle.walks.specs.RowBelowLaws.{name-there, name-elsewhere}
+use Rattle.tree.specs.RowAtLaws.{row_name_fits}
+use Rattle.walks.specs.RowBelowLaws.{name_there, name_elsewhere}
 use borrow.Author.Rules.{rules}
 use Rattle.walks.proofs.below.add_child.Statement.{statement}
 use Rattle.walks.proofs.below.add_child.Tie as tie
@@ -19,7 +19,7 @@ cast-if1 c = search rules
 returns : tie.Need-returns
 returns c =
     let g = c.before.before.before.before.args in
-    let None-more = name-elsewhere g.depth (row_at g.tree.now g.i) (λ e. c.if1.true (c.before.depth-at.ensures ∙ e)) in
+    let None-more = name_elsewhere g.depth (row_at g.tree.now g.i) (λ e. c.if1.true (c.before.depth-at.ensures ∙ e)) in
     (λ a ns v. rw (None-more, append-nil ns) v, omega arith)
 
 name-at-requires : tie.Need-name-at-requires
@@ -28,7 +28,7 @@ name-at-requires c κs = search rules
 add-name-requires : tie.Need-add-name-requires
 add-name-requires c κs =
     let g = c.before.before.before.before.before.before.args in
-    let short = row-name-fits g.tree.now g.i in
+    let short = row_name_fits g.tree.now g.i in
     let same = ap length c.name-at.ensures in
     omega arith
 
@@ -40,7 +40,7 @@ returns-2 c =
     let w = c.before.before.add-name in
     let q = c.before.before.before.name-at in
     let g = c.before.before.before.before.before.before.before.before.before.args in
-    let one_more = name-there g.depth (row_at g.tree.now g.i) (omega arith) in
+    let one_more = name_there g.depth (row_at g.tree.now g.i) (omega arith) in
     (λ a ns v. rw (one_more, ← q.ensures) (w.ensures.0 a ns v), w.ensures.1)
 
 pub add-child-spec : {M : Type 1} → statement M

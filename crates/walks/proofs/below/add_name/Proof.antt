@@ -4,8 +4,8 @@ use native.Mathlib.Omega.{arith}
 use Prim.Native.Nat.{◌-◌}
 use lib.ListN.{set, length-set}
 use borrow.Author.Rules.{rules}
-use Rattle.buffers.specs.OverLaws.{over-paste}
-use Rattle.walks.specs.NamesWrittenLaws.{named-first, named_more}
+use Rattle.buffers.specs.OverLaws.{over_paste}
+use Rattle.walks.specs.NamesWrittenLaws.{named_first, named_more}
 use Rattle.walks.proofs.below.add_name.Statement.{statement}
 use Rattle.walks.proofs.below.add_name.Tie as tie
 
@@ -22,7 +22,7 @@ returns : tie.Need-returns
 returns c =
     let w = c.before.before.write in
     let g = c.before.before.before.before.before.before.before.args in
-    (λ a ns v. named-first a g.answer.now w.new.0 g.name.now g.place ns v (omega arith) (w.ensures ∙ over-paste g.answer.now g.name.now 0), omega arith)
+    (λ a ns v. named_first a g.answer.now w.new.0 g.name.now g.place ns v (omega arith) (w.ensures ∙ over_paste g.answer.now g.name.now 0), omega arith)
 
 sub-answer : tie.Need-overflow-sub-answer
 sub-answer c = search rules
@@ -46,7 +46,7 @@ returns-2 : tie.Need-returns-2
 returns-2 c =
     let w = c.before.before.write2 in
     let g = c.before.before.before.before.before.before.before.args in
-    (λ a ns v. named_more a g.answer.now w.new.0 g.name.now g.place ns v (λ e. omega arith) (omega arith) (w.ensures ∙ over-paste (set g.answer.now (g.place - 1) 44) g.name.now g.place), omega arith)
+    (λ a ns v. named_more a g.answer.now w.new.0 g.name.now g.place ns v (λ e. omega arith) (omega arith) (w.ensures ∙ over_paste (set g.answer.now (g.place - 1) 44) g.name.now g.place), omega arith)
 
 pub add-name-spec : {M : Type 1} → statement M
 add-name-spec =

@@ -6,17 +6,17 @@ use mathlib.Core.List.{List, [], ◌∷◌, ◌++◌, append_assoc, append-nil}
 use lib.ListN.{length, drop}
 use Rattle.buffers.specs.Text.{Text}
 use Rattle.syntax.specs.Pieces.{comma, joined}
-use Rattle.tree.specs.RowAt.{row_count, row_at, all-rows}
-use Rattle.walks.specs.RowBelow.{front_below, names_in, child-text-in}
-use Rattle.walks.specs.RowBelowLaws.{names-go, names-stop, names-end, child-text-from}
-use Rattle.walks.specs.NamesWritten.{Names-written}
-use Rattle.walks.specs.NamesWrittenLaws.{named-nothing, named-length}
+use Rattle.tree.specs.RowAt.{row_count, row_at, all_rows}
+use Rattle.walks.specs.RowBelow.{front_below, names_in, child_text_in}
+use Rattle.walks.specs.RowBelowLaws.{names_go, names_stop, names_end, child_text_from}
+use Rattle.walks.specs.NamesWritten.{NamesWritten}
+use Rattle.walks.specs.NamesWrittenLaws.{named_nothing, named_length}
 use Rattle.walks.proofs.below.child_names.Statement.{statement}
 use Rattle.walks.proofs.below.child_names.Tie as tie
 
 -- the names of the children from a row on
 abbrev left : List ℕ → ℕ → ℕ → List Text
-left tree at i = names_in (suc (row_at tree at).depth) (front_below (row_at tree at).depth (drop i (all-rows tree)))
+left tree at i = names_in (suc (row_at tree at).depth) (front_below (row_at tree at).depth (drop i (all_rows tree)))
 
 record Going (tree : List ℕ) (at : ℕ) (answer₀ : List ℕ) (n depth : ℕ) (answer : List ℕ) (place i : ℕ) : Type 0 where
   le : i ≤ n
@@ -26,13 +26,13 @@ record Going (tree : List ℕ) (at : ℕ) (answer₀ : List ℕ) (n depth : ℕ)
   few : place + 9 * (at + 1) ≤ 9 * i
   len : length answer ≡ length answer₀
   done : List Text
-  named : Names-written answer₀ done answer place
+  named : NamesWritten answer₀ done answer place
   goes : done ++ left tree at i ≡ left tree at (at + 1)
 
 module _ {tree : List ℕ} {at : ℕ} {answer₀ : List ℕ} {n depth : ℕ} {answer : List ℕ} {place i : ℕ} (g : Going tree at answer₀ n depth answer place i) where
   -- a deeper row
   goes_on : (b : List ℕ) (p : ℕ) → i < n → depth ≤ (row_at tree i).depth → length b ≡ length answer → p ≤ place + 9
-      → Names-written answer₀ (g.done ++ names_in depth (row_at tree i ∷ [])) b p → Going tree at answer₀ n depth b p (i + 1)
+      → NamesWritten answer₀ (g.done ++ names_in depth (row_at tree i ∷ [])) b p → Going tree at answer₀ n depth b p (i + 1)
   goes_on b p h l e w v = record {
     le = omega arith;
     all = g.all;
@@ -46,30 +46,30 @@ module _ {tree : List ℕ} {at : ℕ} {answer₀ : List ℕ} {n depth : ℕ} {an
         let k = (row_at tree at).depth in
         append_assoc g.done (names_in depth (row_at tree i ∷ [])) (left tree at (i + 1))
         ∙ ap (λ (j : ℕ). g.done ++ (names_in j (row_at tree i ∷ []) ++ left tree at (i + 1))) g.level
-        ∙ ap (λ (ns : List Text). g.done ++ ns) (sym (names-go tree k i (suc k) (omega (arith, g.all)) (omega (arith, g.level))))
+        ∙ ap (λ (ns : List Text). g.done ++ ns) (sym (names_go tree k i (suc k) (omega (arith, g.all)) (omega (arith, g.level))))
         ∙ g.goes;
   }
 
   -- when none is left, all are written
-  written : left tree at i ≡ [] → joined comma g.done ≡ child-text-in (all-rows tree) at
+  written : left tree at i ≡ [] → joined comma g.done ≡ child_text_in (all_rows tree) at
   written e =
       let q : g.done ≡ left tree at (at + 1) = sym (append-nil g.done) ∙ ap (λ (ns : List Text). g.done ++ ns) (sym e) ∙ g.goes in
-      ap (joined comma) q ∙ sym (child-text-from tree at g.from (row_at tree at).depth refl)
+      ap (joined comma) q ∙ sym (child_text_from tree at g.from (row_at tree at).depth refl)
 
   answers : left tree at i ≡ [] → (r : ℕ) → r ≡ place - 1
-      → (r ≡ length (child-text-in (all-rows tree) at)) × (answer ≡ child-text-in (all-rows tree) at ++ drop (length (child-text-in (all-rows tree) at)) answer₀)
+      → (r ≡ length (child_text_in (all_rows tree) at)) × (answer ≡ child_text_in (all_rows tree) at ++ drop (length (child_text_in (all_rows tree) at)) answer₀)
   answers e r q =
       let w = written e in
-      let s = named-length g.done in
+      let s = named_length g.done in
       (q ∙ ap (λ (p : ℕ). p - 1) g.named.next ∙ sym s ∙ ap length w, g.named.holds ∙ ap (λ (t : Text). t ++ drop (length t) answer₀) w)
 
   -- a row that is not deeper
   stops : i < n → (row_at tree i).depth < depth → left tree at i ≡ []
-  stops h l = let k = (row_at tree at).depth in names-stop tree k i (suc k) (omega (arith, g.all)) (omega (arith, g.level))
+  stops h l = let k = (row_at tree at).depth in names_stop tree k i (suc k) (omega (arith, g.all)) (omega (arith, g.level))
 
   -- the end of the rows
   ends : n ≤ i → left tree at i ≡ []
-  ends h = let k = (row_at tree at).depth in names-end tree k i (suc k) (omega (arith, g.all))
+  ends h = let k = (row_at tree at).depth in names_end tree k i (suc k) (omega (arith, g.all))
 
 abbrev invariant-loop : tie.invariant-loop
 invariant-loop tree at answer₀ n depth place₀ i₀ answer place i = Going tree at answer₀ n depth answer place i
@@ -101,7 +101,7 @@ loop-holds c = record {
   few = omega arith;
   len = refl;
   done = [];
-  named = named-nothing c.before.before.before.before.args.answer.now;
+  named = named_nothing c.before.before.before.before.args.answer.now;
   goes = refl;
 }
 

@@ -5,10 +5,10 @@ use mathlib.Core.Path.{◌≡◌, refl, sym, ◌∙◌, ap}
 use mathlib.Core.List.{List}
 use lib.ListN.{drop}
 use Rattle.tree.specs.Forest.{larger}
-use Rattle.tree.specs.ForestLaws.{larger-bounds}
-use Rattle.tree.specs.RowAt.{row_count, row_at, all-rows}
-use Rattle.walks.specs.RowBelow.{front_below, deepest-in, height-in}
-use Rattle.walks.specs.RowBelowLaws.{deepest-go, deepest-stop, deepest-end, height-from}
+use Rattle.tree.specs.ForestLaws.{larger_bounds}
+use Rattle.tree.specs.RowAt.{row_count, row_at, all_rows}
+use Rattle.walks.specs.RowBelow.{front_below, deepest_in, height_in}
+use Rattle.walks.specs.RowBelowLaws.{deepest_go, deepest_stop, deepest_end, height_from}
 use Rattle.walks.proofs.below.height_below.Statement.{statement}
 use Rattle.walks.proofs.below.height_below.Tie as tie
 
@@ -19,7 +19,7 @@ record Going (tree : List ℕ) (at n depth most i : ℕ) : Type 0 where
   level : depth ≡ (row_at tree at).depth
   least : depth ≤ most
   byte : most ≤ 255
-  goes : deepest-in most (front_below depth (drop i (all-rows tree))) ≡ deepest-in depth (front_below depth (drop (at + 1) (all-rows tree)))
+  goes : deepest_in most (front_below depth (drop i (all_rows tree))) ≡ deepest_in depth (front_below depth (drop (at + 1) (all_rows tree)))
 
 module _ {tree : List ℕ} {at n depth most i : ℕ} (g : Going tree at n depth most i) where
   -- a deeper row
@@ -29,22 +29,22 @@ module _ {tree : List ℕ} {at n depth most i : ℕ} (g : Going tree at n depth 
     all = g.all;
     from = g.from;
     level = g.level;
-    least = let v = larger-bounds most (row_at tree i).depth in omega (arith, g.least);
+    least = let v = larger_bounds most (row_at tree i).depth in omega (arith, g.least);
     byte = w;
-    goes = rw e (sym (deepest-go tree depth i most (omega (arith, g.all)) l) ∙ g.goes);
+    goes = rw e (sym (deepest_go tree depth i most (omega (arith, g.all)) l) ∙ g.goes);
   }
 
   -- what is found when no more is left
-  found : deepest-in most (front_below depth (drop i (all-rows tree))) ≡ most → most - depth ≡ height-in (all-rows tree) at
-  found e = ap (λ (m : ℕ). m - depth) (sym e ∙ g.goes) ∙ sym (height-from tree at g.from depth g.level)
+  found : deepest_in most (front_below depth (drop i (all_rows tree))) ≡ most → most - depth ≡ height_in (all_rows tree) at
+  found e = ap (λ (m : ℕ). m - depth) (sym e ∙ g.goes) ∙ sym (height_from tree at g.from depth g.level)
 
   -- one that is not
-  stops : i < n → (row_at tree i).depth ≤ depth → most - depth ≡ height-in (all-rows tree) at
-  stops h l = found (deepest-stop tree depth i most (omega (arith, g.all)) l)
+  stops : i < n → (row_at tree i).depth ≤ depth → most - depth ≡ height_in (all_rows tree) at
+  stops h l = found (deepest_stop tree depth i most (omega (arith, g.all)) l)
 
   -- the end of the rows
-  ends : n ≤ i → most - depth ≡ height-in (all-rows tree) at
-  ends h = found (deepest-end tree depth i most (omega (arith, g.all)))
+  ends : n ≤ i → most - depth ≡ height_in (all_rows tree) at
+  ends h = found (deepest_end tree depth i most (omega (arith, g.all)))
 
 abbrev invariant-loop : tie.invariant-loop
 invariant-loop tree at n depth most₀ i₀ most i = Going tree at n depth most i

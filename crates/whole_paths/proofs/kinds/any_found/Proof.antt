@@ -1,7 +1,7 @@
 -- `whole_paths::kinds::any_found` meets its contract: the arguments are tested one after another, and the first that passes decides.
 use mathlib.Core.Path.{sym, ap, ◌∙◌}
 use borrow.Author.Rules.{rules}
-use Rattle.whole_paths.specs.WholeText.{found, any-argument}
+use Rattle.whole_paths.specs.WholeText.{found, any_argument}
 use Rattle.whole_paths.proofs.kinds.any_found.Statement.{statement}
 use Rattle.whole_paths.proofs.kinds.any_found.Tie as tie
 
@@ -12,7 +12,7 @@ is-found-requires : tie.Need-is-found-requires
 is-found-requires c κs = search rules
 
 returns : tie.Need-returns
-unfolding any-argument
+unfolding any_argument
 returns c =
     let e = sym (ap (found _ _) c.before.before.part.ensures) ∙ sym c.before.is_found.ensures ∙ c.if1.true in
     rw e
@@ -24,7 +24,7 @@ is-found-requires-2 : tie.Need-is-found-requires-2
 is-found-requires-2 c κs = search rules
 
 returns-2 : tie.Need-returns-2
-unfolding any-argument
+unfolding any_argument
 returns-2 c =
     let x = c.before.before.before in
     let d = sym (ap (found _ _) x.before.before.part.ensures) ∙ sym x.before.is_found.ensures ∙ x.if1.false in
@@ -38,7 +38,7 @@ is-found-requires-3 : tie.Need-is-found-requires-3
 is-found-requires-3 c κs = search rules
 
 returns-3 : tie.Need-returns-3
-unfolding any-argument
+unfolding any_argument
 returns-3 c =
     let y = c.before.before in
     let x = y.before.before.before in

@@ -7,18 +7,18 @@ use native.Mathlib.Omega.{arith}
 use lib.Dec.{eqb}
 use lib.ListN.{length, get_or}
 use Rattle.buffers.specs.Text.{Text}
-use Rattle.syntax.specs.Path.{begins-with-slash}
+use Rattle.syntax.specs.Path.{begins_with_slash}
 use borrow.Author.Rules.{rules}
 use Rattle.whole_paths.proofs.kinds.begins_with_slash.Statement.{statement}
 use Rattle.whole_paths.proofs.kinds.begins_with_slash.Tie as tie
 
-no_byte : (t : Text) → length t ≡ 0 → false ≡ begins-with-slash t
-unfolding begins-with-slash
+no_byte : (t : Text) → length t ≡ 0 → false ≡ begins_with_slash t
+unfolding begins_with_slash
 no_byte [] h = refl
 no_byte (b ∷ t) h = let z : ⊥ = omega arith in absurd z
 
-first_byte : (t : Text) → 0 < length t → eqb (get_or t 0 0) 47 ≡ begins-with-slash t
-unfolding begins-with-slash
+first_byte : (t : Text) → 0 < length t → eqb (get_or t 0 0) 47 ≡ begins_with_slash t
+unfolding begins_with_slash
 first_byte [] h = let z : ⊥ = omega arith in absurd z
 first_byte (b ∷ t) h = refl
 

@@ -8,7 +8,7 @@ use denote.Enum.Declared.{tag_of}
 use Rattle.arguments.specs.declared.ArgumentKind.{ArgumentKind}
 use Rattle.arguments.specs.declared.ArgumentKind.TheVariants as a
 use Rattle.arguments.specs.contracts.ArgumentKind.{the_type}
-use Rattle.whole_paths.specs.WholeText.{has-text}
+use Rattle.whole_paths.specs.WholeText.{has_text}
 use Rattle.whole_paths.proofs.kinds.has_text.Statement.{statement}
 use Rattle.whole_paths.proofs.kinds.has_text.Tie as tie
 
@@ -19,8 +19,8 @@ texts = 0 ∷ 1 ∷ 7 ∷ 8 ∷ []
 others : List ℕ
 others = 2 ∷ 3 ∷ 4 ∷ 5 ∷ 6 ∷ 9 ∷ []
 
-text : (k : ArgumentKind) → OneOf texts (tag_of the_type k) → true ≡ has-text k
-unfolding texts has-text
+text : (k : ArgumentKind) → OneOf texts (tag_of the_type k) → true ≡ has_text k
+unfolding texts has_text
 text a.Path h = refl
 text a.Entry h = refl
 text a.Mode h = absurd (miss texts 2 tt h)
@@ -32,8 +32,8 @@ text a.Password h = refl
 text a.Content h = refl
 text a.Absent h = absurd (miss texts 9 tt h)
 
-no_text : (k : ArgumentKind) → OneOf others (tag_of the_type k) → false ≡ has-text k
-unfolding others has-text
+no_text : (k : ArgumentKind) → OneOf others (tag_of the_type k) → false ≡ has_text k
+unfolding others has_text
 no_text a.Path h = absurd (miss others 0 tt h)
 no_text a.Entry h = absurd (miss others 1 tt h)
 no_text a.Mode h = refl

@@ -9,7 +9,7 @@ use Rattle.arguments.specs.declared.ArgumentKind.{ArgumentKind}
 use Rattle.arguments.specs.declared.ArgumentKind.TheVariants as a
 use Rattle.arguments.specs.contracts.ArgumentKind.{the_type}
 use borrow.Author.Rules.{rules}
-use Rattle.whole_paths.specs.WholeText.{is-path-kind}
+use Rattle.whole_paths.specs.WholeText.{is_path_kind}
 use Rattle.whole_paths.proofs.kinds.is_path_kind.Statement.{statement}
 use Rattle.whole_paths.proofs.kinds.is_path_kind.Tie as tie
 
@@ -17,8 +17,8 @@ use Rattle.whole_paths.proofs.kinds.is_path_kind.Tie as tie
 others : List ℕ
 others = 1 ∷ 2 ∷ 3 ∷ 4 ∷ 5 ∷ 6 ∷ 7 ∷ 8 ∷ 9 ∷ []
 
-no-path : (k : ArgumentKind) → OneOf others (tag_of the_type k) → false ≡ is-path-kind k
-unfolding others is-path-kind
+no-path : (k : ArgumentKind) → OneOf others (tag_of the_type k) → false ≡ is_path_kind k
+unfolding others is_path_kind
 no-path a.Path h = absurd (miss others 0 tt h)
 no-path a.Entry h = refl
 no-path a.Mode h = refl
@@ -34,7 +34,7 @@ enum_told : tie.Need-enum-told
 enum_told c = search rules
 
 returns : tie.Need-returns
-unfolding is-path-kind
+unfolding is_path_kind
 returns c = rw c.enum_told.given.1
 
 returns-2 : tie.Need-returns-2

@@ -8,23 +8,23 @@ use Rattle.buffers.specs.Text.{Text}
 use Rattle.commands.specs.declared.Typed.{Typed}
 use Rattle.whole_paths.specs.declared.Sought.TheVariants.{Deep}
 use Rattle.whole_paths.specs.declared.Whole.TheVariants.{In, TooDeep}
-use Rattle.whole_paths.specs.WholeText.{found, any-argument, any-deep, whole_typed, whole-text, whole-or-deep}
-use Rattle.whole_paths.specs.StandsLaws.{whole-inside}
+use Rattle.whole_paths.specs.WholeText.{found, any_argument, any_deep, whole_typed, whole_text, whole_or_deep}
+use Rattle.whole_paths.specs.StandsLaws.{whole_inside}
 use Rattle.whole_paths.proofs.making.make_whole.Statement.{statement}
 use Rattle.whole_paths.proofs.making.make_whole.Tie as tie
 
 -- the answer by the test of what was written
-module _ (d t : Text) (v : Typed) (b : List ℕ) {e : Typed} {u : Text} {r : Bool} (p : e ≡ whole_typed d t v) (q : u ≡ whole-text d t v b) (h : r ≡ any-argument (found Deep) u e) where
-  tells : {x : Bool} → r ≡ x → any-deep (whole-text d t v b) (whole_typed d t v) ≡ x
-  unfolding found any-deep
-  tells k = let g : r ≡ any-deep u e = h in cc
+module _ (d t : Text) (v : Typed) (b : List ℕ) {e : Typed} {u : Text} {r : Bool} (p : e ≡ whole_typed d t v) (q : u ≡ whole_text d t v b) (h : r ≡ any_argument (found Deep) u e) where
+  tells : {x : Bool} → r ≡ x → any_deep (whole_text d t v b) (whole_typed d t v) ≡ x
+  unfolding found any_deep
+  tells k = let g : r ≡ any_deep u e = h in cc
 
-  deep : r ≡ true → TooDeep ≡ whole-or-deep d t v b
-  unfolding whole-or-deep
+  deep : r ≡ true → TooDeep ≡ whole_or_deep d t v b
+  unfolding whole_or_deep
   deep k = rw (tells k)
 
-  not-deep : r ≡ false → In e ≡ whole-or-deep d t v b
-  unfolding whole-or-deep
+  not-deep : r ≡ false → In e ≡ whole_or_deep d t v b
+  unfolding whole_or_deep
   not-deep k = rw (tells k) (ap In p)
 
 write-arguments-requires : tie.Need-write-arguments-requires
@@ -34,7 +34,7 @@ any-found-requires : tie.Need-any-found-requires
 any-found-requires c κs =
     let s = c.before.before.before.before.before.before.before.before in
     let w = c.before.before.before.write-arguments.ensures in
-    rw (w.0, w.1) (whole-inside s.args.directory.now s.requires.0 s.args.line.now s.args.typed s.requires.1.0 s.args.text.now s.requires.1.1)
+    rw (w.0, w.1) (whole_inside s.args.directory.now s.requires.0 s.args.line.now s.args.typed s.requires.1.0 s.args.text.now s.requires.1.1)
 
 same_length : tie.Need-same-length
 same_length c = search rules

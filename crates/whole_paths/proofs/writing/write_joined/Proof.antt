@@ -3,7 +3,7 @@ use mathlib.Core.Path.{◌∙◌}
 use native.Mathlib.Omega.{arith}
 use lib.ListN.{length-set}
 use borrow.Author.Rules.{rules}
-use Rattle.whole_paths.specs.WrittenLaws.{front_fits, joined_length, wrote-joined}
+use Rattle.whole_paths.specs.WrittenLaws.{front_fits, joined_length, wrote_joined}
 use Rattle.whole_paths.proofs.writing.write_joined.Statement.{statement}
 use Rattle.whole_paths.proofs.writing.write_joined.Tie as tie
 
@@ -48,7 +48,7 @@ returns : tie.Need-returns
 returns c =
     let s = c.before.before.before.before.before.before.before.before.before.before.before.before in
     let w = c.before.before.before.before.before.before.write in
-    wrote-joined s.args.directory.now s.args.s.now s.args.text.now s.args.at c.before.before.before.before.before.before.before.before.front_length.result
+    wrote_joined s.args.directory.now s.args.s.now s.args.text.now s.args.at c.before.before.before.before.before.before.before.before.front_length.result
     c.before.before.before.before.before.before.before.before.front_length.ensures s.requires w.ensures c.before.before.write2.ensures
 
 pub write-joined-spec : {M : Type 1} → statement M
