@@ -1,5 +1,5 @@
 -- Laws of texts: byte order is a strict total order, how `every` goes through lists, and comparisons and tests from a place on.
-use Rattle.std.specs.Prelude.{◌≡◌, refl, List, [], ◌∷◌, ◌++◌, Bool, true, false, ◌&&◌, ℕ, zero, suc, ◌+◌, ◌≤◌, ◌<◌, eqb, ltb, length, get_or, set, drop}
+use Rattle.std.specs.Prelude.{◌≡◌, refl, List, [], ◌∷◌, ◌++◌, Bool, true, false, ◌&&◌, ℕ, zero, suc, ◌≤◌, ◌<◌, eqb, ltb, length, get_or, set, drop}
 use Rattle.std.proofs.Common.{sym, ap, ap₂, arith, eqb-true, eq-eqb, ltb-true, ltb-false, lt-ltb, le-ltb, drop_of_length-le, drop-cons}
 use Rattle.std.proofs.lemmas.Bool.{eqb-false}
 use Rattle.buffers.specs.Cases.{case, and_both, contra}

@@ -13,8 +13,8 @@ use lib.ListN.{length, get_or}
 use Rattle.buffers.specs.Cases.{case}
 use Rattle.buffers.specs.Text.{every}
 use Rattle.buffers.specs.Fields.{all_zero, zeros_at}
-use Rattle.buffers.proofs.fields.is_zero.Statement.{statement}
-use Rattle.buffers.proofs.fields.is_zero.Tie as tie
+use Rattle.buffers.proofs.fields.is_zero.Invariants.{Going}
+use Rattle.buffers.proofs.fields.is_zero.Goals as goal
 
 -- bits together are none if each are
 or-none : (a b : ℕ) → eqb (bit_or a b) 0 ≡ (eqb a 0 && eqb b 0)
@@ -32,11 +32,6 @@ zeros-go s i n h = rw (drop-cons s i 0 h)
 zeros-none : (s : List ℕ) (i : ℕ) → zeros_at i 0 s ≡ true
 unfolding zeros_at all_zero every
 zeros-none s i = refl
-
-record Going (s : List ℕ) (from to all i : ℕ) : Type 0 where
-  le : i ≤ to
-  from_le : from ≤ i
-  goes : (eqb all 0 && zeros_at i (to - i) s) ≡ zeros_at from (to - from) s
 
 module _ (s : List ℕ) (from to : ℕ) where
   begins : from ≤ to → Going s from to 0 from
@@ -56,36 +51,24 @@ module _ (s : List ℕ) (from to : ℕ) where
   ends : {all i : ℕ} → Going s from to all i → to ≤ i → eqb all 0 ≡ zeros_at from (to - from) s
   ends {all} {i} g h = let q : to - i ≡ 0 = omega arith in sym (and-true (eqb all 0)) ∙ ap (λ (b : Bool). eqb all 0 && b) (sym (ap (λ (n : ℕ). zeros_at i n s) q ∙ zeros-none s i)) ∙ g.goes
 
-abbrev invariant-loop : tie.invariant-loop
-invariant-loop s from to all₀ i₀ all i = Going s from to all i
+pub loop-i-init : goal.loop-i-init
+loop-i-init c = let a = c.args in begins a.s.now a.from a.to (omega arith)
 
-abbrev decreases-loop : tie.decreases-loop
-decreases-loop s from to all₀ i₀ all i = to - i
+pub bounds-s-i : goal.bounds-s-i
+bounds-s-i c = omega arith
 
-loop-holds : tie.Need-loop-init invariant-loop decreases-loop
-loop-holds c = let a = c.args in begins a.s.now a.from a.to (omega arith)
+pub overflow_add-i : goal.overflow_add-i
+overflow_add-i c = omega arith
 
-shared-slice-read-all : tie.Need-shared-slice-read-all invariant-loop decreases-loop
-shared-slice-read-all c = omega arith
+pub loop-i-smaller : goal.loop-i-smaller
+loop-i-smaller c = omega arith
 
-add-i : tie.Need-overflow-add-i invariant-loop decreases-loop
-add-i c = omega arith
+pub loop-i-preserved : goal.loop-i-preserved
+loop-i-preserved c =
+    let a = c.args in
+    one_more a.s.now a.from a.to c.loop-i.invariant (omega arith) (omega arith)
 
-loop-less : tie.Need-loop-smaller invariant-loop decreases-loop
-loop-less c = omega arith
-
-loop-again : tie.Need-loop-preserved invariant-loop decreases-loop
-loop-again c =
-    let l = c.before.before in
-    let a = l.before.args in
-    one_more a.s.now a.from a.to l.loop.invariant (omega arith) (omega arith)
-
-returns : tie.Need-returns invariant-loop decreases-loop
+pub returns : goal.returns
 returns c =
-    let a = c.before.before.args in
-    ends a.s.now a.from a.to c.before.loop.invariant (omega arith)
-
-pub is-zero-spec : {M : Type 1} → statement M
-is-zero-spec =
-    tie.close
-    (tie.spec invariant-loop decreases-loop loop-holds shared-slice-read-all add-i loop-less loop-again returns)
+    let a = c.args in
+    ends a.s.now a.from a.to c.loop-i.invariant (omega arith)
