@@ -141,6 +141,7 @@ listed_split : {s j : Role} (ps : List Pair) (p : Pair) → Listed s j (ps ++ (p
 listed_split [] p (first) = inr (refl, refl)
 listed_split (q ∷ ps) p (first) = inl first
 listed_split (q ∷ ps) p (later l) = elim (listed_split ps p l) [ inl k ↦ inl (later k) | inr e ↦ inr e ]
+listed_split {s = s} {j = j} [] p (later l) = elim l [ ]
 
 -- the pairs of the list stay
 listed_more : {s j : Role} {ps : List Pair} (p : Pair) → Listed s j ps → Listed s j (ps ++ (p ∷ []))
@@ -174,7 +175,7 @@ split_step ps p (inr e) (inl d) = inr (rw e.0 self, rw e.1 at d)
 split_step ps p (inr e) (inr d) = inr (rw e.0 self, d.1)
 
 -- a chain of the longer list goes through the pair or not
-split : {s r : Role} (ps : List Pair) (p : Pair) → Dominates (ps ++ (p ∷ [])) s r → Through ps p s r
+split : (ps : List Pair) (p : Pair) {s r : Role} → Dominates (ps ++ (p ∷ [])) s r → Through ps p s r
 split ps p self = inl self
 split ps p (down l d) = split_step ps p (listed_split ps p l) (split ps p d)
 

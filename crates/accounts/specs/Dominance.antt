@@ -60,6 +60,7 @@ listed_falls : (s j : Role) (ps : List Pair) → all_fall ps ≡ true → Listed
 unfolding all_fall falls
 listed_falls s j (p ∷ ps) h (first) = ltb-true s.0 j.0 (and_both (falls p) (all_fall ps) h).0
 listed_falls s j (p ∷ ps) h (later l) = listed_falls s j ps (and_both (falls p) (all_fall ps) h).1 l
+listed_falls s j [] h x'' = elim x'' [ ]
 
 -- a list passes where every pair does
 pub all_fall_every : (ps : List Pair) → all_fall ps ≡ every falls ps
@@ -99,6 +100,7 @@ listed_any f s j (p ∷ ps) (first) h = rw (role_itself s) (rw h)
 listed_any f s j (p ∷ ps) (later l) h = case (same_role s p.senior)
     (λ t. rw t (case (f p.junior) (λ i. rw i) (λ i. rw (i, listed_any f s j ps l h))))
     (λ t. rw t (listed_any f s j ps l h))
+listed_any f s j [] x'' h = elim x'' [ ]
 
 -- and the juniors are listed
 any_listed : (f : Role → Bool) (s : Role) (ps : List Pair) → any_role f (juniors s ps) ≡ true → (j : Role) × (Listed s j ps) × (f j ≡ true)

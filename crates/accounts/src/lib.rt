@@ -5,44 +5,44 @@ ghost use Rattle.accounts.specs.Access.{is_root, same_uid, grants, may};
 ghost use Rattle.accounts.specs.Closure.{has_role, own_rows, grown_row, grown_rows, row_dominates, row_account, session_dominates};
 
 // An account: root is 0, persons are 1 to 15, the service account of role r is 16 + r.
-#[derive(Drop)]
+#[derive(Clone, Copy)]
 pub struct Uid(pub u8);
 
 // A group: root's is 0, persons' are 1 to 15, the service group of role r is 16 + r, and 24 holds all service accounts.
-#[derive(Drop)]
+#[derive(Clone, Copy)]
 pub struct Gid(pub u8);
 
 // A role, 0 to 7.
-#[derive(Drop)]
+#[derive(Clone, Copy)]
 pub struct Role(pub u8);
 
 // A set of groups: bit g is set where group g is a member.
-#[derive(Drop)]
+#[derive(Clone, Copy)]
 pub struct Groups(pub u32);
 
 // An account with the groups it is in.
-#[derive(Drop)]
+#[derive(Clone, Copy)]
 pub struct Account {
     pub uid: Uid,
     pub groups: Groups,
 }
 
 // Who calls: an account with its primary group, which is among the account's groups.
-#[derive(Drop)]
+#[derive(Clone, Copy)]
 pub struct Caller {
     pub account: Account,
     pub primary: Gid,
 }
 
 // `r,senior,junior` of the setup: the senior role dominates the junior.
-#[derive(Drop)]
+#[derive(Clone, Copy)]
 pub struct Pair {
     pub senior: Role,
     pub junior: Role,
 }
 
 // What an access test asks for: reading, writing, or search of a directory (x).
-#[derive(Drop)]
+#[derive(Clone, Copy)]
 pub enum Right {
     R,
     W,
@@ -50,13 +50,13 @@ pub enum Right {
 }
 
 // Which roles dominate which: bit r of row s is set where role s dominates role r.
-#[derive(Drop)]
+#[derive(Clone, Copy)]
 pub struct Dominance {
     pub rows: [u8; 8],
 }
 
 // One role or none for an account.
-#[derive(Drop)]
+#[derive(Clone, Copy)]
 pub enum Session {
     Nobody,
     As(Role),

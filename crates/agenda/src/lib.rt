@@ -12,7 +12,7 @@ pub use reports::{after_print, goes_on, refuse, report};
 pub use steps::{read_step, setup_from};
 
 // The next line of what has been read.
-#[derive(Drop)]
+#[derive(Clone, Copy)]
 pub enum NextLine {
     // It ends at this byte 10.
     Line { end: usize },
@@ -26,7 +26,7 @@ pub enum NextLine {
 
 // What the program is at: the setup, with the kind of its last line and how many there were, the command lines, or this line of the
 // listing.
-#[derive(Drop)]
+#[derive(Clone, Copy)]
 pub enum Phase {
     Setup { kind: u8, lines: usize },
     Lines,
@@ -34,7 +34,7 @@ pub enum Phase {
 }
 
 // How far the program is in the window, the buffer that its input is read into.
-#[derive(Drop)]
+#[derive(Clone, Copy)]
 pub struct Place {
     // Which bytes are still to be handled.
     pub from: usize,
@@ -47,14 +47,14 @@ pub struct Place {
 }
 
 // A call of the library: with a part of the window as a command line, or for a line of the listing.
-#[derive(Drop)]
+#[derive(Clone, Copy)]
 pub enum Call {
     Run { from: usize, end: usize },
     List { n: usize },
 }
 
 // What is to be done next.
-#[derive(Drop)]
+#[derive(Clone, Copy)]
 pub enum Next {
     // Read the line of the setup that ends at this byte 10, behind so many lines of which the last was of this kind.
     Line { end: usize, kind: u8, lines: usize },
@@ -71,7 +71,7 @@ pub enum Next {
 }
 
 // What a turn comes to.
-#[derive(Drop)]
+#[derive(Clone, Copy)]
 pub enum Step {
     // There is more to do, from this place on.
     On(Place),
@@ -82,7 +82,7 @@ pub enum Step {
 }
 
 // What the program's arguments ask for.
-#[derive(Drop)]
+#[derive(Clone, Copy)]
 pub enum Asked {
     // To run, as there are none.
     Run,

@@ -9,7 +9,7 @@ pub use checks::may_do;
 pub use reading::read;
 
 // What is to be done at a place, with what its tests ask about: the mode or the group to be given.
-#[derive(Drop)]
+#[derive(Clone, Copy)]
 pub enum Deed {
     Read,
     Write,

@@ -7,7 +7,7 @@ use placing::Site;
 use tree::Cause;
 
 // A site, or why there is none.
-#[derive(Drop)]
+#[derive(Clone, Copy)]
 enum Sited {
     Found(Site),
     Missed(Cause),

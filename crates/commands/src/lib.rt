@@ -14,7 +14,7 @@ pub use parts::part;
 use syntax::Span;
 
 // A command of the shell, whose paths and contents are parts of a text.
-#[derive(Drop)]
+#[derive(Clone, Copy)]
 pub enum ShellCommand {
     Create { path: Span, mode: u16 },
     Mkdir { path: Span, mode: u16 },
@@ -29,7 +29,7 @@ pub enum ShellCommand {
 }
 
 // A command about the caller's session and working directory.
-#[derive(Drop)]
+#[derive(Clone, Copy)]
 pub enum AccountCommand {
     Login { role: Role, password: Span },
     Logout,
@@ -37,7 +37,7 @@ pub enum AccountCommand {
 }
 
 // A command on entries, which acts in the caller's session.
-#[derive(Drop)]
+#[derive(Clone, Copy)]
 pub enum EntryCommand {
     Add {
         working: Span,
@@ -60,7 +60,7 @@ pub enum EntryCommand {
 }
 
 // A command by its kind.
-#[derive(Drop)]
+#[derive(Clone, Copy)]
 pub enum Command {
     Shell(ShellCommand),
     Account(AccountCommand),
@@ -68,7 +68,7 @@ pub enum Command {
 }
 
 // The words of commands.
-#[derive(Drop)]
+#[derive(Clone, Copy)]
 pub enum Word {
     Create,
     Mkdir,
@@ -91,7 +91,7 @@ pub enum Word {
 }
 
 // How many arguments a word takes, and of which kind each is.
-#[derive(Drop)]
+#[derive(Clone, Copy)]
 pub struct Shape {
     pub count: usize,
     pub first: ArgumentKind,
@@ -100,21 +100,21 @@ pub struct Shape {
 }
 
 // A listed word with the shape of its arguments, or a text that is none.
-#[derive(Drop)]
+#[derive(Clone, Copy)]
 pub enum Form {
     Listed(Word, Shape),
     Unlisted,
 }
 
 // The numbers of the arguments of a command, or arguments that have not the forms of its shape.
-#[derive(Drop)]
+#[derive(Clone, Copy)]
 pub enum Numbers {
     Read(u16, u16, u16),
     Wrong,
 }
 
 // A command as it is typed: its word, the kinds and places of its arguments, and their numbers.
-#[derive(Drop)]
+#[derive(Clone, Copy)]
 pub struct Typed {
     pub word: Word,
     pub shape: Shape,
@@ -125,7 +125,7 @@ pub struct Typed {
 }
 
 // A command line: its caller and command, or no listed form.
-#[derive(Drop)]
+#[derive(Clone, Copy)]
 pub enum Parsed {
     Line { caller: Uid, typed: Typed },
     NoForm,

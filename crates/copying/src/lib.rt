@@ -7,7 +7,7 @@ pub use copies::copy_entry;
 pub use depths::deepest_copy;
 
 // Who copies: the account that reads, and the caller whose the copies are.
-#[derive(Drop)]
+#[derive(Clone, Copy)]
 pub struct Copier {
     pub reader: Account,
     pub caller: Caller,

@@ -10,14 +10,14 @@ pub use row::commit_step;
 use tree::Cause;
 
 // The row to go on at, and the rows that were linked where a file was committed, or why none was.
-#[derive(Drop)]
+#[derive(Clone, Copy)]
 pub struct Step {
     pub next: usize,
     pub filed: Links,
 }
 
 // What `commit` is asked for: the row of a file, or of a directory that the person may read; or why it is refused.
-#[derive(Drop)]
+#[derive(Clone, Copy)]
 pub enum Found {
     File(usize),
     Directory(usize),

@@ -6,7 +6,7 @@ pub use rows::{plant, put_child, put_rows, take_rows, write_head};
 use tree::Kind;
 
 // A new node, without tag and content.
-#[derive(Drop)]
+#[derive(Clone, Copy)]
 pub struct Fresh {
     pub kind: Kind,
     pub owner: Uid,

@@ -8,7 +8,7 @@ pub use removal::del;
 use tree::Cause;
 
 // The rows of a working file, of the entry that its tag leads to, and of the directory above that; or why a command may not go on.
-#[derive(Drop)]
+#[derive(Clone, Copy)]
 pub enum Links {
     To {
         working: usize,

@@ -7,7 +7,7 @@ pub use group::new_group;
 use tree::Cause;
 
 // Where a new child may stand: its directory's row, the row it goes in before, and how deep; or why none may.
-#[derive(Drop)]
+#[derive(Clone, Copy)]
 pub enum Room {
     At { row: usize, at: usize, depth: u8 },
     Refused(Cause),

@@ -14,7 +14,7 @@ pub use roles::dominance_of;
 pub use sessions::{login, logout, session_of, set_session};
 
 // Who an account number is: a caller, or nobody that the setup names.
-#[derive(Drop)]
+#[derive(Clone, Copy)]
 pub enum Known {
     As(Caller),
     Nobody,

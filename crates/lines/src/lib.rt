@@ -6,7 +6,7 @@ pub use line::line_at;
 use syntax::Span;
 
 // The word that a line starts with.
-#[derive(Drop)]
+#[derive(Clone, Copy)]
 pub enum LineKind {
     P,
     G,
@@ -16,14 +16,14 @@ pub enum LineKind {
 }
 
 // Two numbers read from a line, if both have their form.
-#[derive(Drop)]
+#[derive(Clone, Copy)]
 pub enum NumberPair {
     Both(u8, u8),
     Nothing,
 }
 
 // A line before `end`, whose password is a part of the setup text, or a line of no form.
-#[derive(Drop)]
+#[derive(Clone, Copy)]
 pub enum SetupLine {
     Person {
         uid: Uid,

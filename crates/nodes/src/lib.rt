@@ -11,7 +11,7 @@ use tree::Cause;
 
 // What a move comes to: a row goes where nothing stands, or over the file of another row; a file onto itself stays; or why it
 // may not be made.
-#[derive(Drop)]
+#[derive(Clone, Copy)]
 enum Move {
     Into { row: usize },
     Onto { row: usize, target: usize },

@@ -6,7 +6,7 @@ use tree::Cause;
 
 // What is copied and where to: the row of the entry, and the gap for its copies, by the row of their directory, the row before which they
 // go in, and their depth.
-#[derive(Drop)]
+#[derive(Clone, Copy)]
 pub struct Site {
     pub filed: usize,
     pub row: usize,
@@ -15,7 +15,7 @@ pub struct Site {
 }
 
 // How many copies are ready in a buffer, or why none are made.
-#[derive(Drop)]
+#[derive(Clone, Copy)]
 enum Copies {
     Ready(usize),
     Refused(Cause),

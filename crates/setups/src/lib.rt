@@ -10,7 +10,7 @@ pub use making::make_store;
 pub use opening::{begin_store, setup_line};
 
 // What a line of a setup text comes to: it fits and is of this kind (p, g, r, l: 0 to 3), it is `end`, or it is wrong.
-#[derive(Drop)]
+#[derive(Clone, Copy)]
 pub enum LineRead {
     More(u8),
     End,
@@ -18,7 +18,7 @@ pub enum LineRead {
 }
 
 // What a whole setup text comes to: it is accepted, or the line of this number, from 1, is its first wrong one.
-#[derive(Drop)]
+#[derive(Clone, Copy)]
 pub enum TextRead {
     Accepted,
     Wrong(usize),

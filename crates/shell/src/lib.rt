@@ -3,7 +3,7 @@ use tree::Cause;
 
 // What a call answers. It stands in this crate, the lowest with commands, with what it tells and what is replied
 // (`Replies.antt`), so that a command's code and the calls answer in the same words.
-#[derive(Drop)]
+#[derive(Clone, Copy)]
 pub enum Answer {
     // Done, and there is no text.
     Done,

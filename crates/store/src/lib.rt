@@ -10,7 +10,7 @@ pub use layout::{
 };
 
 // What an account's slot holds: a person's primary group and further groups; where the primary group is 0 it is no person's.
-#[derive(Drop)]
+#[derive(Clone, Copy)]
 pub struct Person {
     pub primary: Gid,
     pub further: Groups,

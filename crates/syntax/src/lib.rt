@@ -19,14 +19,14 @@ pub const MOST_NAMES: usize = 6;
 pub const CONTENT_LIMIT: usize = 80;
 
 // A part of a text: the bytes from start up to end.
-#[derive(Drop)]
+#[derive(Clone, Copy)]
 pub struct Span {
     pub start: usize,
     pub end: usize,
 }
 
 // A field of a line: where it starts and ends, and whether no comma follows it.
-#[derive(Drop)]
+#[derive(Clone, Copy)]
 pub struct Field {
     pub start: usize,
     pub end: usize,
@@ -34,7 +34,7 @@ pub struct Field {
 }
 
 // What a byte may be for.
-#[derive(Drop)]
+#[derive(Clone, Copy)]
 pub enum Class {
     Name,
     Content,
@@ -43,20 +43,20 @@ pub enum Class {
 }
 
 // A number read from a text, if the text has its form.
-#[derive(Drop)]
+#[derive(Clone, Copy)]
 pub enum Number {
     Value(u16),
     Nothing,
 }
 
 // How far the names of a path have been read: the next one starts here.
-#[derive(Drop)]
+#[derive(Clone, Copy)]
 pub struct Names {
     pub at: usize,
 }
 
 // The next name of a path with what is left, or none.
-#[derive(Drop)]
+#[derive(Clone, Copy)]
 pub enum NextName {
     Name {
         start: usize,

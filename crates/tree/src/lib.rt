@@ -19,7 +19,7 @@ pub use rows::{
 pub use scan::subtree_end;
 
 // What a node is.
-#[derive(Drop)]
+#[derive(Clone, Copy)]
 pub enum Kind {
     File,
     Directory,
@@ -27,7 +27,7 @@ pub enum Kind {
 
 // Why a call was refused; document 01 gives each cause a number. Causes stand in this crate, the lowest that refuses
 // anything, so that a walk answers what the call will.
-#[derive(Drop)]
+#[derive(Clone, Copy)]
 pub enum Cause {
     NoForm,
     UnknownCaller,
@@ -51,14 +51,14 @@ pub enum Cause {
 }
 
 // The row of a child, or where a child of that name would stand.
-#[derive(Drop)]
+#[derive(Clone, Copy)]
 pub enum Child {
     Found(usize),
     Missing(usize),
 }
 
 // What a search for a child found, and its steps: of each child tried the bytes alike from the front, and one more.
-#[derive(Drop)]
+#[derive(Clone, Copy)]
 pub struct Search {
     pub child: Child,
     pub steps: usize,

@@ -9,7 +9,7 @@ pub use below::{child_names, has_children, height_below, larger_of};
 use tree::Cause;
 
 // Where a walk came to: the row of the place and that of the directory above it, or why it was refused.
-#[derive(Drop)]
+#[derive(Clone, Copy)]
 pub enum Walked {
     To { row: usize, above: usize },
     Refused(Cause),

@@ -16,14 +16,14 @@ pub const PART: usize = DIRECTORY + DIRECTORY;
 pub const TEXT: usize = PART + PART + PART;
 
 // A typed command whose arguments stand in the second text, or one with a path that would be too deep.
-#[derive(Drop)]
+#[derive(Clone, Copy)]
 pub enum Whole {
     In(Typed),
     TooDeep,
 }
 
 // What is sought among a command's paths: one that is short, or one with too many names.
-#[derive(Drop)]
+#[derive(Clone, Copy)]
 pub enum Sought {
     Short,
     Deep,
