@@ -1,6 +1,5 @@
 -- `accounts::bit` meets its contract: the table holds the powers of two (`Bits`).
 -- Assumes nothing.
-use borrow.Author.Rules.{rules}
 use Rattle.accounts.proofs.Bits.{bit_at}
 use Rattle.accounts.proofs.bit.Goals as goal
 

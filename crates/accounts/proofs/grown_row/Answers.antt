@@ -1,7 +1,6 @@
 -- `accounts::grown_row` meets its contract, by whether the row has the senior.
 -- Assumes nothing.
 use mathlib.Core.Path.{sym, ◌∙◌}
-use borrow.Author.Rules.{rules}
 use Rattle.accounts.specs.Closure.{grown_row}
 use Rattle.accounts.proofs.grown_row.Goals as goal
 

@@ -1,7 +1,6 @@
 -- `accounts::has_role` meets its contract: a row of 8 bits has none from 8 on.
 -- Assumes nothing.
 use mathlib.Core.Path.{sym}
-use borrow.Author.Rules.{rules}
 use Rattle.accounts.specs.Closure.{has_role}
 use Rattle.accounts.proofs.Bits.{no_bit, by_bit, bit_above}
 use Rattle.accounts.proofs.has_role.Goals as goal

@@ -2,7 +2,6 @@
 -- Assumes nothing.
 use mathlib.Core.Path.{sym, ◌∙◌}
 use borrow.Author.Tests.{eq-eqb, ne_eqb}
-use borrow.Author.Rules.{rules}
 use Rattle.accounts.specs.Access.{is_root, same_uid, may_root, may_owner, may_group, may_other}
 use Rattle.accounts.proofs.Account.may.Goals as goal
 

@@ -1,6 +1,5 @@
 -- `accounts::Dominance::account` meets its contract.
 -- Assumes nothing.
-use borrow.Author.Rules.{rules}
 use Rattle.accounts.specs.Closure.{row_account}
 use Rattle.accounts.specs.Service.{service_uid}
 use Rattle.accounts.proofs.Dominance.account.Goals as goal

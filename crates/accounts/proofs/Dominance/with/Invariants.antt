@@ -1,14 +1,8 @@
-use mathlib.Core.Path.{◌≡◌, ◌∙◌}
-use mathlib.Core.List.{List, ◌++◌, map, append_assoc, append-nil}
-use Prim.Native.Nat.{ℕ, suc, ◌≤◌, ◌<◌, ◌-◌, ◌+◌}
-use native.Mathlib.Nat.{lt-suc_self}
-use native.Mathlib.Numerals.{add-one}
-use native.Mathlib.Omega.{arith}
-use lib.ListN.{length, take, drop, set, get_or, length-set, drop_of_length-le}
-use lib.Seq.{take-suc-set, drop-set-lt, drop-cons, take_all}
-use borrow.Author.Rules.{rules}
-use Rattle.accounts.specs.Closure.{grown_row, grown_rows}
-use Rattle.accounts.specs.ClosureLaws.{none_grown}
+use mathlib.Core.Path.{◌≡◌}
+use mathlib.Core.List.{◌++◌, map}
+use Prim.Native.Nat.{◌≤◌, ◌-◌}
+use lib.ListN.{length, take, drop}
+use Rattle.accounts.specs.Closure.{grown_row}
 use Rattle.accounts.proofs.Dominance.with.Given as goal
 
 abbrev pub invariant-loop-i : goal.invariant-loop-i

@@ -1,6 +1,5 @@
 -- `accounts::Groups::with` meets its contract: what `bit` returns is the group's bit.
 -- Assumes nothing.
-use borrow.Author.Rules.{rules}
 use Rattle.accounts.specs.Groups.{with_group}
 use Rattle.accounts.proofs.Groups.with.Goals as goal
 

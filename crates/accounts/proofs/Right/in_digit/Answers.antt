@@ -1,6 +1,5 @@
 -- `accounts::Right::in_digit` meets its contract, right by right.
 -- Assumes nothing.
-use borrow.Author.Rules.{rules}
 use Rattle.accounts.specs.Access.{grants}
 use Rattle.accounts.proofs.Right.in_digit.Goals as goal
 

@@ -1,6 +1,5 @@
 -- `accounts::Session::dominates` meets its contract, with a session and without.
 -- Assumes nothing.
-use borrow.Author.Rules.{rules}
 use Rattle.accounts.specs.Closure.{session_dominates}
 use Rattle.accounts.proofs.Session.dominates.Goals as goal
 
