@@ -3,7 +3,7 @@ use Rattle.std.specs.Prelude.{◌≡◌, refl, List, [], ◌∷◌, true, ℕ, s
 use Rattle.std.proofs.Common.{sym, ap, ap₂, ◌∙◌, arith, eqb-true, le-leb, leb-true, length-drop, drop-drop}
 use Rattle.std.proofs.Math.Option.{Option, none, some}
 use Rattle.std.proofs.Math.Seq.{take-length}
-use Rattle.bytes.specs.Bytes.{slice, index_after, index_of}
+use Rattle.std.specs.List.{position_or_len}
 use Rattle.buffers.specs.Cases.{case, and_both}
 use Rattle.buffers.specs.Text.{Text}
 use Rattle.syntax.specs.declared.Span.{Span}
@@ -82,15 +82,14 @@ pieces_only_from b t at end h e l =
     rw (pieces_only b (drop at t) whole, wide, take-length (drop at t))
 
 -- a piece ends at the first byte that is the separator
-index_is_length : (b : ℕ) (t : Text) → index_of b t ≡ piece_length b t
-unfolding index_of index_after piece_length
+index_is_length : (b : ℕ) (t : Text) → position_or_len (λ c. eqb c b) t ≡ piece_length b t
+unfolding piece_length
 index_is_length b [] = refl
-index_is_length b (c ∷ t) = case (eqb c b) (λ e. rw e) (λ e. rw e (ap suc (index_is_length b t)))
+index_is_length b (c ∷ t) = case (eqb c b) (λ e. rw e refl) (λ e. rw (e, index_is_length b t) (omega arith))
 
 -- and so it does from a place on
-pub index_from : (b : ℕ) (t : Text) (at : ℕ) → index_of b (slice at (length t) t) ≡ piece_length b (drop at t)
-unfolding slice
-index_from b t at = ap (λ (l : Text). index_of b (drop at l)) (take-length t) ∙ index_is_length b (drop at t)
+pub index_from : (b : ℕ) (t : Text) (at : ℕ) → position_or_len (λ c. eqb c b) (drop at t) ≡ piece_length b (drop at t)
+index_from b t at = index_is_length b (drop at t)
 
 -- a text has a piece
 pub pieces_some : (b : ℕ) (t : Text) → 1 ≤ length (pieces b t)

@@ -13,7 +13,6 @@ use Rattle.syntax.specs.Form.{◌>>=◌, ◌>>◌, check, is_some}
 use Rattle.syntax.specs.Path.{Name, Path, root, ◌▹◌, rep, is_name, most_names, extended, some_names, names_from_top, path, whole, short, begins_with_slash, typed_path, without_rep, entry_at, entry_path}
 use Rattle.syntax.specs.PathLaws.{name_length}
 use Rattle.syntax.specs.FormLaws.{checked, answered}
-use Rattle.syntax.specs.declared.NextName.TheVariants
 use Rattle.syntax.specs.Parts.{part, next_name, names_read, names_of}
 use Rattle.syntax.specs.PartsLaws.{piece_end_le, pieces_first_from, pieces_only_from, pieces_some, joined_pieces, some_of_one}
 

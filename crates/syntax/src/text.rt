@@ -72,7 +72,14 @@ pub fn piece_end(s: &[u8], at: usize, separator: u8) -> usize
     requires { at ≤ length s.now }
     ensures { (result ≡ at + piece_length separator (drop at s.now)) × (result ≤ length s.now) }
 {
-    bytes::scan::find(s, at, s.len(), separator)
+    let mut i = at;
+    while i < s.len() {
+        if s[i] == separator {
+            return i;
+        }
+        i += 1;
+    }
+    i
 }
 
 // The field of a line that starts at a place.

@@ -6,10 +6,8 @@ use mathlib.Core.Bool.{true, false, not}
 use mathlib.Core.List.{List, [], ◌∷◌}
 use lib.Dec.{eqb}
 use lib.ListN.{length, get_or}
-use borrow.Author.Rules.{rules}
 use Rattle.syntax.specs.Number.{no_leading_zero}
-use Rattle.syntax.proofs.numerals.no_leading_zero.Statement.{statement}
-use Rattle.syntax.proofs.numerals.no_leading_zero.Tie as tie
+use Rattle.syntax.proofs.numerals.no_leading_zero.Goals as goal
 
 -- no digit
 empty : (s : List ℕ) → length s ≡ 0 → false ≡ no_leading_zero s
@@ -31,18 +29,12 @@ several [] h = let z : ⊥ = omega arith in absurd z
 several (d ∷ []) h = let z : ⊥ = omega arith in absurd z
 several (d ∷ (e ∷ s)) h = refl
 
-returns : tie.Need-returns
+pub returns-then-s-eq0 : goal.returns-then-s-eq0
 unfolding no_leading_zero
-returns c = empty c.before.args.s.now c.if1.true
+returns-then-s-eq0 c = empty c.args.s.now c.if-s-eq0.true
 
-returns-2 : tie.Need-returns-2
-returns-2 c = single c.before.before.args.s.now c.if2.true
+pub returns-then-s-eq1 : goal.returns-then-s-eq1
+returns-then-s-eq1 c = single c.args.s.now c.if-s-eq1.true
 
-shared-slice-read-result : tie.Need-shared-slice-read-result
-shared-slice-read-result c = search rules
-
-returns-3 : tie.Need-returns-3
-returns-3 c = several c.before.before.before.args.s.now (omega arith)
-
-pub no-leading-zero-spec : {M : Type 1} → statement M
-no-leading-zero-spec = tie.close (tie.spec returns returns-2 shared-slice-read-result returns-3)
+pub returns : goal.returns
+returns c = several c.args.s.now (omega arith)

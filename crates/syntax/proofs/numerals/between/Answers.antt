@@ -7,15 +7,13 @@ use mathlib.Core.List.{[], ◌∷◌}
 use lib.Dec.{eqb, leb, ltb}
 use lib.ListN.{length}
 use borrow.Author.Tests.{le-leb, lt-leb, not-true, leb-true, eqb-false}
-use borrow.Author.Rules.{rules}
 use mathlib.Core.Option.{none, some}
 use Rattle.buffers.specs.Cases.{case, and_both, answers_false, answers_true}
 use Rattle.buffers.specs.Text.{Text, every}
 use Rattle.syntax.specs.Form.{◌>>=◌, ◌>>◌, check}
 use Rattle.syntax.specs.Number.{digit, value_after, no_leading_zero, decimal, between}
 use Rattle.syntax.specs.Parts.{number_of, of_class}
-use Rattle.syntax.proofs.numerals.between.Statement.{statement}
-use Rattle.syntax.proofs.numerals.between.Tie as tie
+use Rattle.syntax.proofs.numerals.between.Goals as goal
 
 -- a text of the form of a decimal number
 record Form (s : Text) : Type 0 where
@@ -89,70 +87,54 @@ too_long low high s h l = case (every (digit 10) s)
     (λ z. leading low high s z))
     (λ d. no-digits low high s d)
 
-returns : tie.Need-returns
+pub returns-then-s-gt4 : goal.returns-then-s-gt4
 unfolding number_of
-returns c =
-    let a = c.before.before.args in
-    too_long a.low a.high a.s.now c.if1.true (omega arith)
+returns-then-s-gt4 c =
+    let a = c.args in
+    too_long a.low a.high a.s.now c.if-s-gt4.true (omega arith)
 
-all-of-requires : tie.Need-all-of-requires
-all-of-requires c κs = search rules
-
-returns-2 : tie.Need-returns-2
+pub returns-then-not-all_of : goal.returns-then-not-all_of
 unfolding number_of of_class
-returns-2 c =
-    let a = c.before.before.before.before.args in
-    no-digits a.low a.high a.s.now (answers_false c.before.all_of.ensures c.if2.true)
+returns-then-not-all_of c =
+    let a = c.args in
+    no-digits a.low a.high a.s.now (answers_false c.all_of.ensures c.if-not-all_of.true-raw)
 
-no-leading-zero-requires : tie.Need-no-leading-zero-requires
-no-leading-zero-requires c κs = search rules
-
-returns-3 : tie.Need-returns-3
+pub returns-then-not-no_leading_zero : goal.returns-then-not-no_leading_zero
 unfolding number_of
-returns-3 c =
-    let a = c.before.before.before.before.before.before.args in
-    leading a.low a.high a.s.now (answers_false c.before.no_leading_zero.ensures c.if3.true)
+returns-then-not-no_leading_zero c =
+    let a = c.args in
+    leading a.low a.high a.s.now (answers_false c.no_leading_zero.ensures c.if-not-no_leading_zero.true-raw)
 
-value-requires : tie.Need-value-requires
+pub value-n-requires : goal.value-n-requires
 unfolding of_class
-value-requires c κs = (omega arith, (omega arith, answers_true c.before.before.before.all_of.ensures c.before.before.if2.false))
+value-n-requires c = record {
+  s_len_bound = omega arith;
+  base_bound = omega arith;
+  s_value = answers_true c.all_of.ensures c.if-not-all_of.false-raw;
+}
 
-returns-4 : tie.Need-returns-4
+pub returns-then-n-low : goal.returns-then-n-low
 unfolding number_of of_class
-returns-4 c =
-    let a = c.before.before.before.before.before.before.before.before.args in
-    let d = answers_true c.before.before.before.before.before.all_of.ensures c.before.before.before.before.if2.false in
-    let z = answers_true c.before.before.before.no_leading_zero.ensures c.before.before.if3.false in
-    too_small a.low a.high a.s.now (record { digits = d; first = z }) (omega (arith, c.if4.true, c.before.value.ensures.0))
+returns-then-n-low c =
+    let a = c.args in
+    let d = answers_true c.all_of.ensures c.if-not-all_of.false-raw in
+    let z = answers_true c.no_leading_zero.ensures c.if-not-no_leading_zero.false-raw in
+    too_small a.low a.high a.s.now (record { digits = d; first = z }) (omega (arith, c.if-n-low.true, c.value-n.ensures.0))
 
-returns-5 : tie.Need-returns-5
+pub returns-then-high-n : goal.returns-then-high-n
 unfolding number_of of_class
-returns-5 c =
-    let a = c.before.before.before.before.before.before.before.before.before.args in
-    let d = answers_true c.before.before.before.before.before.before.all_of.ensures c.before.before.before.before.before.if2.false in
-    let z = answers_true c.before.before.before.before.no_leading_zero.ensures c.before.before.before.if3.false in
-    too-great a.low a.high a.s.now (record { digits = d; first = z }) (omega (arith, c.if5.true, c.before.before.value.ensures.0))
+returns-then-high-n c =
+    let a = c.args in
+    let d = answers_true c.all_of.ensures c.if-not-all_of.false-raw in
+    let z = answers_true c.no_leading_zero.ensures c.if-not-no_leading_zero.false-raw in
+    too-great a.low a.high a.s.now (record { digits = d; first = z }) (omega (arith, c.if-high-n.true, c.value-n.ensures.0))
 
-returns-6 : tie.Need-returns-6
+pub returns : goal.returns
 unfolding number_of of_class
-returns-6 c =
-    let a = c.before.before.before.before.before.before.before.before.before.args in
-    let d = answers_true c.before.before.before.before.before.before.all_of.ensures c.before.before.before.before.before.if2.false in
-    let z = answers_true c.before.before.before.before.no_leading_zero.ensures c.before.before.before.if3.false in
+returns c =
+    let a = c.args in
+    let d = answers_true c.all_of.ensures c.if-not-all_of.false-raw in
+    let z = answers_true c.no_leading_zero.ensures c.if-not-no_leading_zero.false-raw in
     let f : Form a.s.now = record { digits = d; first = z } in
-    let v = c.before.before.value.ensures.0 in
-    ap some v ∙ fits a.low a.high a.s.now f (omega (arith, c.before.if4.false, v)) (omega (arith, c.if5.false, v))
-
-pub between-spec : {M : Type 1} → statement M
-between-spec =
-    tie.close
-    (tie.spec
-    returns
-    all-of-requires
-    returns-2
-    no-leading-zero-requires
-    returns-3
-    value-requires
-    returns-4
-    returns-5
-    returns-6)
+    let v = c.value-n.ensures.0 in
+    ap some v ∙ fits a.low a.high a.s.now f (omega (arith, c.if-n-low.false, v)) (omega (arith, c.if-high-n.false, v))

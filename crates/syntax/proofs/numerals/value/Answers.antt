@@ -5,7 +5,6 @@ use native.Mathlib.Omega.{arith}
 use native.Mathlib.Numerals.{add-one}
 use native.Mathlib.Nat.{pow-suc, pow-le-pow_right, mul-le-mul_left}
 use mathlib.Core.Path.{◌≡◌, refl, sym, ap, ◌∙◌}
-use mathlib.Core.Bool.{true}
 use mathlib.Core.List.{List}
 use lib.Dec.{leb, ltb}
 use lib.ListN.{length, drop, get_or, drop_of_length-le}
@@ -15,14 +14,8 @@ use Rattle.buffers.specs.Cases.{and_both}
 use Rattle.buffers.specs.Text.{every}
 use Rattle.buffers.specs.TextLaws.{every_from}
 use Rattle.syntax.specs.Number.{digit, value_after}
-use Rattle.syntax.proofs.numerals.value.Statement.{statement}
-use Rattle.syntax.proofs.numerals.value.Tie as tie
-
-record Going (s : List ℕ) (base n i : ℕ) : Type 0 where
-  le : i ≤ length s
-  small : n < 10 ^ i
-  digits : every (digit base) (drop i s) ≡ true
-  goes : value_after base n (drop i s) ≡ value_after base 0 s
+use Rattle.syntax.proofs.numerals.value.Invariants.{Going}
+use Rattle.syntax.proofs.numerals.value.Goals as goal
 
 -- what is known of a digit and of the value before it
 record Digit (base n d : ℕ) : Type 0 where
@@ -65,73 +58,50 @@ none_left : (s : List ℕ) (base n i : ℕ) → Going s base n i → length s �
 unfolding value_after
 none_left s base n i g h = ap (value_after base n) (sym (drop_of_length-le s h)) ∙ g.goes
 
-abbrev invariant-loop : tie.invariant-loop
-invariant-loop s base n₀ i₀ n i = Going s base n i
+pub loop-i-init : goal.loop-i-init
+loop-i-init c = record { le = omega arith; small = omega arith; digits = c.requires.s_value; goes = refl }
 
-abbrev decreases-loop : tie.decreases-loop
-decreases-loop s base n₀ i₀ n i = length s - i
+pub bounds-s-i : goal.bounds-s-i
+bounds-s-i c = omega arith
 
-loop-holds : tie.Need-loop-init invariant-loop decreases-loop
-loop-holds c = record { le = omega arith; small = omega arith; digits = c.requires.1.1; goes = refl }
+pub overflow_cast-d : goal.overflow_cast-d
+overflow_cast-d c = omega (arith, c.shared_slice_known-1.given c.loop-i.i)
 
-shared-slice-read-d : tie.Need-shared-slice-read-d invariant-loop decreases-loop
-shared-slice-read-d c = omega arith
-
-cast-d : tie.Need-overflow-cast-d invariant-loop decreases-loop
-cast-d c = omega (arith, c.shared-slice-known.given c.before.before.loop.i)
-
-mul-n : tie.Need-overflow-mul-n invariant-loop decreases-loop
-mul-n c =
-    let l = c.before.before.loop in
-    let a = c.before.before.before.args in
+pub overflow_mul-n : goal.overflow_mul-n
+overflow_mul-n c =
+    let l = c.loop-i in
+    let a = c.args in
     let d : _ = digit-here a.s.now a.base l.n l.i l.invariant (omega arith) (omega arith) (omega arith) in
     omega arith
 
-sub-n : tie.Need-overflow-sub-n invariant-loop decreases-loop
-sub-n c =
-    let l = c.before.before.loop in
-    let a = c.before.before.before.args in
+pub overflow_sub-n : goal.overflow_sub-n
+overflow_sub-n c =
+    let l = c.loop-i in
+    let a = c.args in
     (digit-here a.s.now a.base l.n l.i l.invariant (omega arith) (omega arith) (omega arith)).from
 
-add-n : tie.Need-overflow-add-n invariant-loop decreases-loop
-add-n c =
-    let l = c.before.before.loop in
-    let a = c.before.before.before.args in
+pub overflow_add-n : goal.overflow_add-n
+overflow_add-n c =
+    let l = c.loop-i in
+    let a = c.args in
     let d : _ = digit-here a.s.now a.base l.n l.i l.invariant (omega arith) (omega arith) (omega arith) in
     omega arith
 
-add-i : tie.Need-overflow-add-i invariant-loop decreases-loop
-add-i c = omega arith
+pub overflow_add-i : goal.overflow_add-i
+overflow_add-i c = omega arith
 
-loop-less : tie.Need-loop-smaller invariant-loop decreases-loop
-loop-less c = omega arith
+pub loop-i-smaller : goal.loop-i-smaller
+loop-i-smaller c = omega arith
 
-loop-again : tie.Need-loop-preserved invariant-loop decreases-loop
-loop-again c =
-    let l = c.before.before.loop in
-    let a = c.before.before.before.args in
+pub loop-i-preserved : goal.loop-i-preserved
+loop-i-preserved c =
+    let l = c.loop-i in
+    let a = c.args in
     turn a.s.now a.base l.n l.i l.invariant (omega arith) (omega arith) (omega arith)
 
-returns : tie.Need-returns invariant-loop decreases-loop
+pub returns : goal.returns
 returns c =
-    let l = c.before.loop in
-    let a = c.before.before.args in
+    let l = c.loop-i in
+    let a = c.args in
     let i = l.invariant in
     (none_left a.s.now a.base l.n l.i i (omega arith), below_power l.n l.i 4 i.small (omega arith))
-
-pub value_spec : {M : Type 1} → statement M
-value_spec =
-    tie.close
-    (tie.spec
-    invariant-loop
-    decreases-loop
-    loop-holds
-    shared-slice-read-d
-    cast-d
-    mul-n
-    sub-n
-    add-n
-    add-i
-    loop-less
-    loop-again
-    returns)

@@ -7,16 +7,14 @@ use mathlib.Core.List.{[], ◌∷◌}
 use lib.Dec.{eqb}
 use lib.ListN.{length, get_or}
 use borrow.Author.Tests.{eq-eqb, ne_eqb, eqb-true}
-use borrow.Author.Rules.{rules}
-use mathlib.Core.Logic.{⊎_elim}
 use mathlib.Core.Option.{none, some}
 use Rattle.buffers.specs.Cases.{case, and_both, answers_false, answers_true}
 use Rattle.buffers.specs.Text.{Text, every}
 use Rattle.syntax.specs.Form.{◌>>◌, check}
 use Rattle.syntax.specs.Number.{digit, value_after, mode_digits, mode}
 use Rattle.syntax.specs.Parts.{number_of, of_class}
-use Rattle.syntax.proofs.numerals.mode.Statement.{statement}
-use Rattle.syntax.proofs.numerals.mode.Tie as tie
+use Rattle.syntax.proofs.numerals.mode.Goals as goal
+use Rattle.syntax.proofs.numerals.mode.Goals.{then-s-ne48+else-s-ne50, else-s-ne48}
 
 -- the first digit of a mode
 abbrev First : Text → Type 0
@@ -61,50 +59,32 @@ octal (d ∷ ds) f e l =
     let i : _ = and_both (digit 8 d) (every (digit 8) ds) e in
     rw (f, i.1, eq-eqb (length ds) 3 (omega arith))
 
-returns : tie.Need-returns
+pub returns-then-s-ne4 : goal.returns-then-s-ne4
 unfolding number_of
-returns c = other_length c.before.before.args.s.now c.if1.true
+returns-then-s-ne4 c = other_length c.args.s.now c.if-s-ne4.true
 
-shared-slice-read-if2 : tie.Need-shared-slice-read-if2
-shared-slice-read-if2 c = search rules
-
-shared-slice-read-if3 : tie.Need-shared-slice-read-if3
-shared-slice-read-if3 c = search rules
-
-returns-2 : tie.Need-returns-2
+pub returns-then-s-ne50 : goal.returns-then-s-ne50
 unfolding number_of
-returns-2 c = other-first c.before.before.before.before.before.before.args.s.now c.before.before.if2.true c.if3.true
+returns-then-s-ne50 c = other-first c.args.s.now c.if-s-ne48.true c.if-s-ne50.true
 
-all-of-requires : tie.Need-all-of-requires
-all-of-requires c κs = search rules
-
-returns-3 : tie.Need-returns-3
+pub returns-then-not-all_of : goal.returns-then-not-all_of
 unfolding number_of of_class
-returns-3 c =
-    let s = c.before.before.before.before.before.before.args.s.now in
-    let f : First s = ⊎_elim (λ w. two-first s w.2.left) (λ w. zero-first s w.left) c.before.before.if2.branch in
-    not-octal s f (answers_false c.before.all_of.ensures c.if4.true)
+returns-then-not-all_of c =
+    let s = c.args.s.now in
+    let f : First s = elim c.if-s-ne48.branch [ then-s-ne48+else-s-ne50 w ↦ two-first s w.if-s-ne50.false | else-s-ne48 w ↦ zero-first s w.if-s-ne48.false ] in
+    not-octal s f (answers_false c.all_of.ensures c.if-not-all_of.true-raw)
 
-value-requires : tie.Need-value-requires
+pub value-requires : goal.value-requires
 unfolding of_class
-value-requires c κs = (omega arith, (omega arith, answers_true c.before.all_of.ensures c.if4.false))
+value-requires c = record {
+  s_len_bound = omega arith;
+  base_bound = omega arith;
+  s_value = answers_true c.all_of.ensures c.if-not-all_of.false-raw;
+}
 
-returns-4 : tie.Need-returns-4
+pub returns : goal.returns
 unfolding number_of of_class
-returns-4 c =
-    let s = c.before.before.before.before.before.before.before.args.s.now in
-    let f : First s = ⊎_elim (λ w. two-first s w.2.left) (λ w. zero-first s w.left) c.before.before.before.if2.branch in
-    ap some c.value.ensures.0 ∙ octal s f (answers_true c.before.before.all_of.ensures c.before.if4.false) (omega arith)
-
-pub mode-spec : {M : Type 1} → statement M
-mode-spec =
-    tie.close
-    (tie.spec
-    returns
-    shared-slice-read-if2
-    shared-slice-read-if3
-    returns-2
-    all-of-requires
-    returns-3
-    value-requires
-    returns-4)
+returns c =
+    let s = c.args.s.now in
+    let f : First s = elim c.if-s-ne48.branch [ then-s-ne48+else-s-ne50 w ↦ two-first s w.if-s-ne50.false | else-s-ne48 w ↦ zero-first s w.if-s-ne48.false ] in
+    ap some c.value.ensures.0 ∙ octal s f (answers_true c.all_of.ensures c.if-not-all_of.false-raw) (omega arith)
