@@ -17,7 +17,6 @@ use Rattle.std.proofs.Math.Seq.{get_or-take, get_or-drop}
 use Rattle.buffers.specs.Fields.{number_at, unpadded, text_at}
 use Rattle.buffers.specs.FieldsLaws.{part_of_take, field_text_fits}
 use Rattle.buffers.specs.TableLaws.{length_all_from, all_from_at}
-use Rattle.syntax.specs.Path.{depth}
 use Rattle.tree.specs.declared.Kind.TheVariants.{File, Directory}
 use Rattle.tree.specs.Layout.{row_width, row_start, kind_offset, name_offset, name_width, tag_offset, tag_width, content_offset, content_width}
 use Rattle.tree.specs.Forest.{Place}
