@@ -8,7 +8,6 @@ use Rattle.accounts.specs.declared.Uid.{Uid}
 use Rattle.accounts.specs.declared.Role.{Role}
 use Rattle.accounts.specs.Dominance.{BoundedRole}
 use Rattle.syntax.specs.declared.Span.{Span}
-use Rattle.syntax.specs.Form.{◌>>=◌}
 use Rattle.syntax.specs.FormLaws.{no_answer, both_read, answered}
 use Rattle.syntax.specs.Path.{Path, EntryPath, path, entry_path}
 use Rattle.syntax.specs.Field.{bounded_by, bounded}
