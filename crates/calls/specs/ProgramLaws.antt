@@ -131,7 +131,7 @@ module _ (b answer : List ℕ) (width : length b ≡ 65536) (room : length answe
       let all = list_from (state_of u ran.state) w 257 0 r.0 r.1 (omega arith) in
       rw (set_up_takes b width text u e) (rw (most_nodes_is, r.2, all))
   printed text commands (wrong_line n) e =
-      rw (set_up_wrong b width text n e) (rw wrong_setup_is)
+      ap (λ c. after_setup c answer commands) (set_up_wrong b width text n e) ∙ rw wrong_setup_is
 
   -- the program prints the transcript
   pub program_is_transcript : (input : Text) → program b answer input ≡ transcript input

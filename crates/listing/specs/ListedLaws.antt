@@ -25,6 +25,7 @@ use Rattle.listing.specs.ByteOrderLaws.{line_begins, named}
 in_first : (l : Text) (k m : List Text) → In l k → In l (k ++ m)
 in_first l (x ∷ k) m (inl e) = inl e
 in_first l (x ∷ k) m (inr i) = inr (in_first l k m i)
+in_first l [] m x' = elim x' [ ]
 
 in_second : (l : Text) (k m : List Text) → In l m → In l (k ++ m)
 in_second l [] m i = i
