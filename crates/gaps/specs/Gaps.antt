@@ -11,7 +11,6 @@ use Rattle.tree.specs.Forest.{Place, size}
 use Rattle.tree.specs.Node.{Node, allows}
 use Rattle.tree.specs.Walk.{unused}
 use Rattle.tree.specs.RowPlaces.{index_of, lesser}
-use Rattle.tree.specs.TreeBytes.{At}
 use Rattle.gaps.specs.declared.Room.{Room}
 use Rattle.gaps.specs.declared.Room.TheVariants
 
