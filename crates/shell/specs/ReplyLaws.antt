@@ -3,7 +3,6 @@ use Rattle.std.specs.Prelude.{◌≡◌, refl, List, ◌++◌, ℕ, ◌≤◌, l
 use Rattle.std.proofs.Common.{◌∙◌, arith, length-append, length-drop}
 use Rattle.std.proofs.Math.Option.{none, some}
 use Rattle.buffers.specs.Text.{Text}
-use Rattle.shell.specs.declared.Answer.TheVariants
 use Rattle.shell.specs.Replies.{Reply, ok, refusal, written}
 
 -- a text that fits leaves the answer buffer's length
