@@ -15,7 +15,6 @@ use Rattle.accounts.specs.Dominance.{falls}
 use Rattle.syntax.specs.Pieces.{bytes, newline, pieces}
 use Rattle.syntax.specs.Form.{◌>>=◌, ◌>>◌, check, is_some}
 use Rattle.syntax.specs.Path.{is_name}
-use Rattle.syntax.specs.Field.{password}
 use Rattle.lines.specs.SetupLines.{LineOfSetup, p_line, g_line, r_line, l_line, setup_line}
 
 -- a person's primary group and further groups
