@@ -11,7 +11,7 @@ use Rattle.buffers.specs.Cases.{case}
 use Rattle.accounts.specs.declared.Caller.{Caller}
 use Rattle.accounts.specs.declared.Gid.{Gid}
 use Rattle.syntax.specs.Number.{set_gid}
-use Rattle.syntax.specs.Path.{Name, Path, ◌▹◌, EntryPath, depth, below_rep}
+use Rattle.syntax.specs.Path.{Name, Path, ◌▹◌, EntryPath, below_rep}
 use Rattle.tree.specs.Forest.{Forest, nil, node, Place, size}
 use Rattle.tree.specs.Node.{Node, set_tag, set_content, new_group, new_node}
 use Rattle.tree.specs.Walk.{by_modes}
