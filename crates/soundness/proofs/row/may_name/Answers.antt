@@ -2,12 +2,8 @@
 use mathlib.Core.Path.{refl}
 use Rattle.syntax.specs.Path.{name_byte}
 use Rattle.soundness.specs.Tests.{may_name}
-use Rattle.soundness.proofs.row.may_name.Statement.{statement}
-use Rattle.soundness.proofs.row.may_name.Tie as tie
+use Rattle.soundness.proofs.row.may_name.Goals as goal
 
-returns : tie.Need-returns
+pub returns : goal.returns
 unfolding may_name name_byte
 returns c = λ next. refl
-
-pub may-name-spec : {M : Type 1} → statement M
-may-name-spec = tie.close (tie.spec returns)
