@@ -8,9 +8,7 @@ use lib.Dec.{eqb}
 use lib.ListN.{length, get_or}
 use Rattle.buffers.specs.Text.{Text}
 use Rattle.syntax.specs.Path.{begins_with_slash}
-use borrow.Author.Rules.{rules}
-use Rattle.whole_paths.proofs.kinds.begins_with_slash.Statement.{statement}
-use Rattle.whole_paths.proofs.kinds.begins_with_slash.Tie as tie
+use Rattle.whole_paths.proofs.kinds.begins_with_slash.Goals as goal
 
 no_byte : (t : Text) → length t ≡ 0 → false ≡ begins_with_slash t
 unfolding begins_with_slash
@@ -22,14 +20,8 @@ unfolding begins_with_slash
 first_byte [] h = let z : ⊥ = omega arith in absurd z
 first_byte (b ∷ t) h = refl
 
-returns : tie.Need-returns
-returns c = no_byte c.before.args.s.now c.if1.true
+pub returns-then-s-eq0 : goal.returns-then-s-eq0
+returns-then-s-eq0 c = no_byte c.args.s.now c.if-s-eq0.true
 
-shared-slice-read-result : tie.Need-shared-slice-read-result
-shared-slice-read-result c = search rules
-
-returns-2 : tie.Need-returns-2
-returns-2 c = first_byte c.before.before.args.s.now (omega arith)
-
-pub begins-with-slash-spec : {M : Type 1} → statement M
-begins-with-slash-spec = tie.close (tie.spec returns shared-slice-read-result returns-2)
+pub returns : goal.returns
+returns c = first_byte c.args.s.now (omega arith)
