@@ -23,7 +23,7 @@ use Rattle.tree.specs.declared.Cause.TheVariants.{Access, WrongKind, NotEmpty, R
 use Rattle.tree.specs.Result.{Result, done, present, Outcome}
 use Rattle.tree.specs.Outcomes.{Agree, refusal, both}
 use Rattle.tree.specs.AgreeLaws.{done_second, bind, each, check, guard}
-use Rattle.tree.specs.Forest.{Forest, Place, at, leaf, size, map_place, rooted}
+use Rattle.tree.specs.Forest.{Forest, Place, leaf, size, map_place, rooted}
 use Rattle.tree.specs.Node.{is_directory, Node, allows, owns}
 use Rattle.tree.specs.Walk.{by_modes, enter, walk, parent_walk, room}
 use Rattle.tree.specs.WellFormed.{nodes}
