@@ -11,8 +11,7 @@ use Rattle.buffers.specs.Text.{Text, same_text}
 use Rattle.buffers.specs.TextLaws.{same_text_sound}
 use Rattle.syntax.specs.PathTextLaws.{text_goes_on_from}
 use Rattle.nodes.specs.NodeChecks.{text_within}
-use Rattle.nodes.proofs.paths.is_within.Statement.{statement}
-use Rattle.nodes.proofs.paths.is_within.Tie as tie
+use Rattle.nodes.proofs.paths.is_within.Goals as goal
 
 -- a text that begins with another and is not as long is longer
 longer : (s u : Text) → same_text (take (length s) u) s ≡ true → (length u ≡ length s → ⊥) → length s < length u
@@ -36,41 +35,30 @@ module _ (s u : Text) (below : length s ≡ 1 → ⊥) where
     unfolding text_within text_goes_on_from
     goes-on-there h = rw (ne_eqb (length s) 1 below, e, ne_eqb (length u) (length s) h)
 
-returns : tie.Need-returns
+pub returns-then-n-eq1 : goal.returns-then-n-eq1
+returns-then-n-eq1 c =
+    let a = c.args in
+    within-one a.above.now a.text.now c.if-n-eq1.true
+
+pub begins-requires : goal.begins-requires
+begins-requires c = tt
+
+pub returns-then-not-begins : goal.returns-then-not-begins
+returns-then-not-begins c =
+    let a = c.args in
+    begins-not a.above.now a.text.now c.if-n-eq1.false (answers_false c.begins.ensures c.if-not-begins.true-raw)
+
+pub returns-then-text-n : goal.returns-then-text-n
+returns-then-text-n c =
+    let a = c.args in
+    ends_there a.above.now a.text.now c.if-n-eq1.false (answers_true c.begins.ensures c.if-not-begins.false-raw) c.if-text-n.true
+
+pub bounds-text-n : goal.bounds-text-n
+bounds-text-n c =
+    let a = c.args in
+    longer a.above.now a.text.now (answers_true c.begins.ensures c.if-not-begins.false-raw) c.if-text-n.false
+
+pub returns : goal.returns
 returns c =
-    let a = c.before.before.before.args in
-    within-one a.above.now a.text.now c.if1.true
-
-begins-requires : tie.Need-begins-requires
-begins-requires c κs = tt
-
-returns-2 : tie.Need-returns-2
-returns-2 c =
-    let a = c.before.before.before.before.before.args in
-    begins-not a.above.now a.text.now c.before.before.if1.false (answers_false c.before.begins.ensures c.if2.true)
-
-returns-3 : tie.Need-returns-3
-returns-3 c =
-    let a = c.before.before.before.before.before.before.args in
-    ends_there a.above.now a.text.now c.before.before.before.if1.false (answers_true c.before.before.begins.ensures c.before.if2.false) c.if3.true
-
-shared-slice-read-result : tie.Need-shared-slice-read-result
-shared-slice-read-result c =
-    let a = c.before.before.before.before.before.before.before.args in
-    longer a.above.now a.text.now (answers_true c.before.before.before.begins.ensures c.before.before.if2.false) c.before.if3.false
-
-returns-4 : tie.Need-returns-4
-returns-4 c =
-    let a = c.before.before.before.before.before.before.before.args in
-    goes-on-there a.above.now a.text.now c.before.before.before.before.if1.false (answers_true c.before.before.before.begins.ensures c.before.before.if2.false) c.before.if3.false
-
-pub is-within-spec : {M : Type 1} → statement M
-is-within-spec =
-    tie.close
-    (tie.spec
-    returns
-    begins-requires
-    returns-2
-    returns-3
-    shared-slice-read-result
-    returns-4)
+    let a = c.args in
+    goes-on-there a.above.now a.text.now c.if-n-eq1.false (answers_true c.begins.ensures c.if-not-begins.false-raw) c.if-text-n.false
