@@ -1,0 +1,306 @@
+-- `shell_runner::shell_command` meets its contract: each case is the command that its parts mean.
+use mathlib.Core.Path.{refl}
+use native.Mathlib.Omega.{arith}
+use Rattle.commands.specs.Meaning.{ShellMeans}
+use Rattle.shell.specs.Steps.{run_shell}
+use Rattle.commands.specs.MeaningLaws.{means_as, part_read}
+use Rattle.shell_runner.specs.ShellDoneLaws.{same_shell, content_room}
+use Rattle.shell_runner.proofs.shell_command.Goals as goal
+
+pub part-requires : goal.part-requires
+unfolding ShellMeans
+part-requires c =
+    (means_as ShellMeans c.in-Create.is c.requires.some_shell_command.1.means).1.inside
+
+pub create-requires : goal.create-requires
+unfolding ShellMeans
+create-requires c =
+    let i = means_as ShellMeans c.in-Create.is c.requires.some_shell_command.1.means in
+    record {
+      whole = c.requires.whole;
+      path_text = (i.0, part_read _ c.part.ensures i.1);
+    }
+
+pub part-requires-in-Mkdir : goal.part-requires-in-Mkdir
+unfolding ShellMeans
+part-requires-in-Mkdir c =
+    (means_as ShellMeans c.in-Mkdir.is c.requires.some_shell_command.1.means).1.inside
+
+pub create-requires-in-Mkdir : goal.create-requires-in-Mkdir
+unfolding ShellMeans
+create-requires-in-Mkdir c =
+    let i = means_as ShellMeans c.in-Mkdir.is c.requires.some_shell_command.1.means in
+    record {
+      whole = c.requires.whole;
+      path_text = (i.0, part_read _ c.part-in-Mkdir.ensures i.1);
+    }
+
+pub part-requires-in-Read : goal.part-requires-in-Read
+unfolding ShellMeans
+part-requires-in-Read c =
+    (means_as ShellMeans c.in-Read.is c.requires.some_shell_command.1.means).1.inside
+
+pub read-requires : goal.read-requires
+unfolding ShellMeans
+read-requires c =
+    let i = means_as ShellMeans c.in-Read.is c.requires.some_shell_command.1.means in
+    record {
+      whole = c.requires.whole;
+      path_text = (i.0, part_read _ c.part-in-Read.ensures i.1);
+      all_names_width_in_bounds = omega arith;
+    }
+
+pub part-requires-in-Write : goal.part-requires-in-Write
+unfolding ShellMeans
+part-requires-in-Write c =
+    (means_as ShellMeans c.in-Write.is c.requires.some_shell_command.1.means).1.inside
+
+pub part-requires-in-Write-2 : goal.part-requires-in-Write-2
+unfolding ShellMeans
+part-requires-in-Write-2 c =
+    (means_as ShellMeans c.in-Write.is c.requires.some_shell_command.1.means).2
+
+pub write-requires : goal.write-requires
+unfolding ShellMeans
+write-requires c =
+    let n = c.requires.some_shell_command.1 in
+    let i = means_as ShellMeans c.in-Write.is n.means in
+    record {
+      whole = c.requires.whole;
+      path_text = (i.0, part_read _ c.part-in-Write.ensures i.1);
+      content_len_bound = rw c.part-in-Write-2.ensures (content_room n.in_range i.3);
+    }
+
+pub part-requires-in-Rm : goal.part-requires-in-Rm
+unfolding ShellMeans
+part-requires-in-Rm c =
+    (means_as ShellMeans c.in-Rm.is c.requires.some_shell_command.1.means).1.inside
+
+pub rm-requires : goal.rm-requires
+unfolding ShellMeans
+rm-requires c =
+    let i = means_as ShellMeans c.in-Rm.is c.requires.some_shell_command.1.means in
+    record {
+      whole = c.requires.whole;
+      path_text = (i.0, part_read _ c.part-in-Rm.ensures i.1);
+    }
+
+pub part-requires-in-Rmdir : goal.part-requires-in-Rmdir
+unfolding ShellMeans
+part-requires-in-Rmdir c =
+    (means_as ShellMeans c.in-Rmdir.is c.requires.some_shell_command.1.means).1.inside
+
+pub rm-requires-in-Rmdir : goal.rm-requires-in-Rmdir
+unfolding ShellMeans
+rm-requires-in-Rmdir c =
+    let i = means_as ShellMeans c.in-Rmdir.is c.requires.some_shell_command.1.means in
+    record {
+      whole = c.requires.whole;
+      path_text = (i.0, part_read _ c.part-in-Rmdir.ensures i.1);
+    }
+
+pub part-requires-in-Mv : goal.part-requires-in-Mv
+unfolding ShellMeans
+part-requires-in-Mv c =
+    (means_as ShellMeans c.in-Mv.is c.requires.some_shell_command.1.means).2.inside
+
+pub part-requires-in-Mv-2 : goal.part-requires-in-Mv-2
+unfolding ShellMeans
+part-requires-in-Mv-2 c =
+    (means_as ShellMeans c.in-Mv.is c.requires.some_shell_command.1.means).3.inside
+
+pub mv-requires : goal.mv-requires
+unfolding ShellMeans
+mv-requires c =
+    let i = means_as ShellMeans c.in-Mv.is c.requires.some_shell_command.1.means in
+    record {
+      whole = c.requires.whole;
+      path_text = (i.0, part_read _ c.part-in-Mv.ensures i.2);
+      path_text_2 = (i.1, part_read _ c.part-in-Mv-2.ensures i.3);
+    }
+
+pub part-requires-in-Chmod : goal.part-requires-in-Chmod
+unfolding ShellMeans
+part-requires-in-Chmod c =
+    (means_as ShellMeans c.in-Chmod.is c.requires.some_shell_command.1.means).1.inside
+
+pub chmod-requires : goal.chmod-requires
+unfolding ShellMeans
+chmod-requires c =
+    let i = means_as ShellMeans c.in-Chmod.is c.requires.some_shell_command.1.means in
+    record {
+      whole = c.requires.whole;
+      path_text = (i.0, part_read _ c.part-in-Chmod.ensures i.1);
+    }
+
+pub part-requires-in-Chgrp : goal.part-requires-in-Chgrp
+unfolding ShellMeans
+part-requires-in-Chgrp c =
+    (means_as ShellMeans c.in-Chgrp.is c.requires.some_shell_command.1.means).1.inside
+
+pub chgrp-requires : goal.chgrp-requires
+unfolding ShellMeans
+chgrp-requires c =
+    let i = means_as ShellMeans c.in-Chgrp.is c.requires.some_shell_command.1.means in
+    record {
+      whole = c.requires.whole;
+      path_text = (i.0, part_read _ c.part-in-Chgrp.ensures i.1);
+    }
+
+pub part-requires-in-Chown : goal.part-requires-in-Chown
+unfolding ShellMeans
+part-requires-in-Chown c =
+    (means_as ShellMeans c.in-Chown.is c.requires.some_shell_command.1.means).1.inside
+
+pub chown-requires : goal.chown-requires
+unfolding ShellMeans
+chown-requires c =
+    let i = means_as ShellMeans c.in-Chown.is c.requires.some_shell_command.1.means in
+    record {
+      whole = c.requires.whole;
+      path_text = (i.0, part_read _ c.part-in-Chown.ensures i.1);
+    }
+
+pub returns-in-Create : goal.returns-in-Create
+unfolding ShellMeans run_shell
+returns-in-Create c t k e m =
+    let a = c.args in
+    let i = means_as ShellMeans c.in-Create.is m.means in
+    let q = part_read _ c.part.ensures i.1 in
+    same_shell a.caller t i.2 (c.create.ensures t i.0 e q a.answer.now)
+
+pub returns-in-Mkdir : goal.returns-in-Mkdir
+unfolding ShellMeans run_shell
+returns-in-Mkdir c t k e m =
+    let a = c.args in
+    let i = means_as ShellMeans c.in-Mkdir.is m.means in
+    let q = part_read _ c.part-in-Mkdir.ensures i.1 in
+    same_shell a.caller t i.2 (c.create-in-Mkdir.ensures t i.0 e q a.answer.now)
+
+pub returns-in-Read : goal.returns-in-Read
+unfolding ShellMeans run_shell
+returns-in-Read c t k e m =
+    let a = c.args in
+    let i = means_as ShellMeans c.in-Read.is m.means in
+    same_shell a.caller t i.2 (c.read.ensures t i.0 e (part_read _ c.part-in-Read.ensures i.1))
+
+pub returns-in-Write : goal.returns-in-Write
+unfolding ShellMeans run_shell
+returns-in-Write c t k e m =
+    let a = c.args in
+    let i = means_as ShellMeans c.in-Write.is m.means in
+    let q = part_read _ c.part-in-Write.ensures i.1 in
+    let done = c.write.ensures t i.0 e q a.answer.now in
+    same_shell a.caller t i.3 (rw c.part-in-Write-2.ensures at done)
+
+pub returns-in-Rm : goal.returns-in-Rm
+unfolding ShellMeans run_shell
+returns-in-Rm c t k e m =
+    let a = c.args in
+    let i = means_as ShellMeans c.in-Rm.is m.means in
+    let q = part_read _ c.part-in-Rm.ensures i.1 in
+    same_shell a.caller t i.2 (c.rm.ensures t i.0 e q a.answer.now)
+
+pub returns-in-Rmdir : goal.returns-in-Rmdir
+unfolding ShellMeans run_shell
+returns-in-Rmdir c t k e m =
+    let a = c.args in
+    let i = means_as ShellMeans c.in-Rmdir.is m.means in
+    let q = part_read _ c.part-in-Rmdir.ensures i.1 in
+    same_shell a.caller t i.2 (c.rm-in-Rmdir.ensures t i.0 e q a.answer.now)
+
+pub returns-in-Mv : goal.returns-in-Mv
+unfolding ShellMeans run_shell
+returns-in-Mv c t k e m =
+    let a = c.args in
+    let i = means_as ShellMeans c.in-Mv.is m.means in
+    let from = part_read _ c.part-in-Mv.ensures i.2 in
+    let to = part_read _ c.part-in-Mv-2.ensures i.3 in
+    same_shell a.caller t i.4 (c.mv.ensures t i.0 i.1 e from to a.answer.now)
+
+pub returns-in-Chmod : goal.returns-in-Chmod
+unfolding ShellMeans run_shell
+returns-in-Chmod c t k e m =
+    let a = c.args in
+    let i = means_as ShellMeans c.in-Chmod.is m.means in
+    let q = part_read _ c.part-in-Chmod.ensures i.1 in
+    same_shell a.caller t i.2 (c.chmod.ensures t i.0 e q a.answer.now)
+
+pub returns-in-Chgrp : goal.returns-in-Chgrp
+unfolding ShellMeans run_shell
+returns-in-Chgrp c t k e m =
+    let a = c.args in
+    let i = means_as ShellMeans c.in-Chgrp.is m.means in
+    let q = part_read _ c.part-in-Chgrp.ensures i.1 in
+    same_shell a.caller t i.2 (c.chgrp.ensures t i.0 e q a.answer.now)
+
+pub returns-in-Chown : goal.returns-in-Chown
+unfolding ShellMeans run_shell
+returns-in-Chown c t k e m =
+    let a = c.args in
+    let i = means_as ShellMeans c.in-Chown.is m.means in
+    let q = part_read _ c.part-in-Chown.ensures i.1 in
+    same_shell a.caller t i.2 (c.chown.ensures t i.0 e q a.answer.now)
+
+pub enum_known-command : goal.enum_known-command
+enum_known-command c = c.in-Create.in-Create-own.keys1
+
+pub enum_known-command-in-Mkdir-1 : goal.enum_known-command-in-Mkdir-1
+enum_known-command-in-Mkdir-1 c = c.in-Mkdir.in-Mkdir-own.keys2
+
+pub enum_known-command-in-Read-1 : goal.enum_known-command-in-Read-1
+enum_known-command-in-Read-1 c = c.in-Read.in-Read-own.keys3
+
+pub enum_known-command-in-Write-1 : goal.enum_known-command-in-Write-1
+enum_known-command-in-Write-1 c = c.in-Write.in-Write-own.keys4
+
+pub enum_known-command-in-Rm-1 : goal.enum_known-command-in-Rm-1
+enum_known-command-in-Rm-1 c = c.in-Rm.in-Rm-own.keys5
+
+pub enum_known-command-in-Rmdir-1 : goal.enum_known-command-in-Rmdir-1
+enum_known-command-in-Rmdir-1 c = c.in-Rmdir.in-Rmdir-own.keys6
+
+pub enum_known-command-in-Mv-1 : goal.enum_known-command-in-Mv-1
+enum_known-command-in-Mv-1 c = c.in-Mv.in-Mv-own.keys7
+
+pub enum_known-command-in-Chmod-1 : goal.enum_known-command-in-Chmod-1
+enum_known-command-in-Chmod-1 c = c.in-Chmod.in-Chmod-own.keys8
+
+pub enum_known-command-in-Chgrp-1 : goal.enum_known-command-in-Chgrp-1
+enum_known-command-in-Chgrp-1 c = c.in-Chgrp.in-Chgrp-own.keys9
+
+pub enum_known-command-in-Chown-1 : goal.enum_known-command-in-Chown-1
+enum_known-command-in-Chown-1 c = c.in-Chown.in-Chown-own.keys10
+
+pub shape_of-tree-in-Create : goal.shape_of-tree-in-Create
+shape_of-tree-in-Create c = c.create.auto.tree
+
+pub shape_of-tree-in-Mkdir : goal.shape_of-tree-in-Mkdir
+shape_of-tree-in-Mkdir c = c.create-in-Mkdir.auto.tree
+
+pub shape_of-tree-in-Read : goal.shape_of-tree-in-Read
+shape_of-tree-in-Read c = refl
+
+pub shape_of-answer : goal.shape_of-answer
+shape_of-answer c = c.read.auto.answer
+
+pub shape_of-tree-in-Write : goal.shape_of-tree-in-Write
+shape_of-tree-in-Write c = c.write.auto.tree
+
+pub shape_of-tree-in-Rm : goal.shape_of-tree-in-Rm
+shape_of-tree-in-Rm c = c.rm.auto.tree
+
+pub shape_of-tree-in-Rmdir : goal.shape_of-tree-in-Rmdir
+shape_of-tree-in-Rmdir c = c.rm-in-Rmdir.auto.tree
+
+pub shape_of-tree-in-Mv : goal.shape_of-tree-in-Mv
+shape_of-tree-in-Mv c = c.mv.auto.tree
+
+pub shape_of-tree-in-Chmod : goal.shape_of-tree-in-Chmod
+shape_of-tree-in-Chmod c = c.chmod.auto.tree
+
+pub shape_of-tree-in-Chgrp : goal.shape_of-tree-in-Chgrp
+shape_of-tree-in-Chgrp c = c.chgrp.auto.tree
+
+pub shape_of-tree-in-Chown : goal.shape_of-tree-in-Chown
+shape_of-tree-in-Chown c = c.chown.auto.tree
