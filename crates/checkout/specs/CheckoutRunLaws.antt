@@ -1,5 +1,5 @@
 -- In a session, `co` of the store's machine is the steps by the session's account, and it keeps the sessions.
-use Rattle.std.specs.Prelude.{◌≡◌, refl}
+use Rattle.std.specs.Prelude.{◌≡◌}
 use Rattle.std.proofs.Common.{sym, ◌∙◌, ap}
 use Rattle.accounts.specs.declared.Account.{Account}
 use Rattle.accounts.specs.declared.Caller.{Caller}
@@ -7,11 +7,8 @@ use Rattle.accounts.specs.Dominance.{BoundedRole}
 use Rattle.accounts.specs.Service.{service}
 use Rattle.syntax.specs.Path.{Path, EntryPath, in_rep, entry_location, below_rep}
 use Rattle.setup.specs.Setup.{Setup}
-use Rattle.tree.specs.declared.Cause.TheVariants.{Access, Full, TooDeep}
 use Rattle.tree.specs.Result.{Result, done, ◌>>=◌, ◌>>◌, Outcome}
 use Rattle.tree.specs.ResultLaws.{done_bind, then_bind, bind_bind}
-use Rattle.tree.specs.Outcomes.{gives, Ensures}
-use Rattle.tree.specs.GivesLaws.{done_with, then_check, then_do}
 use Rattle.tree.specs.Forest.{Place}
 use Rattle.tree.specs.Node.{Node}
 use Rattle.store.specs.State.{Store}
