@@ -1,0 +1,42 @@
+-- `adding::entry_room` meets its contract: no room, 256 nodes, or the room.
+use mathlib.Core.Path.{sym, ◌∙◌, ap}
+use native.Mathlib.Omega.{arith}
+use Rattle.syntax.specs.Path.{entry_location}
+use Rattle.syntax.specs.PathLaws.{entry_reads}
+use Rattle.tree.specs.TreeBytesLaws.{encoded_count}
+use Rattle.gaps.specs.Gaps.{gap_from, gap_told}
+use Rattle.gaps.specs.GapsLaws.{told_not, room_to, room_not}
+use Rattle.adding.specs.AddSteps.{add_room}
+use Rattle.adding.specs.AddLaws.{add_stops, add_full, add_goes}
+use Rattle.adding.proofs.entry_room.Goals as goal
+
+pub room_for-requires : goal.room_for-requires
+room_for-requires c = record {
+  whole = c.requires.whole;
+  path_text = (entry_location c.requires.entry_path_text.0, entry_reads c.args.entry.now c.requires.entry_path_text.0 c.requires.entry_path_text.1);
+}
+
+pub returns-then-count-ge-MOST_ROWS : goal.returns-then-count-ge-MOST_ROWS
+returns-then-count-ge-MOST_ROWS c = let a = c.args in
+    λ t e tree read.
+    let p = entry_location e in
+    let told = c.room_for.ensures t p tree (entry_reads a.entry.now e read) in
+    let g = room_to tree a.account p told c.in-At.is in
+    told_not t p (add_room a.account t e)
+    (add_full a.account t e g.found (omega (arith, c.if-count-ge-MOST_ROWS.true, c.count.ensures, encoded_count tree)))
+
+pub returns-in-Refused : goal.returns-in-Refused
+returns-in-Refused c = let a = c.args in
+    λ t e tree read.
+    let p = entry_location e in
+    let told = c.room_for.ensures t p tree (entry_reads a.entry.now e read) in
+    told_not t p (add_room a.account t e) (add_stops a.account t e (room_not tree a.account p told c.in-Refused.is))
+
+pub returns-else-count-ge-MOST_ROWS : goal.returns-else-count-ge-MOST_ROWS
+returns-else-count-ge-MOST_ROWS c = let a = c.args in
+    λ t e tree read.
+    let p = entry_location e in
+    let told = c.room_for.ensures t p tree (entry_reads a.entry.now e read) in
+    let g = room_to tree a.account p told c.in-At.is in
+    let fits = add_goes a.account t e g.found (omega (arith, c.if-count-ge-MOST_ROWS.false, c.count.ensures, encoded_count tree)) in
+    sym (ap gap_told c.in-At.is) ∙ told ∙ ap (gap_from t p) (g.found ∙ sym fits)
