@@ -11,7 +11,7 @@ use Rattle.buffers.specs.Text.{Text}
 use Rattle.accounts.specs.declared.Caller.{Caller}
 use Rattle.accounts.specs.Dominance.{BoundedRole}
 use Rattle.accounts.specs.declared.Uid.{Uid}
-use Rattle.syntax.specs.Path.{Path, path}
+use Rattle.syntax.specs.Path.{Path}
 use Rattle.syntax.specs.PathLaws.{path_is_path}
 use Rattle.syntax.specs.ParentLaws.{text_of_path}
 use Rattle.setup.specs.Setup.{Setup}
