@@ -9,7 +9,7 @@ use Rattle.setup.specs.SetupLaws.{accepted_is_setup}
 use Rattle.tree.specs.declared.Cause.TheVariants.{Unsound, ShortAnswer}
 use Rattle.tree.specs.Causes.{number, wrong_setup}
 use Rattle.tree.specs.CausesLaws.{wrong_setup_is, unsound_number, number_not_0, only_unsound_is_18}
-use Rattle.tree.specs.Result.{Result, refused, done, ◌>>=◌, ◌>>◌, require, Outcome}
+use Rattle.tree.specs.Result.{Result, refused, done, ◌>>=◌, require, Outcome}
 use Rattle.tree.specs.ResultLaws.{done_bind, refused_bind, then_bind}
 use Rattle.shell.specs.Replies.{ok, reply, after, Told, told, answer_of, written}
 use Rattle.store.specs.State.{Store, state_of, well_formed}
@@ -19,7 +19,7 @@ use Rattle.store.specs.StoreBytes.{store_width, encode, decode}
 use Rattle.store.specs.StoreBytesLaws.{decode_encode}
 use Rattle.machine.specs.Machine.{Machine}
 use Rattle.machine.specs.StoreMachine.{store}
-use Rattle.machine.specs.Runs.{least_room, perform, step, runs, root's}
+use Rattle.machine.specs.Runs.{least_room, perform, step, runs}
 use Rattle.machine.specs.MachineAnswerLaws.{never_18}
 use Rattle.machine.specs.Observed.{without_root}
 use Rattle.machine.specs.MachineKeepingLaws.{step_keeps, runs_keep}

@@ -7,7 +7,7 @@ use Rattle.std.proofs.Math.ListN.{get_elem?}
 use Rattle.tree.specs.declared.Cause.{Cause}
 use Rattle.tree.specs.declared.Cause.TheVariants.{Missing, Unsound, ShortAnswer}
 use Rattle.tree.specs.CausesLaws.{missing_number, unsound_number, short_answer_number}
-use Rattle.tree.specs.Result.{Result, refused, ◌>>=◌, ◌>>◌, require, present, Outcome}
+use Rattle.tree.specs.Result.{Result, refused, ◌>>◌, require, present, Outcome}
 use Rattle.tree.specs.ResultLaws.{present_some, present_of, present_none, done_bind, refused_bind, done_then, refused_then, require_true, require_false, holds_bind, holds_then}
 use Rattle.tree.specs.Outcomes.{Ensures}
 use Rattle.tree.specs.GivesLaws.{then_check, then_do}
@@ -15,7 +15,6 @@ use Rattle.shell.specs.Replies.{reply, after, told, answer_of, written}
 use Rattle.store.specs.State.{State, well_formed}
 use Rattle.store.specs.StoreBytes.{encode, decode}
 use Rattle.store.specs.StoreBytesLaws.{decode_encode}
-use Rattle.machine.specs.StoreMachine.{store}
 use Rattle.machine.specs.Runs.{least_room}
 use Rattle.machine.specs.RunsLaws.{least_room_is}
 use Rattle.shell.specs.declared.Answer.TheVariants.{Refused}

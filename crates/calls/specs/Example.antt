@@ -6,7 +6,6 @@ use Rattle.std.specs.Prelude.{◌≡◌, refl, List, [], map}
 use Rattle.buffers.specs.Text.{Text}
 use Rattle.syntax.specs.Pieces.{bytes, pieces, newline, joined}
 use Rattle.setup.specs.Setup.{Setup, SetupAnswer, accepted, wrong_line, setup}
-use Rattle.shell.specs.Replies.{ok}
 use Rattle.store.specs.Initial.{initial_store}
 use Rattle.machine.specs.StoreMachine.{store}
 use Rattle.machine.specs.AbstractMachine.{abstract_runs, initial_abstract}
