@@ -1,5 +1,5 @@
 -- What the next line of the program's input is.
-use Rattle.std.specs.Prelude.{◌∷◌, Bool, cond, ℕ, ◌+◌, ltb, length, drop}
+use Rattle.std.specs.Prelude.{Bool, cond, ℕ, ◌+◌, ltb, length, drop}
 use Rattle.buffers.specs.Text.{Text}
 use Rattle.syntax.specs.Pieces.{newline, piece_length}
 use Rattle.agenda.specs.declared.NextLine.{NextLine}

@@ -14,8 +14,7 @@ use Rattle.buffers.specs.Cases.{contra}
 use Rattle.agenda.specs.declared.Place.{Place}
 use Rattle.agenda.specs.declared.Step.TheVariants.{On, Failed}
 use Rattle.agenda.specs.Agenda.{ReadFits, read_place, read_step}
-use Rattle.agenda.proofs.steps.read_step.Statement.{statement}
-use Rattle.agenda.proofs.steps.read_step.Tie as tie
+use Rattle.agenda.proofs.steps.read_step.Goals as goal
 
 -- the test `got < 0`, on the number that the machine reads back from got's bits
 counts : (z : ℤ) → lt_z z (pos 0) ≡ false → T (non_neg z)
@@ -36,27 +35,24 @@ unfolding read_step
 reads at (pos n) t = refl
 reads at (negsuc n) t = absurd t
 
-returns : tie.Need-returns
+pub returns-then-got-lt0 : goal.returns-then-got-lt0
+returns-then-got-lt0 c =
+    fails c.args.at (to_z w64 (of_z w64 c.args.got)) c.if-got-lt0.true ∙ ap (read_step c.args.at) (to_z-of_z c.ranges.got)
+
+pub overflow_cast-got : goal.overflow_cast-got
+overflow_cast-got c =
+    (counts (to_z w64 (of_z w64 c.args.got)) c.if-got-lt0.false, Fits-nat_abs {w = w64} {w' = w64} tt (sfits_to_z (Fits-of_z c.ranges.got)))
+
+pub after_read-requires : goal.after_read-requires
+after_read-requires c =
+    let z = to_z w64 (of_z w64 c.args.got) in
+    let h = subst (ReadFits c.args.at) (sym (to_z-of_z c.ranges.got)) c.requires.read_fits in
+    record {
+      from_le_to = c.requires.from_le_to;
+      got_bound = fitting c.args.at z (counts z c.if-got-lt0.false) h;
+    }
+
+pub returns : goal.returns
 returns c =
-    let s = c.before in
-    fails s.args.at (to_z w64 (of_z w64 s.args.got)) c.if1.true ∙ ap (read_step s.args.at) (to_z-of_z s.ranges.got)
-
-cast-after-read : tie.Need-overflow-cast-after-read
-cast-after-read c =
-    (counts (to_z w64 (of_z w64 c.before.args.got)) c.if1.false, Fits-nat_abs {w = w64} {w' = w64} tt (sfits_to_z (Fits-of_z c.before.ranges.got)))
-
-after-read-requires : tie.Need-after-read-requires
-after-read-requires c κs =
-    let s = c.before in
-    let z = to_z w64 (of_z w64 s.args.got) in
-    let h = subst (ReadFits s.args.at) (sym (to_z-of_z s.ranges.got)) s.requires.1 in
-    (s.requires.0, fitting s.args.at z (counts z c.if1.false) h)
-
-returns-2 : tie.Need-returns-2
-returns-2 c =
-    let s = c.before.before in
-    let z = to_z w64 (of_z w64 s.args.got) in
-    ap On c.after_read.ensures ∙ reads s.args.at z (counts z c.before.if1.false) ∙ ap (read_step s.args.at) (to_z-of_z s.ranges.got)
-
-pub read-step-spec : {M : Type 1} → statement M
-read-step-spec = tie.close (tie.spec returns cast-after-read after-read-requires returns-2)
+    let z = to_z w64 (of_z w64 c.args.got) in
+    ap On c.after_read.ensures ∙ reads c.args.at z (counts z c.if-got-lt0.false) ∙ ap (read_step c.args.at) (to_z-of_z c.ranges.got)
