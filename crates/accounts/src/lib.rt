@@ -1,4 +1,6 @@
 // Accounts, groups and roles: numbers that name separate things even when they are equal.
+#![tactic(auto)]
+
 ghost use Rattle.std.specs.Prelude.{◌≡◌, true, false, ◌<◌, ◌^◌};
 ghost use Rattle.accounts.specs.Groups.{member, no_groups, with_group};
 ghost use Rattle.accounts.specs.Access.{is_root, same_uid, grants, may};

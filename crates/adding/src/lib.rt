@@ -1,4 +1,6 @@
 // `add`: what stands at a path is filed as a new entry.
+#![tactic(auto)]
+
 ghost use Rattle.std.specs.Prelude.{◌≡◌, ◌≤◌, ◌<◌, length};
 ghost use Rattle.std.proofs.Math.Option.{some};
 ghost use Rattle.accounts.specs.Dominance.{BoundedRole};

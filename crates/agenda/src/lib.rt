@@ -1,5 +1,7 @@
 // What the program does next, by what it has read of its input and how far it is, and what it prints for each call.
 // `steps::next` keeps its path, since names that differ only in case, as `next` and `Next`, cannot stand in one module.
+#![tactic(auto)]
+
 mod asking;
 mod input;
 mod lines_ahead;

@@ -1,4 +1,6 @@
 // The arguments of commands: their kinds, and an argument of a kind read from a part of the line.
+#![tactic(auto)]
+
 mod readers;
 
 pub use readers::argument_at;

@@ -1,4 +1,6 @@
 // The shell commands that read or change one place of a tree: `read`, `write`, `chmod`, `chgrp`, `chown`; and the checks of `cd`.
+#![tactic(auto)]
+
 mod changes;
 mod checks;
 mod reading;

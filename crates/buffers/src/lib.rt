@@ -1,4 +1,6 @@
 // Bytes in a lent buffer: compared, read as numbers and padded texts, written, moved and cleared. Nothing here knows what they are for.
+#![tactic(auto)]
+
 mod fields;
 mod texts;
 mod writes;

@@ -1,1 +1,2 @@
 // The pattern repository's calls on a lent store: setup, command lines and the listing.
+#![tactic(auto)]

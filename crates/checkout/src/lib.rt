@@ -1,4 +1,6 @@
 // The repository command `co`: copies of an entry in a directory of the person's.
+#![tactic(auto)]
+
 mod command;
 mod decision;
 

@@ -1,4 +1,6 @@
 // Command lines: what they are, their parser, and the commands made of them.
+#![tactic(auto)]
+
 mod making;
 mod parser;
 mod parts;

@@ -1,4 +1,6 @@
 // Copies of what may be read, for `co`.
+#![tactic(auto)]
+
 mod copies;
 mod depths;
 

@@ -1,4 +1,6 @@
 // `commit` of a file or of a directory, on a store's bytes: the files below a directory are committed row by row.
+#![tactic(auto)]
+
 mod below;
 mod command;
 mod finding;

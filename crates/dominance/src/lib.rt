@@ -1,5 +1,7 @@
 // Dominance closed from role pairs: from a slice of them, and from the bytes that say them. Each pair in turn grows the
 // rows (`Dominance::with`), and `grown_rows_are` of `accounts` says that this is dominance by one pair more.
+#![tactic(auto)]
+
 ghost use Rattle.std.specs.Prelude.{◌≡◌, true, ◌++◌, ◌≤◌, ◌*◌, ◌-◌, length, replicate};
 ghost use Rattle.accounts.specs.Dominance.{all_fall};
 ghost use Rattle.accounts.specs.Closure.{rows_of};

@@ -1,4 +1,6 @@
 // Rows put into and taken out of a tree that lies as rows in preorder in a lent buffer of 59,394 bytes; docs/FORMAT.md has the layout.
+#![tactic(auto)]
+
 mod rows;
 
 use accounts::{Gid, Uid};

@@ -1,4 +1,6 @@
 // The repository commands on entries.
+#![tactic(auto)]
+
 mod filing;
 mod removal;
 mod tagged;

@@ -1,4 +1,6 @@
 // The commands on entries, in a session, on a store's bytes.
+#![tactic(auto)]
+
 mod command;
 mod lent;
 

@@ -1,5 +1,7 @@
 // The three library calls for C and Rust: a slice passes as a pointer and a length, an answer, since an enum does not pass
 // to C, as its number and a value through a lent number. include/patterns.h declares them.
+#![tactic(auto)]
+
 ghost use Rattle.std.specs.Prelude.{◌≡◌};
 ghost use Rattle.shell.specs.Replies.{told};
 ghost use Rattle.calls.specs.Calls.{setup_call, run_call, listing_call};

@@ -1,4 +1,6 @@
 // Where a new child of a directory stands.
+#![tactic(auto)]
+
 mod gap;
 mod group;
 

@@ -1,5 +1,7 @@
 // What the store's header tells: who calls, the sessions, the working directories, whether a login is granted, and which roles
 // dominate which.
+#![tactic(auto)]
+
 mod callers;
 mod directories;
 mod grants;

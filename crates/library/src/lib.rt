@@ -1,4 +1,6 @@
 // The library calls on a lent store: setup, command lines and the listing.
+#![tactic(auto)]
+
 mod lists;
 mod runs;
 mod sets;

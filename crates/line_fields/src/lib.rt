@@ -1,5 +1,7 @@
 // The fields of a line, parted by commas. A reader holds the line and its place; callers use the two functions with plain
 // parameters above it.
+#![tactic(auto)]
+
 mod parts;
 mod reader;
 

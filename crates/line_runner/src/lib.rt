@@ -1,5 +1,7 @@
 // A typed command of a known caller carried out on a store's bytes: without short paths from its line, and with them from a second
 // text, in which the working directory stands in front.
+#![tactic(auto)]
+
 ghost use Rattle.std.specs.Prelude.{◌≤◌, ◌<◌, length};
 ghost use Rattle.stored_header.specs.Stored.{SomeStore};
 ghost use Rattle.line_runner.specs.LineDone.{SomeWhole, SomeTyped, WholeDone, LineDone};

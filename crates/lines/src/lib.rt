@@ -1,4 +1,6 @@
 // One line of the setup text, read into a small value.
+#![tactic(auto)]
+
 mod line;
 
 use accounts::{Gid, Role, Uid};

@@ -1,1 +1,2 @@
 // The store and the abstract machine, and what holds of both.
+#![tactic(auto)]

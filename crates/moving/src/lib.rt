@@ -1,4 +1,6 @@
 // A place of a tree moved with all below it.
+#![tactic(auto)]
+
 mod relabel;
 mod subtree;
 

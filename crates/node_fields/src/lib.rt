@@ -1,4 +1,6 @@
 // The fields of a node written into its row.
+#![tactic(auto)]
+
 mod fields;
 
 pub use fields::{

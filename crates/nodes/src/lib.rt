@@ -1,4 +1,6 @@
 // The shell commands that make, remove and move nodes.
+#![tactic(auto)]
+
 mod making;
 mod moves;
 mod paths;

@@ -1,5 +1,7 @@
 // The program: reads its input into a window, makes the library's calls, and prints what is printed for them. What it does next, what is
 // printed, and what a read or a print comes to, `agenda` decides.
+#![tactic(auto)]
+
 mod usage;
 
 ghost use Rattle.std.specs.Prelude.{◌≡◌, false, ◌≤◌, ◌<◌, suc, length, take};

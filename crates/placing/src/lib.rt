@@ -1,4 +1,6 @@
 // The copies of an entry, put in at a site that the first checks of `co` have found.
+#![tactic(auto)]
+
 mod placement;
 
 pub use placement::place_copies;

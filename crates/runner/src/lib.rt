@@ -1,4 +1,6 @@
 // A parsed command carried out on a store's bytes.
+#![tactic(auto)]
+
 mod sessions_part;
 mod store_part;
 

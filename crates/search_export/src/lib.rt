@@ -1,5 +1,7 @@
 // The search for a child as a call, for the tests to link: they hold its steps to a count of their own. It is no call of the
 // library, and no header declares it.
+#![tactic(auto)]
+
 ghost use Rattle.std.specs.Prelude.{◌≡◌};
 ghost use Rattle.search_export.specs.SearchCall.{is_used, number_told, place_told, search_call};
 

@@ -1,1 +1,2 @@
 // The text of a setup and what it means.
+#![tactic(auto)]

@@ -1,5 +1,7 @@
 // A setup text made the store that it says, line by line. It is read into the header of that store, a lent buffer whose
 // bytes are canonical: so every byte is said after each line, while a struct that holds the setup would be copied at each.
+#![tactic(auto)]
+
 mod directories;
 mod header_values;
 mod line;

@@ -1,4 +1,6 @@
 // The shell commands on a file tree.
+#![tactic(auto)]
+
 use tree::Cause;
 
 // What a call answers. It stands in this crate, the lowest with commands, with what it tells and what is replied

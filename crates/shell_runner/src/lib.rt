@@ -1,4 +1,6 @@
 // A parsed command of the shell carried out on a tree's bytes.
+#![tactic(auto)]
+
 ghost use Rattle.std.specs.Prelude.{◌≤◌, length};
 ghost use Rattle.tree.specs.TreeBytes.{Whole};
 ghost use Rattle.commands.specs.Meaning.{SomeShellCommand};

@@ -1,4 +1,6 @@
 // Whether a lent buffer holds a sound store: a header, and behind it a tree.
+#![tactic(auto)]
+
 ghost use Rattle.std.specs.Prelude.{◌≡◌};
 ghost use Rattle.syntax.specs.Form.{is_some};
 ghost use Rattle.store.specs.HeaderLayout.{WideHeader};

@@ -1,4 +1,6 @@
 // Whether a lent buffer holds a well-formed tree; docs/FORMAT.md has the layout.
+#![tactic(auto)]
+
 ghost use Rattle.std.specs.Prelude.{◌≡◌};
 ghost use Rattle.syntax.specs.Form.{is_some};
 ghost use Rattle.tree.specs.Encoding.{decode_tree};

@@ -1,4 +1,6 @@
 // The store: setup, registry and tree as bytes, and the initial tree.
+#![tactic(auto)]
+
 mod initial;
 mod layout;
 

@@ -1,4 +1,6 @@
 // Who calls, the sessions, the working directories and the roles, on a store's bytes: its header is lent.
+#![tactic(auto)]
+
 ghost use Rattle.std.specs.Prelude.{◌<◌};
 ghost use Rattle.syntax.specs.Parts.{Inside, span_text};
 ghost use Rattle.commands.specs.Meaning.{SomeAccountCommand};

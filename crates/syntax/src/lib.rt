@@ -1,5 +1,7 @@
 // The parts of command lines and of the setup text: fields, numbers, names and paths. Readers over a lent slice, answers by
 // value, no copying; and numbers written as texts.
+#![tactic(auto)]
+
 mod numerals;
 mod parts;
 mod paths;

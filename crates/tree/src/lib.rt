@@ -1,4 +1,6 @@
 // The file tree as rows in preorder in a lent buffer of 58,114 bytes; docs/FORMAT.md has the layout.
+#![tactic(auto)]
+
 mod children;
 mod kinds;
 mod layout;

@@ -1,4 +1,6 @@
 // What is read at the rows of a tree: the access test, what lies below, and the walks along a path.
+#![tactic(auto)]
+
 mod access;
 mod along;
 mod below;

@@ -1,5 +1,7 @@
 // Short paths made whole: a typed command's arguments stand once more in a second text, where the working directory is in front of each
 // short path.
+#![tactic(auto)]
+
 mod kinds;
 mod making;
 mod writing;
