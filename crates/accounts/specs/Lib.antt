@@ -4,6 +4,5 @@ pub mod Caller
 pub mod Dominance
 pub mod Service
 pub mod Closure
-pub mod ClosureLaws
 pub mod PairBytes
 pub mod Compute

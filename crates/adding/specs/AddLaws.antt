@@ -13,15 +13,15 @@ use Rattle.setup.specs.Setup.{Setup}
 use Rattle.tree.specs.declared.Cause.{Cause}
 use Rattle.tree.specs.declared.Cause.TheVariants.{Full}
 use Rattle.tree.specs.Result.{Result, refused, done, Outcome}
-use Rattle.tree.specs.ResultLaws.{bind_done, refused_before, done_then, refused_then, done_bind, refused_bind, require_true, require_false, then_then, then_bind, bind_bind}
+use Rattle.tree.proofs.ResultLaws.{bind_done, refused_before, done_then, refused_then, done_bind, refused_bind, require_true, require_false, then_then, then_bind, bind_bind}
 use Rattle.tree.specs.Outcomes.{gives, Ensures}
-use Rattle.tree.specs.GivesLaws.{done_with, then_check, then_do}
+use Rattle.tree.proofs.GivesLaws.{done_with, then_check, then_do}
 use Rattle.tree.specs.Forest.{Place}
 use Rattle.tree.specs.Node.{Node}
 use Rattle.tree.specs.Walk.{by_modes, room}
-use Rattle.tree.specs.JudgeLaws.{room_by_modes, writable_by_modes}
+use Rattle.tree.proofs.JudgeLaws.{room_by_modes, writable_by_modes}
 use Rattle.tree.specs.WellFormed.{nodes}
-use Rattle.tree.specs.WellFormedLaws.{most_nodes_is}
+use Rattle.tree.proofs.WellFormedLaws.{most_nodes_is}
 use Rattle.tree.specs.TreeBytes.{Encodes, At}
 use Rattle.gaps.specs.declared.Room.{Room}
 use Rattle.gaps.specs.declared.Room.TheVariants

@@ -17,39 +17,39 @@ use Rattle.buffers.specs.PasteLaws.{paste_piece, paste_whole}
 use Rattle.accounts.specs.declared.Role.{Role}
 use Rattle.accounts.specs.Dominance.{BoundedRole}
 use Rattle.syntax.specs.Path.{Name, Path, parent, last, depth, in_rep, entry_location, is_entry_path}
-use Rattle.syntax.specs.PathLaws.{entry_is_entry, entry_text_fits, entry_parts}
-use Rattle.syntax.specs.ParentLaws.{text_of_entry}
-use Rattle.syntax.specs.FormLaws.{answered}
+use Rattle.syntax.proofs.PathLaws.{entry_is_entry, entry_text_fits, entry_parts}
+use Rattle.syntax.proofs.ParentLaws.{text_of_entry}
+use Rattle.syntax.proofs.FormLaws.{answered}
 use Rattle.tree.specs.Layout.{row_width, row_start, name_width, tag_offset, tag_width, content_width, head_width, name_offset, behind_name_width, content_offset, base_width}
 use Rattle.tree.specs.Forest.{Place, leaf, place_at, size}
-use Rattle.tree.specs.PlaceLaws.{leaf_here, leaf_size}
+use Rattle.tree.proofs.PlaceLaws.{leaf_here, leaf_size}
 use Rattle.tree.specs.Node.{Tag, Node, set_tag}
-use Rattle.tree.specs.NodeLaws.{node_ranges, node_of_tag, kind_of_set_tag, last_revision_is}
+use Rattle.tree.proofs.NodeLaws.{node_ranges, node_of_tag, kind_of_set_tag, last_revision_is}
 use Rattle.tree.specs.Walk.{by_modes}
 use Rattle.tree.specs.WellFormed.{last_revision, nodes, is_node}
-use Rattle.tree.specs.WellFormedLaws.{leaf_place}
-use Rattle.tree.specs.UpdateLaws.{place_at_root, place_at_child, leaf_height}
-use Rattle.tree.specs.ChangeLaws.{keep_put}
-use Rattle.tree.specs.OtherPathLaws.{put_stands}
-use Rattle.tree.specs.AlterLaws.{nodes_bare, lesser_bare, unused_bare, AlteredPlace, altered_at, put_altered}
+use Rattle.tree.proofs.WellFormedLaws.{leaf_place}
+use Rattle.tree.proofs.UpdateLaws.{place_at_root, place_at_child, leaf_height}
+use Rattle.tree.proofs.ChangeLaws.{keep_put}
+use Rattle.tree.proofs.OtherPathLaws.{put_stands}
+use Rattle.tree.proofs.AlterLaws.{nodes_bare, lesser_bare, unused_bare, AlteredPlace, altered_at, put_altered}
 use Rattle.tree.specs.Rows.{Row}
 use Rattle.tree.specs.RowPlaces.{place_rows, lesser}
 use Rattle.tree.specs.Encoding.{tag_bytes, row_bytes, encode_tree, row_head, row_spare}
-use Rattle.tree.specs.RowBytesLaws.{row_parts, before_content}
-use Rattle.tree.specs.EncodingLaws.{length_fitting}
+use Rattle.tree.proofs.RowBytesLaws.{row_parts, before_content}
+use Rattle.tree.proofs.EncodingLaws.{length_fitting}
 use Rattle.tree.specs.RowAt.{row_count, row_at}
 use Rattle.tree.specs.TreeBytes.{Insertable, At}
-use Rattle.tree.specs.TreeBytesLaws.{encodes, encoded_count, encoded_fits, at_index, at_root, at_used, at_row, at_here}
+use Rattle.tree.proofs.TreeBytesLaws.{encodes, encoded_count, encoded_fits, at_index, at_root, at_used, at_row, at_here}
 use Rattle.edits.specs.declared.Fresh.{Fresh}
 use Rattle.edits.specs.Changes.{rows_put, field_put, tag_field, fresh_row, head_bytes}
 use Rattle.edits.specs.WrittenLaws.{length_fresh, row_written, fresh_node_is}
 use Rattle.edits.specs.EditLaws.{spot_bound, put_law, place_law}
 use Rattle.node_fields.specs.FieldEditLaws.{tag_law}
-use Rattle.copying.specs.CopyRowLaws.{row_held}
-use Rattle.copying.specs.CopyBytesLaws.{bytes_copied}
+use Rattle.copying.proofs.CopyRowLaws.{row_held}
+use Rattle.copying.proofs.CopyBytesLaws.{bytes_copied}
 use Rattle.machine.specs.Working.{tagged}
 use Rattle.machine.specs.StoreMachine.{entry_node}
-use Rattle.machine.specs.EntryRangeLaws.{entry_fits}
+use Rattle.machine.proofs.EntryRangeLaws.{entry_fits}
 use Rattle.entries.specs.LinkLaws.{at_node}
 use Rattle.adding.specs.AddSteps.{after_add, fresh_entry, filled_node, Addition}
 

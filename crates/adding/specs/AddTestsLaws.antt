@@ -3,7 +3,7 @@ use Rattle.std.specs.Prelude.{◌≡◌, Bool, true, false}
 use Rattle.accounts.specs.declared.Account.{Account}
 use Rattle.tree.specs.declared.Cause.TheVariants.{Access, Reserved}
 use Rattle.tree.specs.Result.{refused, done}
-use Rattle.tree.specs.ResultLaws.{done_then, refused_then, require_true, require_false}
+use Rattle.tree.proofs.ResultLaws.{done_then, refused_then, require_true, require_false}
 use Rattle.tree.specs.Node.{Node, owns}
 use Rattle.tree.specs.Walk.{by_modes}
 use Rattle.entries.specs.EntrySteps.{passing}

@@ -1,11 +1,4 @@
 pub mod InputLines
-pub mod InputLinesLaws
-pub mod LongLineLaws
 pub mod Agenda
-pub mod AgendaLaws
-pub mod StepLaws
 pub mod Conversation
 pub mod Due
-pub mod ReadingOnLaws
-pub mod LinesDueLaws
-pub mod ConversationLaws

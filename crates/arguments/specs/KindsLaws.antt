@@ -10,9 +10,9 @@ use Rattle.syntax.specs.Form.{◌>>=◌, ◌>>◌, check, is_some}
 use Rattle.syntax.specs.Path.{TypedPath, is_name, typed_path, entry_path}
 use Rattle.syntax.specs.Field.{uid, gid, bounded_by, bounded, role, plain_mode, password, is_content, content}
 use Rattle.syntax.specs.Parts.{span_text}
-use Rattle.syntax.specs.FormLaws.{no_answer, is_none, then_none, the_some}
-use Rattle.syntax.specs.FieldLaws.{between_gives, read_byte}
-use Rattle.syntax.specs.PartsLaws.{inside_text}
+use Rattle.syntax.proofs.FormLaws.{no_answer, is_none, then_none, the_some}
+use Rattle.syntax.proofs.FieldLaws.{between_gives, read_byte}
+use Rattle.syntax.proofs.PartsLaws.{inside_text}
 use Rattle.arguments.specs.declared.ArgumentKind.{ArgumentKind}
 use Rattle.arguments.specs.declared.ArgumentKind.TheVariants as a
 use Rattle.arguments.specs.Kinds.{reader, Makes, arguments_of, zero_if, number_in, read_in, Argument, ArgumentRead, value, values_of}

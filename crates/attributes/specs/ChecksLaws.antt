@@ -23,17 +23,17 @@ use Rattle.tree.specs.declared.Kind.TheVariants.{File, Directory}
 use Rattle.tree.specs.declared.Cause.{Cause}
 use Rattle.tree.specs.declared.Cause.TheVariants.{Access, WrongKind, Reserved}
 use Rattle.tree.specs.Result.{Result, refused, done, ◌>>=◌, ◌>>◌, require, Outcome}
-use Rattle.tree.specs.ResultLaws.{bind_done, then_done, done_then, refused_then, done_bind, refused_bind}
-use Rattle.tree.specs.ResultLaws.{require_true, require_false, then_then, then_bind, bind_bind}
+use Rattle.tree.proofs.ResultLaws.{bind_done, then_done, done_then, refused_then, done_bind, refused_bind}
+use Rattle.tree.proofs.ResultLaws.{require_true, require_false, then_then, then_bind, bind_bind}
 use Rattle.tree.specs.Forest.{Place, place_at, update, alter}
 use Rattle.tree.specs.Node.{is_directory, Node, allows, owns, set_owner, set_group, set_mode, set_content}
-use Rattle.tree.specs.JudgeLaws.{file_is_none, directory_is_one}
+use Rattle.tree.proofs.JudgeLaws.{file_is_none, directory_is_one}
 use Rattle.tree.specs.Walk.{by_modes, walk}
-use Rattle.tree.specs.UpdateLaws.{walked_at}
+use Rattle.tree.proofs.UpdateLaws.{walked_at}
 use Rattle.tree.specs.Encoding.{encode_tree}
 use Rattle.tree.specs.RowAt.{row_at, all_rows}
 use Rattle.tree.specs.TreeBytes.{HasRow, Used, Encodes, Whole, PathText, Whichever, At}
-use Rattle.tree.specs.TreeBytesLaws.{used_row, at_here, at_used}
+use Rattle.tree.proofs.TreeBytesLaws.{used_row, at_here, at_used}
 use Rattle.walks.specs.declared.Walked.{Walked}
 use Rattle.walks.specs.declared.Walked.TheVariants.{To, Refused}
 use Rattle.walks.specs.RowBelow.{child_text_in}
@@ -46,7 +46,7 @@ use Rattle.walks.specs.WalkBytesLaws.{came_to, came_not, walk_to, walk_not, came
 use Rattle.shell.specs.declared.Answer.TheVariants
 use Rattle.shell.specs.Steps.{text_of, run_read, run_write, run_chmod, run_chgrp, run_chown}
 use Rattle.shell.specs.CommandBytes.{Follows, FollowsSilently}
-use Rattle.shell.specs.CommandBytesLaws.{refusal_follows, silence_follows, text_follows}
+use Rattle.shell.proofs.CommandBytesLaws.{refusal_follows, silence_follows, text_follows}
 use Rattle.attributes.specs.declared.Deed.{Deed}
 use Rattle.attributes.specs.declared.Deed.TheVariants.{Read, Write, Chmod, Chgrp, Chown, Enter}
 use Rattle.attributes.specs.Checks.{two_tests, may_give, tests, may_do, passed, may_do_at, row_text}

@@ -1,17 +1,7 @@
 pub mod Transcript
 pub mod Calls
-pub mod CallsLaws
-pub mod CallBoundsLaws
 pub mod CallLists
-pub mod CallListsLaws
 pub mod Program
-pub mod ProgramLaws
 pub mod ProgramByLines
-pub mod ProgramByLinesLaws
 pub mod CommitLines
-pub mod CommitLinesLaws
-pub mod CallTheorems
 pub mod Compute
-pub mod CallCases
-pub mod CommitLinesCases
-pub mod Example

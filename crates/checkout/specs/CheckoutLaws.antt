@@ -9,18 +9,18 @@ use Rattle.std.proofs.Math.Option.{some}
 use Rattle.buffers.specs.Text.{Text}
 use Rattle.accounts.specs.declared.Account.{Account}
 use Rattle.syntax.specs.Path.{Path, EntryPath, path, entry_path, entry_location}
-use Rattle.syntax.specs.PathLaws.{entry_reads}
+use Rattle.syntax.proofs.PathLaws.{entry_reads}
 use Rattle.tree.specs.declared.Cause.{Cause}
 use Rattle.tree.specs.declared.Cause.TheVariants.{Access}
 use Rattle.tree.specs.Result.{refused, done, ◌>>◌, require}
-use Rattle.tree.specs.ResultLaws.{bind_done, then_done, done_then, refused_then, done_bind, refused_bind, require_true, require_false}
+use Rattle.tree.proofs.ResultLaws.{bind_done, then_done, done_then, refused_then, done_bind, refused_bind, require_true, require_false}
 use Rattle.tree.specs.Forest.{Place, place_at}
 use Rattle.tree.specs.Node.{Node}
 use Rattle.tree.specs.Walk.{by_modes, walk, room}
-use Rattle.tree.specs.UpdateLaws.{walked_at}
+use Rattle.tree.proofs.UpdateLaws.{walked_at}
 use Rattle.tree.specs.RowAt.{row_at, all_rows}
 use Rattle.tree.specs.TreeBytes.{HasRow, Encodes}
-use Rattle.tree.specs.TreeBytesLaws.{used_row, at_used, at_here}
+use Rattle.tree.proofs.TreeBytesLaws.{used_row, at_used, at_here}
 use Rattle.walks.specs.declared.Walked.{Walked}
 use Rattle.walks.specs.declared.Walked.TheVariants as Walks
 use Rattle.walks.specs.RowWalk.{walk_in, outcome}

@@ -8,7 +8,7 @@ use Rattle.accounts.specs.Service.{service}
 use Rattle.syntax.specs.Path.{Path, EntryPath, in_rep, entry_location, below_rep}
 use Rattle.setup.specs.Setup.{Setup}
 use Rattle.tree.specs.Result.{Result, done, ◌>>=◌, ◌>>◌, Outcome}
-use Rattle.tree.specs.ResultLaws.{done_bind, then_bind, bind_bind}
+use Rattle.tree.proofs.ResultLaws.{done_bind, then_bind, bind_bind}
 use Rattle.tree.specs.Forest.{Place}
 use Rattle.tree.specs.Node.{Node}
 use Rattle.store.specs.State.{Store}

@@ -4,7 +4,7 @@ use Rattle.std.proofs.Math.Option.{some}
 use Rattle.buffers.specs.Text.{Text}
 use Rattle.syntax.specs.Pieces.{comma, pieces}
 use Rattle.syntax.specs.Form.{◌>>=◌, by_form}
-use Rattle.syntax.specs.FormLaws.{no_answer, both_read, answered, both, AnswersPass, any_gives, FormsGive, no_form, ◌also◌, by_form_gives}
+use Rattle.syntax.proofs.FormLaws.{no_answer, both_read, answered, both, AnswersPass, any_gives, FormsGive, no_form, ◌also◌, by_form_gives}
 use Rattle.syntax.specs.Field.{uid, role, is_content}
 use Rattle.syntax.specs.Number.{is_mode}
 use Rattle.syntax.specs.Path.{TypedPath, is_name, is_typed_path, is_entry_path, typed_path}
@@ -14,9 +14,9 @@ use Rattle.commands.specs.declared.Word.{Word}
 use Rattle.commands.specs.declared.Word.TheVariants.{Create, Mkdir, Read, Write, Rm, Rmdir, Mv, Chmod, Chgrp, Chown, Login, Logout, Cd, Add, Co, Commit, Up, Del}
 use Rattle.arguments.specs.declared.ArgumentKind.TheVariants as a
 use Rattle.commands.specs.Command.{TypedCommand, Line, takes, listed, words, form, forms, line_of, line, is_shell_form, is_account_form, is_entry_form, is_typed_command, is_line}
-use Rattle.syntax.specs.PathLaws.{entry_is_entry}
-use Rattle.syntax.specs.FollowsLaws.{typed_is_typed}
-use Rattle.syntax.specs.FieldLaws.{uid_gives, gid_gives, mode_gives, plain_mode_gives, password_gives, content_gives}
+use Rattle.syntax.proofs.PathLaws.{entry_is_entry}
+use Rattle.syntax.proofs.FollowsLaws.{typed_is_typed}
+use Rattle.syntax.proofs.FieldLaws.{uid_gives, gid_gives, mode_gives, plain_mode_gives, password_gives, content_gives}
 
 -- what the readers of a kind answer is in range
 in_range : (k : ArgumentKind) → Value TypedPath k → Bool

@@ -8,11 +8,11 @@ use Rattle.accounts.specs.declared.Uid.{Uid}
 use Rattle.accounts.specs.declared.Role.{Role}
 use Rattle.accounts.specs.Dominance.{BoundedRole}
 use Rattle.syntax.specs.declared.Span.{Span}
-use Rattle.syntax.specs.FormLaws.{no_answer, both_read, answered}
+use Rattle.syntax.proofs.FormLaws.{no_answer, both_read, answered}
 use Rattle.syntax.specs.Path.{Path, EntryPath, path, entry_path}
 use Rattle.syntax.specs.Field.{bounded_by, bounded}
 use Rattle.syntax.specs.Parts.{span_text, text_in}
-use Rattle.syntax.specs.PartsLaws.{text_inside}
+use Rattle.syntax.proofs.PartsLaws.{text_inside}
 use Rattle.arguments.specs.Kinds.{read_in}
 use Rattle.commands.specs.declared.Command.{Command as Parts}
 use Rattle.commands.specs.declared.Command.TheVariants.{Shell, Account, Entry}

@@ -26,10 +26,10 @@ use Rattle.commands.specs.declared.Parsed.{Parsed}
 use Rattle.commands.specs.declared.Parsed.TheVariants.{Line as IsLine, NoForm}
 use Rattle.syntax.specs.Number.{between}
 use Rattle.syntax.specs.Form.{◌>>=◌, is_some, by_form}
-use Rattle.syntax.specs.FormLaws.{is_none, then_none, the_some}
+use Rattle.syntax.proofs.FormLaws.{is_none, then_none, the_some}
 use Rattle.syntax.specs.Path.{Path, TypedPath, path, typed_path}
 use Rattle.syntax.specs.Field.{uid}
-use Rattle.syntax.specs.FieldLaws.{read_byte}
+use Rattle.syntax.proofs.FieldLaws.{read_byte}
 use Rattle.commands.specs.Command.{TypedCommand, listed, forms, line_of, line}
 use Rattle.syntax.specs.Parts.{span_text}
 use Rattle.commands.specs.Words.{shape_of}

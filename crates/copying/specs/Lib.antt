@@ -1,10 +1,3 @@
 pub mod Copying
-pub mod CopyLaws
 pub mod CopyRows
-pub mod CopyRowLaws
-pub mod CopyBytesLaws
-pub mod RowsWrittenLaws
-pub mod DepthLaws
-pub mod CopyJobLaws
-pub mod CopyEntryLaws
 pub mod Compute

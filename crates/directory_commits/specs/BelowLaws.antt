@@ -20,32 +20,32 @@ use Rattle.setup.specs.Setup.{Setup}
 use Rattle.tree.specs.declared.Cause.{Cause}
 use Rattle.tree.specs.declared.Cause.TheVariants.{WrongKind}
 use Rattle.tree.specs.Result.{Result, refused, done, Outcome}
-use Rattle.tree.specs.ResultLaws.{not_done, by_result, bind_done, refused_before, done_bind, refused_bind, refused_then, require_false}
-use Rattle.tree.specs.GivesLaws.{done_with}
+use Rattle.tree.proofs.ResultLaws.{not_done, by_result, bind_done, refused_before, done_bind, refused_bind, refused_then, require_false}
+use Rattle.tree.proofs.GivesLaws.{done_with}
 use Rattle.tree.specs.Forest.{Place, size}
 use Rattle.tree.specs.Node.{Node, is_directory}
 use Rattle.tree.specs.Walk.{Judge, by_modes, walk}
-use Rattle.tree.specs.PlaceLaws.{empty_size}
-use Rattle.tree.specs.UpdateLaws.{walked_at}
-use Rattle.tree.specs.WellFormedLaws.{place_parts, walked_place}
-use Rattle.tree.specs.JudgeLaws.{kind_by_modes}
+use Rattle.tree.proofs.PlaceLaws.{empty_size}
+use Rattle.tree.proofs.UpdateLaws.{walked_at}
+use Rattle.tree.proofs.WellFormedLaws.{place_parts, walked_place}
+use Rattle.tree.proofs.JudgeLaws.{kind_by_modes}
 use Rattle.tree.specs.RowPlaces.{index_of}
 use Rattle.tree.specs.Files.{files_below}
 use Rattle.tree.specs.FileRows.{Met, FilesFrom, no_more, a_file, into, past}
-use Rattle.tree.specs.FilesLaws.{files_from_place}
+use Rattle.tree.proofs.FilesLaws.{files_from_place}
 use Rattle.tree.specs.Outline.{outlines}
-use Rattle.tree.specs.OutlineLaws.{same_walk, same_index, same_size, same_kind_of, same_readable}
+use Rattle.tree.proofs.OutlineLaws.{same_walk, same_index, same_size, same_kind_of, same_readable}
 use Rattle.shell.specs.CommandBytes.{bytes_after}
 use Rattle.store.specs.State.{Store, State, state_of, well_formed}
-use Rattle.store.specs.StateLaws.{parts}
+use Rattle.store.proofs.StateLaws.{parts}
 use Rattle.machine.specs.Working.{Commits, then_commits, commit_each}
 use Rattle.machine.specs.Machine.{session, commit_found, commit_file}
 use Rattle.machine.specs.StoreMachine.{store}
 use Rattle.machine.specs.Acting.{Acting, on_tree_steps}
-use Rattle.machine.specs.ActingLaws.{file_registry}
-use Rattle.machine.specs.DirectoryCommitLaws.{commits_below, file_found}
-use Rattle.machine.specs.MachineKeepingLaws.{file_keeps}
-use Rattle.machine.specs.SingleCommitsLaws.{file_outlines}
+use Rattle.machine.proofs.ActingLaws.{file_registry}
+use Rattle.machine.proofs.DirectoryCommitLaws.{commits_below, file_found}
+use Rattle.machine.proofs.MachineKeepingLaws.{file_keeps}
+use Rattle.machine.proofs.SingleCommitsLaws.{file_outlines}
 use Rattle.stored_header.specs.Stored.{bytes_with}
 use Rattle.stored_header.specs.StoredLaws.{stored_bytes, stored_formed, formed_stored}
 use Rattle.entries.specs.declared.Links.{Links}

@@ -18,32 +18,32 @@ use Rattle.buffers.specs.OverLaws.{over_front}
 use Rattle.accounts.specs.declared.Account.{Account}
 use Rattle.accounts.specs.declared.Caller.{Caller}
 use Rattle.syntax.specs.Number.{decimal_text}
-use Rattle.syntax.specs.NumberLaws.{decimal_length}
+use Rattle.syntax.proofs.NumberLaws.{decimal_length}
 use Rattle.syntax.specs.Path.{Path}
 use Rattle.tree.specs.declared.Cause.{Cause}
 use Rattle.tree.specs.declared.Cause.TheVariants.{Access}
 use Rattle.tree.specs.Result.{Result, refused, done, Outcome}
-use Rattle.tree.specs.ResultLaws.{by_result, bind_done, done_bind, refused_bind, done_then, refused_then, require_true, require_false}
-use Rattle.tree.specs.GivesLaws.{done_with}
+use Rattle.tree.proofs.ResultLaws.{by_result, bind_done, done_bind, refused_bind, done_then, refused_then, require_true, require_false}
+use Rattle.tree.proofs.GivesLaws.{done_with}
 use Rattle.tree.specs.Forest.{Place}
 use Rattle.tree.specs.Node.{Node, is_directory}
 use Rattle.tree.specs.Walk.{by_modes, walk}
 use Rattle.tree.specs.RowPlaces.{index_of}
-use Rattle.tree.specs.SizeLaws.{tree_place}
-use Rattle.tree.specs.UpdateLaws.{walked_at}
+use Rattle.tree.proofs.SizeLaws.{tree_place}
+use Rattle.tree.proofs.UpdateLaws.{walked_at}
 use Rattle.tree.specs.Files.{files_below}
-use Rattle.tree.specs.FilesLaws.{files_count}
+use Rattle.tree.proofs.FilesLaws.{files_count}
 use Rattle.shell.specs.declared.Answer.{Answer}
 use Rattle.shell.specs.declared.Answer.TheVariants
 use Rattle.shell.specs.Replies.{reply, answer_of, written}
 use Rattle.shell.specs.CommandBytes.{bytes_after, Carries, CarriesSilently}
-use Rattle.shell.specs.CommandBytesLaws.{refusal_follows}
+use Rattle.shell.proofs.CommandBytesLaws.{refusal_follows}
 use Rattle.store.specs.State.{Store, state_of}
 use Rattle.machine.specs.Machine.{commit_found, commit_file, commit_directory, run_commit}
 use Rattle.machine.specs.StoreMachine.{store}
 use Rattle.machine.specs.Acting.{Acting, on_tree_steps}
-use Rattle.machine.specs.ActingLaws.{file_registry}
-use Rattle.machine.specs.DirectoryCommitLaws.{each_counts, of_directory, file_found}
+use Rattle.machine.proofs.ActingLaws.{file_registry}
+use Rattle.machine.proofs.DirectoryCommitLaws.{each_counts, of_directory, file_found}
 use Rattle.stored_header.specs.Stored.{Stored, bytes_with}
 use Rattle.entries.specs.declared.Links.{Links}
 use Rattle.entries.specs.declared.Links.TheVariants.{To, Refused}

@@ -11,18 +11,18 @@ use Rattle.tree.specs.declared.Cause.{Cause}
 use Rattle.tree.specs.declared.Cause.TheVariants.{Access}
 use Rattle.tree.specs.declared.Kind.TheVariants
 use Rattle.tree.specs.Result.{Result, refused, done, Outcome}
-use Rattle.tree.specs.ResultLaws.{done_bind, refused_bind, done_then, refused_then, require_true, require_false}
+use Rattle.tree.proofs.ResultLaws.{done_bind, refused_bind, done_then, refused_then, require_true, require_false}
 use Rattle.tree.specs.Forest.{Place}
 use Rattle.tree.specs.Node.{Node, is_directory}
-use Rattle.tree.specs.PlaceLaws.{empty_size}
-use Rattle.tree.specs.WellFormedLaws.{place_parts, place_below, tree_parts}
+use Rattle.tree.proofs.PlaceLaws.{empty_size}
+use Rattle.tree.proofs.WellFormedLaws.{place_parts, place_below, tree_parts}
 use Rattle.tree.specs.Walk.{by_modes, walk}
-use Rattle.tree.specs.JudgeLaws.{file_is_none, directory_is_one}
+use Rattle.tree.proofs.JudgeLaws.{file_is_none, directory_is_one}
 use Rattle.tree.specs.Encoding.{encode_tree}
 use Rattle.tree.specs.RowAt.{row_at, all_rows}
 use Rattle.tree.specs.RowScan.{end_of_subtree}
 use Rattle.tree.specs.TreeBytes.{At}
-use Rattle.tree.specs.TreeBytesLaws.{at_here, at_end}
+use Rattle.tree.proofs.TreeBytesLaws.{at_here, at_end}
 use Rattle.walks.specs.WalkBytes.{Came}
 use Rattle.shell.specs.CommandBytes.{bytes_after}
 use Rattle.store.specs.HeaderLayout.{header_width}

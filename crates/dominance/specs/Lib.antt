@@ -1,3 +1,1 @@
 pub mod PairsIn
-pub mod PairsInLaws
-pub mod ClosingLaws

@@ -14,24 +14,24 @@ use Rattle.buffers.specs.TextLaws.{every_append}
 use Rattle.buffers.specs.Fields.{all_bytes}
 use Rattle.buffers.specs.TableLaws.{length_all_bytes}
 use Rattle.syntax.specs.Path.{Name, Path, ◌▹◌, last, depth, is_name}
-use Rattle.syntax.specs.PathLaws.{name_fits}
+use Rattle.syntax.proofs.PathLaws.{name_fits}
 use Rattle.tree.specs.Layout.{row_width, row_start, most_rows}
 use Rattle.tree.specs.Forest.{Place, get, update, place_at, put, drop, leaf, size}
 use Rattle.tree.specs.Node.{Node}
-use Rattle.tree.specs.UpdateLaws.{place_at_child}
+use Rattle.tree.proofs.UpdateLaws.{place_at_child}
 use Rattle.tree.specs.Rows.{Row, flatten, rows}
-use Rattle.tree.specs.RowLaws.{length_rows}
+use Rattle.tree.proofs.RowLaws.{length_rows}
 use Rattle.tree.specs.WellFormed.{most_nodes, nodes, is_place, is_tree}
-use Rattle.tree.specs.WellFormedLaws.{place_parts}
+use Rattle.tree.proofs.WellFormedLaws.{place_parts}
 use Rattle.tree.specs.RowPlaces.{place_rows, index_of, lesser, rows_before, rows_after}
-use Rattle.tree.specs.RowPlacesLaws.{length_place_rows, around}
-use Rattle.tree.specs.RowChangesLaws.{tree_sorted, length_before, spot_index, put_rows, drop_rows}
+use Rattle.tree.proofs.RowPlacesLaws.{length_place_rows, around}
+use Rattle.tree.proofs.RowChangesLaws.{tree_sorted, length_before, spot_index, put_rows, drop_rows}
 use Rattle.tree.specs.Encoding.{row_bytes, encode_rows, encode_tree}
-use Rattle.tree.specs.EncodingLaws.{fits, fits_of, forest_fits, tree_fits, length_fitting}
+use Rattle.tree.proofs.EncodingLaws.{fits, fits_of, forest_fits, tree_fits, length_fitting}
 use Rattle.edits.specs.declared.Fresh.{Fresh}
 use Rattle.tree.specs.RowAt.{row_count}
 use Rattle.tree.specs.TreeBytes.{At}
-use Rattle.tree.specs.TreeBytesLaws.{encoded_count}
+use Rattle.tree.proofs.TreeBytesLaws.{encoded_count}
 use Rattle.edits.specs.Changes.{rows_put, rows_taken, fresh_node, fresh_row}
 use Rattle.edits.specs.WrittenLaws.{length_fresh}
 use Rattle.edits.specs.EncodedRowsLaws.{RowsWide, encode_tree_rows, table_put, table_part, table_taken}

@@ -13,12 +13,12 @@ use Rattle.syntax.specs.Path.{Path, ◌▹◌, EntryPath, in_rep, entry_location
 use Rattle.setup.specs.Setup.{Setup}
 use Rattle.tree.specs.declared.Cause.{Cause}
 use Rattle.tree.specs.Result.{Result, refused, done}
-use Rattle.tree.specs.ResultLaws.{by_result, then_then, then_bind, bind_bind, done_then, refused_then, done_bind, refused_bind, require_true, require_false}
+use Rattle.tree.proofs.ResultLaws.{by_result, then_then, then_bind, bind_bind, done_then, refused_then, done_bind, refused_bind, require_true, require_false}
 use Rattle.tree.specs.Forest.{Place}
 use Rattle.tree.specs.Node.{is_directory, Node, allows}
 use Rattle.tree.specs.Walk.{by_modes, walk}
-use Rattle.tree.specs.StepLaws.{walked}
-use Rattle.tree.specs.JudgeLaws.{kind_by_modes, readable_by_modes, writable_by_modes}
+use Rattle.tree.proofs.StepLaws.{walked}
+use Rattle.tree.proofs.JudgeLaws.{kind_by_modes, readable_by_modes, writable_by_modes}
 use Rattle.store.specs.State.{Store}
 use Rattle.machine.specs.Machine.{session, working_file, original, commit_found, run_up, run_del}
 use Rattle.machine.specs.StoreMachine.{store}

@@ -21,30 +21,30 @@ use Rattle.accounts.specs.declared.Account.{Account}
 use Rattle.accounts.specs.declared.Right.{Right}
 use Rattle.accounts.specs.declared.Right.TheVariants.{R, W}
 use Rattle.syntax.specs.Path.{Path, parent, in_rep, entry_location, path}
-use Rattle.syntax.specs.PathLaws.{entry_reads}
+use Rattle.syntax.proofs.PathLaws.{entry_reads}
 use Rattle.tree.specs.declared.Cause.{Cause}
 use Rattle.tree.specs.declared.Cause.TheVariants.{Access, WrongKind, Stale, Untagged, RevisionsSpent}
 use Rattle.tree.specs.Layout.{revision_offset, tag_revision_offset, content_offset}
 use Rattle.tree.specs.Result.{Result, refused, done, ◌>>=◌, ◌>>◌, require, present}
-use Rattle.tree.specs.ResultLaws.{not_done, by_result, present_some, present_of, present_none, required, bind_done, then_done, refused_before, done_then, refused_then, done_bind, refused_bind, then_bind}
+use Rattle.tree.proofs.ResultLaws.{not_done, by_result, present_some, present_of, present_none, required, bind_done, then_done, refused_before, done_then, refused_then, done_bind, refused_bind, then_bind}
 use Rattle.tree.specs.Forest.{Place, update, alter}
 use Rattle.tree.specs.Node.{is_directory, Tag, Node, allows, set_revision, set_tag, set_content}
-use Rattle.tree.specs.NodeLaws.{node_ranges, node_of_revision, node_of_tag, node_of_content, kind_of_set_revision, kind_of_set_tag, kind_of_set_content}
-use Rattle.tree.specs.JudgeLaws.{set_revision_is, set_tag_is, set_content_is}
+use Rattle.tree.proofs.NodeLaws.{node_ranges, node_of_revision, node_of_tag, node_of_content, kind_of_set_revision, kind_of_set_tag, kind_of_set_content}
+use Rattle.tree.proofs.JudgeLaws.{set_revision_is, set_tag_is, set_content_is}
 use Rattle.tree.specs.Walk.{by_modes, walk}
-use Rattle.tree.specs.StepLaws.{walked}
+use Rattle.tree.proofs.StepLaws.{walked}
 use Rattle.tree.specs.WellFormed.{last_revision, is_node}
-use Rattle.tree.specs.WellFormedLaws.{place_node, place_below, tree_parts}
-use Rattle.tree.specs.UpdateLaws.{by_option, walked_at}
-use Rattle.tree.specs.AlterLaws.{alter_twice, alter_alike, altered_at, kept_part}
+use Rattle.tree.proofs.WellFormedLaws.{place_node, place_below, tree_parts}
+use Rattle.tree.proofs.UpdateLaws.{by_option, walked_at}
+use Rattle.tree.proofs.AlterLaws.{alter_twice, alter_alike, altered_at, kept_part}
 use Rattle.tree.specs.Encoding.{encode_tree}
 use Rattle.tree.specs.RowAt.{row_at, tag_text_at, tag_number_at}
 use Rattle.tree.specs.TreeBytes.{HasRow, Encodes, At, PathText}
-use Rattle.tree.specs.TreeBytesLaws.{used_row, at_used, at_here}
-use Rattle.tree.specs.TagBytesLaws.{tag_reads, tag_written, tag_blank}
+use Rattle.tree.proofs.TreeBytesLaws.{used_row, at_used, at_here}
+use Rattle.tree.proofs.TagBytesLaws.{tag_reads, tag_written, tag_blank}
 use Rattle.edits.specs.Changes.{field_put, content_field}
 use Rattle.node_fields.specs.FieldEditLaws.{revision_law, tag_revision_law, copy_content_law}
-use Rattle.copying.specs.CopyRowLaws.{row_held}
+use Rattle.copying.proofs.CopyRowLaws.{row_held}
 use Rattle.walks.specs.declared.Walked.{Walked}
 use Rattle.walks.specs.declared.Walked.TheVariants
 use Rattle.walks.specs.RowWalk.{Spot, spot, outcome}

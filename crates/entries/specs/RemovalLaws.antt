@@ -7,22 +7,22 @@ use Rattle.buffers.specs.Cases.{case}
 use Rattle.accounts.specs.declared.Account.{Account}
 use Rattle.accounts.specs.declared.Right.TheVariants.{W}
 use Rattle.syntax.specs.Path.{EntryPath, parent, in_rep, entry_location}
-use Rattle.syntax.specs.FormLaws.{answered}
+use Rattle.syntax.proofs.FormLaws.{answered}
 use Rattle.tree.specs.declared.Cause.{Cause}
 use Rattle.tree.specs.declared.Cause.TheVariants.{Access, NotEmpty}
 use Rattle.tree.specs.Result.{Result, refused, done, ◌>>=◌, ◌>>◌, require}
-use Rattle.tree.specs.ResultLaws.{required, bind_done, then_done, done_bind, refused_bind}
+use Rattle.tree.proofs.ResultLaws.{required, bind_done, then_done, done_bind, refused_bind}
 use Rattle.tree.specs.Forest.{Forest, Place, is_empty, size}
-use Rattle.tree.specs.ForestLaws.{empty_is_nil}
-use Rattle.tree.specs.PlaceLaws.{leaf_below, leaf_size}
+use Rattle.tree.proofs.ForestLaws.{empty_is_nil}
+use Rattle.tree.proofs.PlaceLaws.{leaf_below, leaf_size}
 use Rattle.tree.specs.Node.{Node, allows}
 use Rattle.tree.specs.Walk.{by_modes, walk}
-use Rattle.tree.specs.StepLaws.{walked}
-use Rattle.tree.specs.UpdateLaws.{walked_at}
+use Rattle.tree.proofs.StepLaws.{walked}
+use Rattle.tree.proofs.UpdateLaws.{walked_at}
 use Rattle.tree.specs.Encoding.{encode_tree}
 use Rattle.tree.specs.RowAt.{row_at, all_rows}
 use Rattle.tree.specs.TreeBytes.{Stretch, Encodes}
-use Rattle.tree.specs.TreeBytesLaws.{at_within, at_here}
+use Rattle.tree.proofs.TreeBytesLaws.{at_within, at_here}
 use Rattle.edits.specs.Changes.{rows_taken}
 use Rattle.edits.specs.EditLaws.{take_law}
 use Rattle.walks.specs.declared.Walked.{Walked}

@@ -6,9 +6,9 @@ use Rattle.accounts.specs.declared.Right.TheVariants.{W}
 use Rattle.tree.specs.declared.Kind.TheVariants.{File, Directory}
 use Rattle.tree.specs.declared.Cause.TheVariants.{Access, WrongKind, NotEmpty, Stale, RevisionsSpent}
 use Rattle.tree.specs.Result.{refused, done}
-use Rattle.tree.specs.ResultLaws.{done_then, refused_then, require_true, require_false}
+use Rattle.tree.proofs.ResultLaws.{done_then, refused_then, require_true, require_false}
 use Rattle.tree.specs.Node.{Node, allows}
-use Rattle.tree.specs.JudgeLaws.{file_is_none, directory_is_one}
+use Rattle.tree.proofs.JudgeLaws.{file_is_none, directory_is_one}
 use Rattle.tree.specs.Walk.{by_modes}
 use Rattle.tree.specs.WellFormed.{last_revision}
 use Rattle.entries.specs.EntrySteps.{file_tests, commit_tests, del_tests, passing}

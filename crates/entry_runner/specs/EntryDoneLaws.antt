@@ -20,7 +20,7 @@ use Rattle.header.specs.PairRowsLaws.{rows_tell_session}
 use Rattle.machine.specs.Machine.{run_entry}
 use Rattle.machine.specs.StoreMachine.{store}
 use Rattle.machine.specs.Acting.{Acting, on_tree_steps}
-use Rattle.machine.specs.ActingLaws.{entry_keeps_registry}
+use Rattle.machine.proofs.ActingLaws.{entry_keeps_registry}
 use Rattle.stored_header.specs.Stored.{Stored, bytes_with}
 use Rattle.stored_header.specs.StoredLaws.{lent_tree}
 use Rattle.stored_header.specs.LentLaws.{tree_back, lent_carries}

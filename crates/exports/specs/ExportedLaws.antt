@@ -3,7 +3,7 @@ use Rattle.std.specs.Prelude.{◌≡◌, refl, [], ℕ}
 use Rattle.std.proofs.Common.{◌∙◌, ap}
 use Rattle.tree.specs.declared.Cause.{Cause}
 use Rattle.tree.specs.Causes.{number}
-use Rattle.tree.specs.CausesLaws.{wrong_setup_is}
+use Rattle.tree.proofs.CausesLaws.{wrong_setup_is}
 use Rattle.shell.specs.declared.Answer.{Answer}
 use Rattle.shell.specs.declared.Answer.TheVariants.{Done, Refused, WrongLine}
 use Rattle.shell.specs.declared.Answer.TheVariants

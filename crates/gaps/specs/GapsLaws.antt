@@ -13,29 +13,29 @@ use Rattle.accounts.specs.declared.Account.{Account}
 use Rattle.accounts.specs.declared.Right.TheVariants.{W}
 use Rattle.syntax.specs.Path.{Name, Path, parent, last, depth, is_top, is_name, path}
 use Rattle.syntax.specs.Parts.{last_slash}
-use Rattle.syntax.specs.PathLaws.{name_fits, path_is_path, path_depth, last_is_name, parent_depth}
-use Rattle.syntax.specs.ParentLaws.{last_name}
+use Rattle.syntax.proofs.PathLaws.{name_fits, path_is_path, path_depth, last_is_name, parent_depth}
+use Rattle.syntax.proofs.ParentLaws.{last_name}
 use Rattle.tree.specs.declared.Cause.{Cause}
 use Rattle.tree.specs.declared.Child.TheVariants.{Found, Missing}
 use Rattle.tree.specs.declared.Cause.TheVariants.{Access, Exists}
 use Rattle.tree.specs.Layout.{name_width, most_rows}
 use Rattle.tree.specs.Result.{Result, refused, done, ◌>>◌, require}
-use Rattle.tree.specs.ResultLaws.{bind_done, refused_before, done_then, refused_then, done_bind, refused_bind, require_true, require_false, then_bind}
+use Rattle.tree.proofs.ResultLaws.{bind_done, refused_before, done_then, refused_then, done_bind, refused_bind, require_true, require_false, then_bind}
 use Rattle.tree.specs.Forest.{Place, update, put, leaf, size}
 use Rattle.tree.specs.Node.{Node, allows}
 use Rattle.tree.specs.Walk.{by_modes, unused, parent_walk, room}
-use Rattle.tree.specs.JudgeLaws.{room_by_modes}
-use Rattle.tree.specs.RoomLaws.{is_unused, is_used, Roomed, room_found}
-use Rattle.tree.specs.UpdateLaws.{height_below, walked_at}
+use Rattle.tree.proofs.JudgeLaws.{room_by_modes}
+use Rattle.tree.proofs.RoomLaws.{is_unused, is_used, Roomed, room_found}
+use Rattle.tree.proofs.UpdateLaws.{height_below, walked_at}
 use Rattle.tree.specs.WellFormed.{nodes, is_place}
-use Rattle.tree.specs.WellFormedLaws.{tree_parts}
+use Rattle.tree.proofs.WellFormedLaws.{tree_parts}
 use Rattle.tree.specs.Rows.{Row}
 use Rattle.tree.specs.RowScan.{child_in}
 use Rattle.tree.specs.RowPlaces.{place_rows, lesser}
 use Rattle.tree.specs.Encoding.{row_bytes, encode_tree}
 use Rattle.tree.specs.RowAt.{row_at, all_rows}
 use Rattle.tree.specs.TreeBytes.{HasRow, Insertable, Encodes, At}
-use Rattle.tree.specs.TreeBytesLaws.{used_row, encoded_count, at_index, at_used, at_row, at_here, at_found, at_missing}
+use Rattle.tree.proofs.TreeBytesLaws.{used_row, encoded_count, at_index, at_used, at_row, at_here, at_found, at_missing}
 use Rattle.edits.specs.declared.Fresh.{Fresh}
 use Rattle.edits.specs.Changes.{rows_put, fresh_node, fresh_row}
 use Rattle.edits.specs.EditLaws.{spot_bound, put_law, child_law}

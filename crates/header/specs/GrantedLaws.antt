@@ -9,7 +9,7 @@ use Rattle.accounts.specs.declared.Role.{Role}
 use Rattle.accounts.specs.Access.{same_uid_is}
 use Rattle.accounts.specs.Dominance.{BoundedRole, same_role_number}
 use Rattle.setup.specs.Setup.{Grant, Setup}
-use Rattle.setup.specs.SetupLaws.{apart}
+use Rattle.setup.proofs.SetupLaws.{apart}
 use Rattle.store.specs.HeaderLayout.{grants_offset}
 use Rattle.store.specs.State.{Registry}
 use Rattle.store.specs.Callers.{granted}

@@ -17,13 +17,13 @@ use Rattle.accounts.specs.Dominance.{BoundedRole}
 use Rattle.accounts.specs.PairBytes.{pair_of}
 use Rattle.dominance.specs.PairsIn.{pairs_in}
 use Rattle.syntax.specs.Path.{Path, path_text}
-use Rattle.syntax.specs.PathLaws.{path_text_fits}
+use Rattle.syntax.proofs.PathLaws.{path_text_fits}
 use Rattle.setup.specs.Setup.{Grant, Setup, accounts, person}
-use Rattle.setup.specs.SetupLaws.{apart}
+use Rattle.setup.proofs.SetupLaws.{apart}
 use Rattle.store.specs.HeaderLayout.{slot_width, sessions_offset, pairs_offset, pair_width, grants_offset, grant_width, grant_start, directory_width, directory_start, WideHeader}
 use Rattle.store.specs.State.{Registry, set_session, working_directory, set_directory}
 use Rattle.store.specs.StoreBytes.{slot_of, session_byte, grant_of, directory_bytes, header_bytes, setup_of}
-use Rattle.store.specs.HeaderLaws.{directory_bytes_are, length_header, setup_of_header, session_in_header, header_with_session, directory_text_in_header, header_with_directory}
+use Rattle.store.proofs.HeaderLaws.{directory_bytes_are, length_header, setup_of_header, session_in_header, header_with_session, directory_text_in_header, header_with_directory}
 use Rattle.header.specs.HeaderBytes.{Heads, Headed, TellsPath, grant_in}
 
 -- ---- a header

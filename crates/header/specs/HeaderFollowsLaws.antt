@@ -8,9 +8,9 @@ use Rattle.accounts.specs.Dominance.{BoundedRole}
 use Rattle.setup.specs.Setup.{Setup}
 use Rattle.tree.specs.declared.Cause.TheVariants.{NoGrant}
 use Rattle.tree.specs.Result.{refused, done}
-use Rattle.tree.specs.ResultLaws.{refused_bind, done_bind, require_true, require_false, refused_then, done_then}
+use Rattle.tree.proofs.ResultLaws.{refused_bind, done_bind, require_true, require_false, refused_then, done_then}
 use Rattle.shell.specs.declared.Answer.TheVariants.{Done, Refused}
-use Rattle.shell.specs.CommandBytesLaws.{refusal_follows, silence_follows}
+use Rattle.shell.proofs.CommandBytesLaws.{refusal_follows, silence_follows}
 use Rattle.store.specs.State.{Registry, set_session}
 use Rattle.store.specs.StoreBytes.{header_bytes}
 use Rattle.store.specs.Callers.{granted}

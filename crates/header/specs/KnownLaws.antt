@@ -13,10 +13,10 @@ use Rattle.accounts.specs.Caller.{root_caller_is}
 use Rattle.setup.specs.Setup.{Person, Setup, person}
 use Rattle.tree.specs.declared.Cause.TheVariants.{UnknownCaller}
 use Rattle.tree.specs.Result.{done}
-use Rattle.tree.specs.ResultLaws.{present_of, present_none, done_bind, refused_bind}
+use Rattle.tree.proofs.ResultLaws.{present_of, present_none, done_bind, refused_bind}
 use Rattle.store.specs.HeaderLayout.{slot_width}
 use Rattle.store.specs.State.{Registry}
-use Rattle.store.specs.PersonLaws.{person_in_range}
+use Rattle.store.proofs.PersonLaws.{person_in_range}
 use Rattle.store.specs.Callers.{person_caller, known_caller, caller}
 use Rattle.header.specs.declared.Known.TheVariants.{As, Nobody}
 use Rattle.header.specs.HeaderBytes.{Heads, known}

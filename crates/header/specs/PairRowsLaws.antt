@@ -6,9 +6,9 @@ use Rattle.accounts.specs.declared.Pair.{Pair}
 use Rattle.accounts.specs.Dominance.{BoundedRole, dominates, all_fall}
 use Rattle.accounts.specs.Service.{service}
 use Rattle.accounts.specs.Closure.{rows_of, row_dominates, row_account, session_dominates}
-use Rattle.accounts.specs.ClosureLaws.{row_dominates_is, row_account_is, session_as}
+use Rattle.accounts.proofs.ClosureLaws.{row_dominates_is, row_account_is, session_as}
 use Rattle.dominance.specs.PairsIn.{pairs_in}
-use Rattle.setup.specs.SetupLaws.{apart, pairs_fall}
+use Rattle.setup.proofs.SetupLaws.{apart, pairs_fall}
 use Rattle.store.specs.HeaderLayout.{pairs_offset}
 use Rattle.header.specs.HeaderBytes.{Headed, session_held}
 use Rattle.header.specs.HeaderBytesLaws.{pairs_counted, pairs_stand}

@@ -10,12 +10,12 @@ use borrow.Author.Tests.{le-leb, lt-leb, eq-eqb, ne_eqb}
 use Rattle.std.proofs.Math.ListN.{get_elem?}
 use Rattle.buffers.specs.Text.{Text}
 use Rattle.syntax.specs.Form.{is_some}
-use Rattle.syntax.specs.FormLaws.{is_none, the_some}
+use Rattle.syntax.proofs.FormLaws.{is_none, the_some}
 use Rattle.setup.specs.Setup.{Setup, SetupAnswer, accepted, wrong_line, setup}
 use Rattle.tree.specs.declared.Cause.{Cause}
 use Rattle.tree.specs.declared.Cause.TheVariants.{Missing, Unsound, ShortAnswer}
 use Rattle.tree.specs.Result.{Result, refused, done, ◌>>=◌, Outcome}
-use Rattle.tree.specs.ResultLaws.{present_of, present_none, done_bind, refused_bind, done_then, refused_then, require_true, require_false}
+use Rattle.tree.proofs.ResultLaws.{present_of, present_none, done_bind, refused_bind, done_then, refused_then, require_true, require_false}
 use Rattle.tree.specs.TreeBytes.{Encodes}
 use Rattle.shell.specs.declared.Answer.{Answer}
 use Rattle.shell.specs.declared.Answer.TheVariants.{Done, Refused, WrongLine}
@@ -25,9 +25,9 @@ use Rattle.shell.specs.CommandBytes.{bytes_after, Carries}
 use Rattle.store.specs.HeaderLayout.{header_width}
 use Rattle.store.specs.State.{Store, State}
 use Rattle.store.specs.StoreBytes.{store_width, decode}
-use Rattle.store.specs.StoreBytesLaws.{decode_length}
-use Rattle.store.specs.DecodeLaws.{tree_read}
-use Rattle.machine.specs.RunsLaws.{least_room_is}
+use Rattle.store.proofs.StoreBytesLaws.{decode_length}
+use Rattle.store.proofs.DecodeLaws.{tree_read}
+use Rattle.machine.proofs.RunsLaws.{least_room_is}
 use Rattle.listing.specs.Listing.{listing}
 use Rattle.calls.specs.Calls.{set_up, setup_call, Called, called, encoded, on_state, listing_on, listing_result, listing_call}
 use Rattle.stored_header.specs.Stored.{bytes_with}

@@ -7,20 +7,20 @@ use Rattle.buffers.specs.Text.{Text}
 use Rattle.accounts.specs.declared.Caller.{Caller}
 use Rattle.accounts.specs.declared.Uid.{Uid}
 use Rattle.syntax.specs.Form.{is_some}
-use Rattle.syntax.specs.FormLaws.{is_none}
+use Rattle.syntax.proofs.FormLaws.{is_none}
 use Rattle.commands.specs.Command.{TypedCommand, line}
 use Rattle.tree.specs.declared.Cause.TheVariants.{NoForm, UnknownCaller, Unsound, ShortAnswer}
 use Rattle.tree.specs.Result.{refused, done, ◌>>=◌}
-use Rattle.tree.specs.ResultLaws.{present_of, present_none, done_bind, refused_bind}
+use Rattle.tree.proofs.ResultLaws.{present_of, present_none, done_bind, refused_bind}
 use Rattle.shell.specs.declared.Answer.{Answer}
 use Rattle.shell.specs.declared.Answer.TheVariants.{Refused}
 use Rattle.shell.specs.CommandBytes.{Carries}
-use Rattle.shell.specs.CommandBytesLaws.{refusal_follows}
+use Rattle.shell.proofs.CommandBytesLaws.{refusal_follows}
 use Rattle.store.specs.State.{State}
 use Rattle.store.specs.StoreBytes.{decode}
 use Rattle.store.specs.Callers.{caller}
 use Rattle.machine.specs.Runs.{perform}
-use Rattle.machine.specs.CallerLaws.{caller_uid, caller_in_range}
+use Rattle.machine.proofs.CallerLaws.{caller_uid, caller_in_range}
 use Rattle.calls.specs.Calls.{called, encoded, line_on, run_result, run_call}
 use Rattle.stored_header.specs.Stored.{Stored, bytes_with}
 use Rattle.library.specs.CallBytes.{called_as}

@@ -1,2 +1,1 @@
 pub mod FieldsRead
-pub mod FieldsReadLaws

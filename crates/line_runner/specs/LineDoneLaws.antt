@@ -7,22 +7,22 @@ use Rattle.buffers.specs.Text.{Text}
 use Rattle.accounts.specs.declared.Caller.{Caller}
 use Rattle.accounts.specs.declared.Uid.{Uid}
 use Rattle.syntax.specs.Path.{Path, is_path, path, path_text}
-use Rattle.syntax.specs.PathLaws.{path_of_text}
+use Rattle.syntax.proofs.PathLaws.{path_of_text}
 use Rattle.commands.specs.declared.Typed.{Typed}
 use Rattle.commands.specs.Command.{Command, TypedCommand}
 use Rattle.commands.specs.Parsed.{whole_meaning, TypedRead}
 use Rattle.commands.specs.Meaning.{TypedMeant}
 use Rattle.tree.specs.declared.Cause.TheVariants.{TooDeep}
 use Rattle.tree.specs.Result.{refused, done}
-use Rattle.tree.specs.ResultLaws.{done_bind, refused_bind}
+use Rattle.tree.proofs.ResultLaws.{done_bind, refused_bind}
 use Rattle.shell.specs.declared.Answer.{Answer}
 use Rattle.shell.specs.declared.Answer.TheVariants.{Refused}
 use Rattle.shell.specs.CommandBytes.{Carries}
-use Rattle.shell.specs.CommandBytesLaws.{refusal_follows}
+use Rattle.shell.proofs.CommandBytesLaws.{refusal_follows}
 use Rattle.shell.specs.WholePaths.{whole_command}
-use Rattle.shell.specs.WholePathsLaws.{whole_in_range}
+use Rattle.shell.proofs.WholePathsLaws.{whole_in_range}
 use Rattle.store.specs.State.{working_directory, State}
-use Rattle.store.specs.RegistryLaws.{working_directory_is_path}
+use Rattle.store.proofs.RegistryLaws.{working_directory_is_path}
 use Rattle.machine.specs.Machine.{run}
 use Rattle.machine.specs.StoreMachine.{store}
 use Rattle.stored_header.specs.Stored.{Stored, bytes_with}

@@ -14,7 +14,7 @@ use Rattle.syntax.specs.declared.Span.{Span}
 use Rattle.syntax.specs.declared.Number.{Number}
 use Rattle.syntax.specs.declared.Number.TheVariants.{Value, Nothing as NoNumber}
 use Rattle.syntax.specs.Pieces.{bytes, comma, pieces}
-use Rattle.syntax.specs.PartsLaws.{inside_text, text_inside}
+use Rattle.syntax.proofs.PartsLaws.{inside_text, text_inside}
 use Rattle.lines.specs.declared.LineKind.{LineKind}
 use Rattle.lines.specs.declared.LineKind.TheVariants.{P, G, R, L, Other}
 use Rattle.lines.specs.declared.NumberPair.{NumberPair}
@@ -23,9 +23,9 @@ use Rattle.lines.specs.declared.SetupLine.{SetupLine}
 use Rattle.lines.specs.declared.SetupLine.TheVariants.{Person, Group, Pair, Grant, Wrong}
 use Rattle.syntax.specs.Number.{between}
 use Rattle.syntax.specs.Form.{◌>>=◌, ◌>>◌, check, none_of, one_of, two_of, three_of, by_form}
-use Rattle.syntax.specs.FormLaws.{then_none, both_read, answered, no_answer, two_refuses, three_refuses}
+use Rattle.syntax.proofs.FormLaws.{then_none, both_read, answered, no_answer, two_refuses, three_refuses}
 use Rattle.syntax.specs.Field.{password}
-use Rattle.syntax.specs.FieldLaws.{read_byte}
+use Rattle.syntax.proofs.FieldLaws.{read_byte}
 use Rattle.syntax.specs.Path.{is_name}
 use Rattle.syntax.specs.Parts.{part, span_text, Inside, text_in, number_of}
 use Rattle.lines.specs.SetupLines.{LineOfSetup, p_line, g_line, r_line, l_line, longest_line, person_uid, person_or_root, person_gid, plain_role, setup_form, setup_forms, setup_line_of, setup_line}

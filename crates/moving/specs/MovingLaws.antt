@@ -12,25 +12,25 @@ use Rattle.buffers.specs.Text.{Text}
 use Rattle.buffers.specs.Fields.{all_bytes}
 use Rattle.accounts.specs.Access.{is_root}
 use Rattle.syntax.specs.Path.{Path, ◌▹◌, parent, last, depth, is_top, within, most_names}
-use Rattle.syntax.specs.PathLaws.{name_fits, parent_and_last}
-use Rattle.syntax.specs.WithinLaws.{deeper, lies, lies_outside}
+use Rattle.syntax.proofs.PathLaws.{name_fits, parent_and_last}
+use Rattle.syntax.proofs.WithinLaws.{deeper, lies, lies_outside}
 use Rattle.tree.specs.Layout.{row_width, row_start, most_rows}
 use Rattle.tree.specs.Forest.{Place, get, place_at, update, put, drop, size}
 use Rattle.tree.specs.Node.{Node, is_directory}
 use Rattle.tree.specs.WellFormed.{nodes, is_tree}
 use Rattle.tree.specs.Result.{done}
 use Rattle.tree.specs.Walk.{by_modes, room}
-use Rattle.tree.specs.UpdateLaws.{place_at_child, place_at_parent, walked_at}
-use Rattle.tree.specs.RoomLaws.{Roomed, room_found, root_room}
-use Rattle.tree.specs.WellFormedLaws.{tree_parts, place_below}
-use Rattle.tree.specs.ChangeLaws.{keep_drop, nodes_drop}
-use Rattle.tree.specs.OtherPathLaws.{drop_none, drop_some}
+use Rattle.tree.proofs.UpdateLaws.{place_at_child, place_at_parent, walked_at}
+use Rattle.tree.proofs.RoomLaws.{Roomed, room_found, root_room}
+use Rattle.tree.proofs.WellFormedLaws.{tree_parts, place_below}
+use Rattle.tree.proofs.ChangeLaws.{keep_drop, nodes_drop}
+use Rattle.tree.proofs.OtherPathLaws.{drop_none, drop_some}
 use Rattle.tree.specs.RowScan.{end_of_subtree}
 use Rattle.tree.specs.RowPlaces.{index_of, place_rows}
 use Rattle.tree.specs.Encoding.{row_bytes, encode_tree}
 use Rattle.tree.specs.RowAt.{row_count, all_rows}
 use Rattle.tree.specs.TreeBytes.{Stretch, At}
-use Rattle.tree.specs.TreeBytesLaws.{encodes, encoded_count, at_index, at_used, at_end, at_within}
+use Rattle.tree.proofs.TreeBytesLaws.{encodes, encoded_count, at_index, at_used, at_end, at_within}
 use Rattle.edits.specs.Changes.{rows_put, rows_taken}
 use Rattle.edits.specs.EditLaws.{take_law, place_fits, place_law}
 use Rattle.gaps.specs.Gaps.{gap_of}

@@ -16,13 +16,13 @@ use Rattle.buffers.specs.PasteLaws.{paste_piece}
 use Rattle.syntax.specs.Path.{Name}
 use Rattle.tree.specs.Layout.{row_width, name_offset, name_width, content_width, base_width}
 use Rattle.tree.specs.Forest.{Forest, nil, node, Place, size, height}
-use Rattle.tree.specs.ForestLaws.{height_node}
+use Rattle.tree.proofs.ForestLaws.{height_node}
 use Rattle.tree.specs.Node.{Node}
 use Rattle.tree.specs.Rows.{Row, flatten}
 use Rattle.tree.specs.RowPlaces.{place_rows}
-use Rattle.tree.specs.RowPlacesLaws.{length_place_rows}
+use Rattle.tree.proofs.RowPlacesLaws.{length_place_rows}
 use Rattle.tree.specs.Encoding.{kind_byte, tag_bytes, row_bytes}
-use Rattle.tree.specs.EncodingLaws.{fits, fits_parts, fits_of, length_fitting}
+use Rattle.tree.proofs.EncodingLaws.{fits, fits_parts, fits_of, length_fitting}
 use Rattle.moving.specs.Relabel.{shifted, depths_shifted, relabelled}
 
 -- ---- the loop

@@ -14,19 +14,19 @@ use Rattle.buffers.specs.FieldsLaws.{length_padded, length_two_bytes}
 use Rattle.accounts.specs.declared.Uid.{Uid}
 use Rattle.accounts.specs.declared.Gid.{Gid}
 use Rattle.syntax.specs.Path.{Path, last, depth, EntryPath, is_entry_path, entry_text}
-use Rattle.syntax.specs.PathLaws.{entry_text_fits}
-use Rattle.syntax.specs.FieldLaws.{content_fits}
+use Rattle.syntax.proofs.PathLaws.{entry_text_fits}
+use Rattle.syntax.proofs.FieldLaws.{content_fits}
 use Rattle.tree.specs.Layout.{owner_offset, group_offset, mode_offset, revision_offset, name_width, tag_offset, tag_width, tag_revision_offset, content_offset, content_width, whole_tag_width}
 use Rattle.tree.specs.Forest.{Place, update, place_at, alter}
 use Rattle.tree.specs.Node.{Tag, Node, set_owner, set_group, set_mode, set_revision, set_tag, set_content}
 use Rattle.tree.specs.Rows.{Row, flatten}
 use Rattle.tree.specs.WellFormed.{is_tag, is_tree}
 use Rattle.tree.specs.RowPlaces.{index_of}
-use Rattle.tree.specs.RowPlacesLaws.{around}
-use Rattle.tree.specs.RowChangesLaws.{alter_rows}
+use Rattle.tree.proofs.RowPlacesLaws.{around}
+use Rattle.tree.proofs.RowChangesLaws.{alter_rows}
 use Rattle.tree.specs.Encoding.{kind_byte, tag_bytes, row_bytes, encode_rows, encode_tree, row_head, row_spare}
-use Rattle.tree.specs.RowBytesLaws.{before_content, length_tag_bytes, node_parts, length_row_head, row_parts}
-use Rattle.tree.specs.EncodingLaws.{fits, fits_parts}
+use Rattle.tree.proofs.RowBytesLaws.{before_content, length_tag_bytes, node_parts, length_row_head, row_parts}
+use Rattle.tree.proofs.EncodingLaws.{fits, fits_parts}
 use Rattle.tree.specs.TreeBytes.{At}
 use Rattle.edits.specs.Changes.{field_bytes, field_put}
 use Rattle.edits.specs.EncodedRowsLaws.{encode_tree_rows, table_field_at, table_field_put}

@@ -11,7 +11,7 @@ use Rattle.buffers.specs.FieldsLaws.{length_padded, length_two_bytes, text_part}
 use Rattle.buffers.specs.PasteLaws.{paste_join, paste_piece, set_paste, set_behind}
 use Rattle.tree.specs.Layout.{row_width, row_start, tag_offset, tag_width, tag_revision_offset, whole_tag_width}
 use Rattle.tree.specs.RowAt.{tag_text_at}
-use Rattle.tree.specs.RowAtLaws.{text_in_row}
+use Rattle.tree.proofs.RowAtLaws.{text_in_row}
 use Rattle.edits.specs.Changes.{field_bytes, field_put}
 
 module _ (b : List ℕ) (i k : ℕ) where

@@ -13,12 +13,12 @@ use Rattle.syntax.specs.Path.{Path, depth}
 use Rattle.tree.specs.Layout.{kind_offset, behind_name_width, tag_offset, content_width, base_width}
 use Rattle.tree.specs.Forest.{Place, update, alter}
 use Rattle.tree.specs.Node.{Tag, Node, is_directory}
-use Rattle.tree.specs.NodeLaws.{node_ranges, node_of_ranges}
+use Rattle.tree.proofs.NodeLaws.{node_ranges, node_of_ranges}
 use Rattle.tree.specs.WellFormed.{is_node}
-use Rattle.tree.specs.WellFormedLaws.{place_node, place_below, tree_parts}
-use Rattle.tree.specs.AlterLaws.{alter_twice, altered_at, kept_part}
+use Rattle.tree.proofs.WellFormedLaws.{place_node, place_below, tree_parts}
+use Rattle.tree.proofs.AlterLaws.{alter_twice, altered_at, kept_part}
 use Rattle.tree.specs.Encoding.{kind_byte, tag_bytes, row_bytes, encode_tree, row_head, row_spare}
-use Rattle.tree.specs.RowBytesLaws.{length_tag_bytes, row_parts}
+use Rattle.tree.proofs.RowBytesLaws.{length_tag_bytes, row_parts}
 use Rattle.tree.specs.TreeBytes.{At}
 use Rattle.edits.specs.Changes.{field_bytes, field_put}
 use Rattle.node_fields.specs.NodeCopy.{attributes_width, node_copied}

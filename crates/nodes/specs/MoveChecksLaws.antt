@@ -11,38 +11,38 @@ use Rattle.accounts.specs.declared.Account.{Account}
 use Rattle.accounts.specs.declared.Caller.{Caller}
 use Rattle.accounts.specs.declared.Right.TheVariants.{W}
 use Rattle.syntax.specs.Path.{Path, root, ◌▹◌, path, parent, last, depth, is_top, same_path, within, lies_below, reserved, most_names}
-use Rattle.syntax.specs.PathLaws.{not_reserved, parent_depth, parent_and_last}
-use Rattle.syntax.specs.PathTextLaws.{top_by_length, below_by_length, within_by_text}
-use Rattle.syntax.specs.WithinLaws.{same_path_refl, lies, lies_top, lies_within, apart_below}
+use Rattle.syntax.proofs.PathLaws.{not_reserved, parent_depth, parent_and_last}
+use Rattle.syntax.proofs.PathTextLaws.{top_by_length, below_by_length, within_by_text}
+use Rattle.syntax.proofs.WithinLaws.{same_path_refl, lies, lies_top, lies_within, apart_below}
 use Rattle.tree.specs.declared.Kind.{Kind}
 use Rattle.tree.specs.declared.Kind.TheVariants.{File, Directory}
 use Rattle.tree.specs.declared.Cause.{Cause}
 use Rattle.tree.specs.declared.Cause.TheVariants.{Access, Exists, WrongKind, Reserved, IntoItself, TooDeep}
 use Rattle.tree.specs.Result.{Result, refused, done, ◌>>=◌, ◌>>◌, require}
-use Rattle.tree.specs.ResultLaws.{done_then, refused_then, done_bind, refused_bind, require_true, require_false, then_then, then_bind, bind_bind, both_checked}
+use Rattle.tree.proofs.ResultLaws.{done_then, refused_then, done_bind, refused_bind, require_true, require_false, then_then, then_bind, bind_bind, both_checked}
 use Rattle.tree.specs.Outcomes.{gives, Ensures}
-use Rattle.tree.specs.GivesLaws.{any_outcome, done_with, then_check, then_guard, then_do}
+use Rattle.tree.proofs.GivesLaws.{any_outcome, done_with, then_check, then_guard, then_do}
 use Rattle.tree.specs.Forest.{Place, get, place_at, height}
 use Rattle.tree.specs.Node.{is_directory, Node, allows}
 use Rattle.tree.specs.Walk.{by_modes, walk, parent_walk}
-use Rattle.tree.specs.JudgeLaws.{file_is_none, directory_is_one}
-use Rattle.tree.specs.StepLaws.{sought_is, was_sought, parent_walked}
-use Rattle.tree.specs.RoomLaws.{walked_above}
-use Rattle.tree.specs.PlaceLaws.{empty_height}
+use Rattle.tree.proofs.JudgeLaws.{file_is_none, directory_is_one}
+use Rattle.tree.proofs.StepLaws.{sought_is, was_sought, parent_walked}
+use Rattle.tree.proofs.RoomLaws.{walked_above}
+use Rattle.tree.proofs.PlaceLaws.{empty_height}
 use Rattle.tree.specs.WellFormed.{is_tree}
-use Rattle.tree.specs.UpdateLaws.{place_at_last, walked_at, height_below}
-use Rattle.tree.specs.OtherPathLaws.{alone_at}
-use Rattle.tree.specs.WellFormedLaws.{entered_directory, tree_parts, place_parts, place_below}
+use Rattle.tree.proofs.UpdateLaws.{place_at_last, walked_at, height_below}
+use Rattle.tree.proofs.OtherPathLaws.{alone_at}
+use Rattle.tree.proofs.WellFormedLaws.{entered_directory, tree_parts, place_parts, place_below}
 use Rattle.tree.specs.Rows.{Row}
 use Rattle.tree.specs.RowPlaces.{index_of}
 use Rattle.tree.specs.RowAt.{row_at, all_rows}
 use Rattle.tree.specs.TreeBytes.{Encodes, At}
-use Rattle.tree.specs.TreeBytesLaws.{at_row, at_here}
+use Rattle.tree.proofs.TreeBytesLaws.{at_row, at_here}
 use Rattle.walks.specs.RowBelow.{height_in}
 use Rattle.walks.specs.RowBelowLaws.{at_height}
 use Rattle.walks.specs.WalkBytes.{Came}
 use Rattle.shell.specs.Steps.{may_replace, moved, run_mv}
-use Rattle.shell.specs.ReplacingLaws.{no_same}
+use Rattle.shell.proofs.ReplacingLaws.{no_same}
 use Rattle.nodes.specs.declared.Move.{Move}
 use Rattle.nodes.specs.declared.Move.TheVariants.{Into, Onto, Itself, Refused}
 use Rattle.nodes.specs.NodeChecks.{text_within}

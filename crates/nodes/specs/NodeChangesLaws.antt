@@ -8,25 +8,25 @@ use Rattle.accounts.specs.declared.Account.{Account}
 use Rattle.accounts.specs.declared.Caller.{Caller}
 use Rattle.accounts.specs.declared.Gid.{Gid}
 use Rattle.syntax.specs.Path.{Name, Path, ◌▹◌, parent, last, is_top, same_path, path}
-use Rattle.syntax.specs.PathLaws.{parent_and_last}
-use Rattle.syntax.specs.WithinLaws.{apart_below}
+use Rattle.syntax.proofs.PathLaws.{parent_and_last}
+use Rattle.syntax.proofs.WithinLaws.{apart_below}
 use Rattle.tree.specs.declared.Kind.{Kind}
 use Rattle.tree.specs.Layout.{most_rows}
 use Rattle.tree.specs.Forest.{Place, is_empty, update, alter, put, drop, leaf, place_at}
 use Rattle.tree.specs.Node.{is_directory, Node, new_group, new_node}
 use Rattle.tree.specs.Walk.{by_modes}
-use Rattle.tree.specs.NodeLaws.{new_node_is}
-use Rattle.tree.specs.PlaceLaws.{empty_size}
-use Rattle.tree.specs.UpdateLaws.{place_at_last, place_at_parent, walked_at}
+use Rattle.tree.proofs.NodeLaws.{new_node_is}
+use Rattle.tree.proofs.PlaceLaws.{empty_size}
+use Rattle.tree.proofs.UpdateLaws.{place_at_last, place_at_parent, walked_at}
 use Rattle.tree.specs.WellFormed.{nodes}
-use Rattle.tree.specs.WellFormedLaws.{place_parts, place_node}
-use Rattle.tree.specs.SizeLaws.{tree_place}
-use Rattle.tree.specs.AlterLaws.{AlteredPlace, altered_at, kept_part}
+use Rattle.tree.proofs.WellFormedLaws.{place_parts, place_node}
+use Rattle.tree.proofs.SizeLaws.{tree_place}
+use Rattle.tree.proofs.AlterLaws.{AlteredPlace, altered_at, kept_part}
 use Rattle.tree.specs.RowPlaces.{index_of}
 use Rattle.tree.specs.Encoding.{row_bytes, encode_tree}
 use Rattle.tree.specs.RowAt.{row_at}
 use Rattle.tree.specs.TreeBytes.{Stretch, Encodes, At}
-use Rattle.tree.specs.TreeBytesLaws.{at_index, at_within, at_here}
+use Rattle.tree.proofs.TreeBytesLaws.{at_index, at_within, at_here}
 use Rattle.edits.specs.Changes.{rows_put, rows_taken, fresh_node, fresh_row}
 use Rattle.edits.specs.EditLaws.{take_law}
 use Rattle.edits.specs.WrittenLaws.{fresh_node_is}
@@ -36,7 +36,7 @@ use Rattle.gaps.specs.GapsLaws.{Standing, stands_child}
 use Rattle.moving.specs.Moving.{Movable, moved as moved_there}
 use Rattle.moving.specs.MovingLaws.{superuser_room, moved_is}
 use Rattle.shell.specs.Steps.{moved}
-use Rattle.shell.specs.ReplacingLaws.{both_files, same_files, no_same}
+use Rattle.shell.proofs.ReplacingLaws.{both_files, same_files, no_same}
 use Rattle.nodes.specs.MoveChecksLaws.{Moves}
 
 -- ---- `create`, `mkdir`

@@ -10,25 +10,25 @@ use Rattle.accounts.specs.declared.Account.{Account}
 use Rattle.accounts.specs.declared.Caller.{Caller}
 use Rattle.accounts.specs.declared.Right.TheVariants.{W}
 use Rattle.syntax.specs.Path.{Path, path, parent, last, is_top, reserved}
-use Rattle.syntax.specs.PathLaws.{not_reserved}
-use Rattle.syntax.specs.PathTextLaws.{reserved_by_text}
+use Rattle.syntax.proofs.PathLaws.{not_reserved}
+use Rattle.syntax.proofs.PathTextLaws.{reserved_by_text}
 use Rattle.tree.specs.declared.Kind.{Kind}
 use Rattle.tree.specs.declared.Cause.{Cause}
 use Rattle.tree.specs.declared.Cause.TheVariants.{Access, WrongKind, NotEmpty, Reserved, Full}
 use Rattle.tree.specs.Result.{Result, refused, done, ◌>>=◌}
-use Rattle.tree.specs.ResultLaws.{bind_done, refused_before, done_then, refused_then, done_bind, refused_bind, require_true, require_false, then_bind, bind_bind}
+use Rattle.tree.proofs.ResultLaws.{bind_done, refused_before, done_then, refused_then, done_bind, refused_bind, require_true, require_false, then_bind, bind_bind}
 use Rattle.tree.specs.Outcomes.{gives, Ensures}
-use Rattle.tree.specs.GivesLaws.{done_with, then_check, then_do}
+use Rattle.tree.proofs.GivesLaws.{done_with, then_check, then_do}
 use Rattle.tree.specs.Forest.{Place, is_empty, update, put, drop, leaf}
 use Rattle.tree.specs.Node.{same_kind, Node, allows, new_node}
 use Rattle.tree.specs.Walk.{by_modes, walk, room}
-use Rattle.tree.specs.RoomLaws.{walked_above}
-use Rattle.tree.specs.UpdateLaws.{walked_at}
+use Rattle.tree.proofs.RoomLaws.{walked_above}
+use Rattle.tree.proofs.UpdateLaws.{walked_at}
 use Rattle.tree.specs.WellFormed.{nodes}
-use Rattle.tree.specs.WellFormedLaws.{most_nodes_is}
+use Rattle.tree.proofs.WellFormedLaws.{most_nodes_is}
 use Rattle.tree.specs.RowAt.{row_at, all_rows}
 use Rattle.tree.specs.TreeBytes.{Encodes}
-use Rattle.tree.specs.TreeBytesLaws.{at_here}
+use Rattle.tree.proofs.TreeBytesLaws.{at_here}
 use Rattle.walks.specs.declared.Walked.{Walked}
 use Rattle.walks.specs.declared.Walked.TheVariants.{To, Refused}
 use Rattle.walks.specs.RowBelow.{has_children_in}

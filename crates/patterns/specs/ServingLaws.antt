@@ -12,17 +12,17 @@ use Rattle.buffers.specs.Text.{Text}
 use Rattle.syntax.specs.Parts.{part}
 use Rattle.syntax.specs.Pieces.{newline, pieces}
 use Rattle.setup.specs.Setup.{Setup, no_setup, is_setup}
-use Rattle.setup.specs.SetupLaws.{nothing}
+use Rattle.setup.proofs.SetupLaws.{nothing}
 use Rattle.setup.specs.SetupStep.{LineAnswer, leads_on, ends_it, is_wrong, setup_step}
-use Rattle.setup.specs.SetupStepLaws.{step_keeps}
+use Rattle.setup.proofs.SetupStepLaws.{step_keeps}
 use Rattle.store.specs.SetupHeader.{reading_in, headed}
-use Rattle.store.specs.SetupHeaderLaws.{headed_holds}
+use Rattle.store.proofs.SetupHeaderLaws.{headed_holds}
 use Rattle.setups.specs.LineRead.{line_call}
 use Rattle.printing.specs.Printed.{in_front}
 use Rattle.calls.specs.Transcript.{transcript}
-use Rattle.calls.specs.ProgramLaws.{program_is_transcript}
+use Rattle.calls.proofs.ProgramLaws.{program_is_transcript}
 use Rattle.calls.specs.ProgramByLines.{program_from}
-use Rattle.calls.specs.ProgramByLinesLaws.{program_by_lines}
+use Rattle.calls.proofs.ProgramByLinesLaws.{program_by_lines}
 use Rattle.agenda.specs.declared.Phase.{Phase}
 use Rattle.agenda.specs.declared.Phase.TheVariants as phase
 use Rattle.agenda.specs.declared.Place.{Place}
@@ -34,12 +34,12 @@ use Rattle.agenda.specs.declared.Next.{Next}
 use Rattle.agenda.specs.declared.Next.TheVariants as next
 use Rattle.agenda.specs.InputLines.{next_line}
 use Rattle.agenda.specs.Agenda.{PlaceHeld, NextHeld, NextLeads, lines_from, setup_from, listed_from, passing_from, read_place, open_line, found_setup_line, setup_next, taken, unended, found_line, line_next, list_next, by_phase, next_of, report_text, goes_on, ReadFits}
-use Rattle.agenda.specs.AgendaLaws.{next_held, next_leads, read_held}
-use Rattle.agenda.specs.StepLaws.{print_ends, print_goes, read_not_ended, read_goes}
+use Rattle.agenda.proofs.AgendaLaws.{next_held, next_leads, read_held}
+use Rattle.agenda.proofs.StepLaws.{print_ends, print_goes, read_not_ended, read_goes}
 use Rattle.agenda.specs.Conversation.{Talk, ahead, after_call, line_turned, turned, first_place}
 use Rattle.agenda.specs.Due.{due_in, due, Ready, Talking}
-use Rattle.agenda.specs.LinesDueLaws.{part_kept}
-use Rattle.agenda.specs.ConversationLaws.{due_turns}
+use Rattle.agenda.proofs.LinesDueLaws.{part_kept}
+use Rattle.agenda.proofs.ConversationLaws.{due_turns}
 use Rattle.agenda.specs.declared.Step.TheVariants.{On, Ended}
 use Rattle.patterns.specs.Buffers.{Buffers, lent, with_window, called}
 use Rattle.patterns.specs.Turns.{LineMade, Does, Serves, spent, ended, failed, goes}

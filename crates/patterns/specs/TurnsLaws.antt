@@ -5,7 +5,7 @@ use Rattle.std.proofs.Math.Path.{ap, subst}
 use Prim.Native.Nat.{ℕ, suc, ◌≤◌}
 use Rattle.syntax.specs.Parts.{part}
 use Rattle.setup.specs.SetupStep.{LineAnswer, leads_on, ends_it, is_wrong, setup_step}
-use Rattle.setup.specs.SetupStepLaws.{step_kind}
+use Rattle.setup.proofs.SetupStepLaws.{step_kind}
 use Rattle.store.specs.SetupHeader.{reading_in}
 use Rattle.setups.specs.LineRead.{line_call}
 use Rattle.setups.specs.OpeningLaws.{line_begun}
@@ -18,7 +18,7 @@ use Rattle.agenda.specs.declared.Next.TheVariants as next
 use Rattle.agenda.specs.declared.Step.{Step}
 use Rattle.agenda.specs.declared.Step.TheVariants.{On, Ended, Failed}
 use Rattle.agenda.specs.Agenda.{PlaceHeld, NextHeld, NextLeads, SetUp, ReadFits, next_of, read_step, print_step}
-use Rattle.agenda.specs.AgendaLaws.{next_held, next_leads, read_held}
+use Rattle.agenda.proofs.AgendaLaws.{next_held, next_leads, read_held}
 use Rattle.patterns.specs.Buffers.{Buffers, Ready, lines_at, Held}
 use Rattle.patterns.specs.Turns.{LineMade, Does, Turns}
 use Rattle.patterns.specs.Serving.{line_report, turn_report}

@@ -1,3 +1,1 @@
 pub mod Placing
-pub mod PlacingLaws
-pub mod PlacingJobLaws

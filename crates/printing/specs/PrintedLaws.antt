@@ -9,11 +9,11 @@ use Rattle.buffers.specs.Over.{Wrote}
 use Rattle.buffers.specs.OverLaws.{over_paste, over_front, wrote_byte, wrote_both}
 use Rattle.syntax.specs.Pieces.{bytes, comma, newline, joined}
 use Rattle.syntax.specs.Number.{decimal_text, digits_before}
-use Rattle.syntax.specs.NumberLaws.{decimal_length}
+use Rattle.syntax.proofs.NumberLaws.{decimal_length}
 use Rattle.tree.specs.declared.Cause.{Cause}
 use Rattle.tree.specs.declared.Cause.TheVariants.{Missing}
 use Rattle.tree.specs.Causes.{number}
-use Rattle.tree.specs.CausesLaws.{wrong_setup_is, missing_number, number_not_0}
+use Rattle.tree.proofs.CausesLaws.{wrong_setup_is, missing_number, number_not_0}
 use Rattle.shell.specs.declared.Answer.TheVariants.{Done, Refused, WrongLine}
 use Rattle.shell.specs.declared.Answer.TheVariants
 use Rattle.shell.specs.Replies.{told}

@@ -5,7 +5,7 @@ use Rattle.accounts.specs.declared.Caller.{Caller}
 use Rattle.commands.specs.Command.{ShellAction, shell}
 use Rattle.setup.specs.Setup.{Setup}
 use Rattle.tree.specs.Result.{Result, refused, done, ◌>>=◌, Outcome}
-use Rattle.tree.specs.ResultLaws.{bind_done, refused_bind, done_bind}
+use Rattle.tree.proofs.ResultLaws.{bind_done, refused_bind, done_bind}
 use Rattle.tree.specs.Forest.{Place}
 use Rattle.tree.specs.Node.{Node}
 use Rattle.tree.specs.TreeBytes.{Encodes}

@@ -12,7 +12,7 @@ use Rattle.accounts.specs.Closure.{rows_of, row_account}
 use Rattle.commands.specs.Command.{EntryAction, add, co, commit, up, del}
 use Rattle.tree.specs.declared.Cause.TheVariants.{NoSession}
 use Rattle.tree.specs.Result.{refused, done}
-use Rattle.tree.specs.ResultLaws.{present_of, present_none, refused_bind}
+use Rattle.tree.proofs.ResultLaws.{present_of, present_none, refused_bind}
 use Rattle.shell.specs.declared.Answer.TheVariants.{Refused}
 use Rattle.store.specs.State.{State}
 use Rattle.header.specs.HeaderBytes.{session_held}
@@ -21,7 +21,7 @@ use Rattle.header.specs.PairRowsLaws.{rows_tell_account}
 use Rattle.machine.specs.Machine.{session, run_add, run_co, run_commit, run_up, run_del, run_entry}
 use Rattle.machine.specs.StoreMachine.{store}
 use Rattle.shell.specs.CommandBytes.{CarriesSilently}
-use Rattle.shell.specs.CommandBytesLaws.{refusal_follows}
+use Rattle.shell.proofs.CommandBytesLaws.{refusal_follows}
 use Rattle.machine.specs.Acting.{Acting}
 use Rattle.stored_header.specs.Stored.{Stored, bytes_with}
 

@@ -14,17 +14,17 @@ use Rattle.accounts.specs.declared.Uid.{Uid}
 use Rattle.syntax.specs.Pieces.{bytes}
 use Rattle.syntax.specs.Path.{Path, is_path, names_text, path_text}
 use Rattle.setup.specs.Setup.{Person, Setup, is_setup}
-use Rattle.setup.specs.SetupLaws.{apart}
+use Rattle.setup.proofs.SetupLaws.{apart}
 use Rattle.store.specs.declared.Person.{Person as Slot}
 use Rattle.store.specs.HeaderLayout.{directories_offset, directory_width, directories_width, directory_start, spare_offset, spare_width}
 use Rattle.store.specs.Initial.{home_name, no_sessions, first_directory, first_directories, initial_registry}
-use Rattle.store.specs.InitialLaws.{first_is_path, first_are_paths, length_first}
+use Rattle.store.proofs.InitialLaws.{first_is_path, first_are_paths, length_first}
 use Rattle.store.specs.InitialRows.{slot_value, no_slot}
 use Rattle.store.specs.StoreBytes.{directory_bytes, front_bytes, header_bytes}
 use Rattle.store.specs.SetupHeader.{setup_header}
-use Rattle.store.specs.SetupHeaderLaws.{length_no_sessions}
-use Rattle.store.specs.FrontLaws.{front_before, paste_behind_front}
-use Rattle.store.specs.HeaderLaws.{length_directory}
+use Rattle.store.proofs.SetupHeaderLaws.{length_no_sessions}
+use Rattle.store.proofs.FrontLaws.{front_before, paste_behind_front}
+use Rattle.store.proofs.HeaderLaws.{length_directory}
 use Rattle.setups.specs.HeaderGrowsLaws.{one_more}
 
 -- ---- one account's

@@ -15,13 +15,13 @@ use Rattle.buffers.specs.FieldsLaws.{length_padded}
 use Rattle.accounts.specs.declared.Pair.{Pair}
 use Rattle.accounts.specs.PairBytes.{pair_bytes, length_pair as pair_wide}
 use Rattle.setup.specs.Setup.{Person, Grant, Setup, accounts, most_pairs, most_grants, with_pair, with_grant, is_slot, is_pair, is_grant, is_setup}
-use Rattle.setup.specs.SetupLaws.{apart}
+use Rattle.setup.proofs.SetupLaws.{apart}
 use Rattle.store.specs.HeaderLayout.{directories_width, spare_width, pairs_offset, pair_width, grants_offset, grant_width, pair_start, grant_start}
 use Rattle.store.specs.Initial.{no_sessions}
 use Rattle.store.specs.StoreBytes.{slot_bytes, session_byte, grant_bytes, front_bytes}
 use Rattle.store.specs.SetupHeader.{setup_header}
-use Rattle.store.specs.ValuesLaws.{value_replaced}
-use Rattle.store.specs.FrontLaws.{length_slot, length_grant, part_widths}
+use Rattle.store.proofs.ValuesLaws.{value_replaced}
+use Rattle.store.proofs.FrontLaws.{length_slot, length_grant, part_widths}
 
 -- ---- tables
 

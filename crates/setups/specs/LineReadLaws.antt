@@ -25,23 +25,23 @@ use Rattle.accounts.specs.PairBytes.{pair_bytes, pair_of}
 use Rattle.syntax.specs.declared.Span.{Span}
 use Rattle.syntax.specs.Pieces.{bytes}
 use Rattle.syntax.specs.Parts.{Inside, part, span_text}
-use Rattle.syntax.specs.PathLaws.{name_fits}
+use Rattle.syntax.proofs.PathLaws.{name_fits}
 use Rattle.syntax.specs.Form.{◌>>=◌, ◌>>◌, check, is_some}
-use Rattle.syntax.specs.FormLaws.{both}
+use Rattle.syntax.proofs.FormLaws.{both}
 use Rattle.lines.specs.declared.SetupLine.{SetupLine}
 use Rattle.lines.specs.declared.SetupLine.TheVariants as line
 use Rattle.lines.specs.Line.{line_told}
 use Rattle.lines.specs.LineLaws.{told_none, told_line, grant_told}
 use Rattle.lines.specs.SetupLines.{LineOfSetup, p_line, g_line, r_line, l_line, setup_line}
 use Rattle.setup.specs.Setup.{Person, Grant, Setup, Reading, accounts, most_pairs, most_grants, person, with_person, with_pair, with_grant, joining, accept, is_slot, is_person, is_setup}
-use Rattle.setup.specs.SetupLaws.{one_to_15, new_person as newly_named, joining_person, apart, l_name}
+use Rattle.setup.proofs.SetupLaws.{one_to_15, new_person as newly_named, joining_person, apart, l_name}
 use Rattle.setup.specs.SetupStep.{LineAnswer, leads_on, ends_it, is_wrong, fitting, setup_step}
 use Rattle.store.specs.declared.Person.{Person as Slot}
 use Rattle.store.specs.HeaderLayout.{WideHeader, slot_width, pairs_offset, pair_width, grants_offset, grant_width, pair_start, grant_start}
 use Rattle.store.specs.InitialRows.{slot_value}
 use Rattle.store.specs.StoreBytes.{slot_bytes, slot_of, grant_bytes, grant_of, setup_of}
 use Rattle.store.specs.SetupHeader.{setup_header}
-use Rattle.store.specs.SetupHeaderLaws.{setup_header_wide, header_holds}
+use Rattle.store.proofs.SetupHeaderLaws.{setup_header_wide, header_holds}
 use Rattle.setups.specs.declared.LineRead.TheVariants.{More, End, Wrong}
 use Rattle.setups.specs.LineRead.{Begun, LineDone, read_as, after_line}
 use Rattle.setups.specs.HeaderGrowsLaws.{slot_written, pair_written, grant_written}

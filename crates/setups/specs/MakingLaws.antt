@@ -7,14 +7,14 @@ use Rattle.buffers.specs.Cases.{contra}
 use Rattle.syntax.specs.Pieces.{newline, piece_length}
 use Rattle.syntax.specs.Parts.{part}
 use Rattle.setup.specs.Setup.{Setup, Reading, SetupAnswer, accepted, wrong_line, no_setup, setup, is_setup}
-use Rattle.setup.specs.SetupLaws.{nothing, accepted_is_setup}
+use Rattle.setup.proofs.SetupLaws.{nothing, accepted_is_setup}
 use Rattle.setup.specs.SetupStep.{LineAnswer, ends_it, setup_step}
-use Rattle.setup.specs.SetupStepLaws.{step_keeps, step_kind}
-use Rattle.setup.specs.LinesLaws.{answer_from, answer_from_first, stops_in_line, place_leads_on, place_is_wrong, place_ends_it, place_ends_early}
+use Rattle.setup.proofs.SetupStepLaws.{step_keeps, step_kind}
+use Rattle.setup.proofs.LinesLaws.{answer_from, answer_from_first, stops_in_line, place_leads_on, place_is_wrong, place_ends_it, place_ends_early}
 use Rattle.store.specs.HeaderLayout.{header_width, WideHeader}
 use Rattle.store.specs.StoreBytes.{setup_of}
 use Rattle.store.specs.SetupHeader.{reading_in, setup_header, headed, first_store}
-use Rattle.store.specs.SetupHeaderLaws.{setup_header_wide, headed_holds, header_holds}
+use Rattle.store.proofs.SetupHeaderLaws.{setup_header_wide, headed_holds, header_holds}
 use Rattle.setups.specs.declared.LineRead.{LineRead}
 use Rattle.setups.specs.declared.LineRead.TheVariants as line
 use Rattle.setups.specs.declared.TextRead.{TextRead}

@@ -11,20 +11,20 @@ use Rattle.buffers.specs.Text.{Text}
 use Rattle.buffers.specs.Fields.{number_at, all_from}
 use Rattle.buffers.specs.FieldsLaws.{byte_there, number_there}
 use Rattle.setup.specs.Setup.{Person, Setup, Reading, accounts, no_setup, is_setup}
-use Rattle.setup.specs.SetupLaws.{nothing}
+use Rattle.setup.proofs.SetupLaws.{nothing}
 use Rattle.setup.specs.SetupStep.{LineAnswer, leads_on, ends_it, setup_step}
-use Rattle.setup.specs.SetupStepLaws.{step_keeps}
+use Rattle.setup.proofs.SetupStepLaws.{step_keeps}
 use Rattle.tree.specs.Encoding.{encode_tree}
 use Rattle.store.specs.declared.Person.{Person as Slot}
 use Rattle.store.specs.HeaderLayout.{header_width, slot_width, directories_offset, directories_width}
 use Rattle.store.specs.State.{Registry}
 use Rattle.store.specs.Initial.{initial_tree, initial_registry, initial_store}
-use Rattle.store.specs.InitialLaws.{initial_registered}
+use Rattle.store.proofs.InitialLaws.{initial_registered}
 use Rattle.store.specs.InitialRows.{slot_value}
 use Rattle.store.specs.StoreBytes.{store_width, slot_of, header_bytes, setup_of, encode}
 use Rattle.store.specs.SetupHeader.{reading_in, setup_header, headed, first_store}
-use Rattle.store.specs.SetupHeaderLaws.{setup_header_wide, headed_holds, header_holds, nothing_is_zeros}
-use Rattle.store.specs.HeaderLaws.{length_header}
+use Rattle.store.proofs.SetupHeaderLaws.{setup_header_wide, headed_holds, header_holds, nothing_is_zeros}
+use Rattle.store.proofs.HeaderLaws.{length_header}
 use Rattle.setups.specs.declared.LineRead.{LineRead}
 use Rattle.setups.specs.declared.LineRead.TheVariants.{More, End, Wrong}
 use Rattle.setups.specs.DirectoriesLaws.{first_bytes, first_header}

@@ -6,7 +6,7 @@ use Rattle.buffers.specs.Text.{Text}
 use Rattle.accounts.specs.declared.Caller.{Caller}
 use Rattle.syntax.specs.Path.{Path, is_path}
 use Rattle.syntax.specs.Field.{is_content}
-use Rattle.syntax.specs.FieldLaws.{content_fits}
+use Rattle.syntax.proofs.FieldLaws.{content_fits}
 use Rattle.commands.specs.Command.{ShellAction, write, is_shell_command}
 use Rattle.tree.specs.Forest.{Place}
 use Rattle.tree.specs.Node.{Node}

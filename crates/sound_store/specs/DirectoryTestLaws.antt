@@ -8,15 +8,15 @@ use Rattle.buffers.specs.TextLaws.{same_text_sound}
 use Rattle.buffers.specs.Fields.{padded, text_at, is_filled}
 use Rattle.buffers.specs.FieldsLaws.{length_padded, text_at_padded, field_text_fits, text_there}
 use Rattle.syntax.specs.Form.{is_some}
-use Rattle.syntax.specs.FormLaws.{no_answer}
+use Rattle.syntax.proofs.FormLaws.{no_answer}
 use Rattle.syntax.specs.Path.{Path, root, path, path_text}
-use Rattle.syntax.specs.PathLaws.{path_of_text, path_text_fits}
-use Rattle.syntax.specs.ParentLaws.{text_of_path}
+use Rattle.syntax.proofs.PathLaws.{path_of_text, path_text_fits}
+use Rattle.syntax.proofs.ParentLaws.{text_of_path}
 use Rattle.soundness.specs.RowTestLaws.{same_filled}
 use Rattle.store.specs.HeaderLayout.{directory_width}
-use Rattle.store.specs.RegistryLaws.{root_is_path}
+use Rattle.store.proofs.RegistryLaws.{root_is_path}
 use Rattle.store.specs.StoreBytes.{directory_bytes, path_or_root, directory_from}
-use Rattle.store.specs.HeaderLaws.{directory_bytes_are, length_directory}
+use Rattle.store.proofs.HeaderLaws.{directory_bytes_are, length_directory}
 
 -- what is read takes the width, whether it is a path or not
 long_as_read : (x : List ℕ) (o : Option Path) → path (text_at 0 directory_width x) ≡ o → length (directory_bytes (path_or_root o)) ≡ directory_width

@@ -14,10 +14,10 @@ use Rattle.buffers.specs.Fields.{unpadded, text_at, zeros_at, is_filled}
 use Rattle.buffers.specs.FieldsLaws.{text_stops}
 use Rattle.syntax.specs.Form.{is_some}
 use Rattle.syntax.specs.Path.{path}
-use Rattle.syntax.specs.PathPartsLaws.{path_empty, path_begins, path_top}
+use Rattle.syntax.proofs.PathPartsLaws.{path_empty, path_begins, path_top}
 use Rattle.tree.specs.Encoding.{decode_tree}
 use Rattle.store.specs.StoreBytes.{store_width, is_header, decode}
-use Rattle.store.specs.DecodeLaws.{decode_in_parts}
+use Rattle.store.proofs.DecodeLaws.{decode_in_parts}
 use Rattle.store.specs.HeaderLayout.{pair_start, grant_start, directory_start, grants_offset, directories_offset, directory_width, header_width, spare_offset, spare_width, sessions_offset, pairs_offset, WideHeader}
 use Rattle.sound_store.specs.HeaderTests.{passes_from, slot_start, is_slot_at, has_slots, is_session_at, is_pair_at, has_pairs, named_at, is_password_at, is_grant_at, has_grants, is_directory_at, has_directories, has_sessions, header_test}
 

@@ -21,7 +21,7 @@ use Rattle.tree.specs.Layout.{row_width, row_start, kind_offset, owner_offset, g
 use Rattle.tree.specs.WellFormed.{last_revision, fits_kind}
 use Rattle.tree.specs.Encoding.{read_row}
 use Rattle.tree.specs.RowAt.{row_bytes_at, row_at, tag_text_at, tag_number_at}
-use Rattle.tree.specs.RowAtLaws.{byte_in_row, text_in_row}
+use Rattle.tree.proofs.RowAtLaws.{byte_in_row, text_in_row}
 use Rattle.soundness.specs.Sound.{is_row}
 use Rattle.soundness.specs.Tests.{is_kind_byte, has_numbers, has_tag, has_content, may_name, may_stand, neighbours_pass, content_stands, row_test}
 use Rattle.soundness.specs.RowTestLaws.{length_text_at, row_test_is}

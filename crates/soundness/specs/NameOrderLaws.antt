@@ -11,7 +11,7 @@ use Rattle.buffers.specs.Fields.{unpadded, text_at}
 use Rattle.tree.specs.Layout.{row_start, name_offset, name_width}
 use Rattle.tree.specs.Encoding.{read_row}
 use Rattle.tree.specs.RowAt.{row_at}
-use Rattle.tree.specs.RowAtLaws.{text_in_row}
+use Rattle.tree.proofs.RowAtLaws.{text_in_row}
 
 -- whether the text of the field at a comes before that of the field at b, both of w bytes
 abbrev pub field_precedes : List ℕ → ℕ → ℕ → ℕ → Bool

@@ -15,11 +15,11 @@ use Rattle.buffers.specs.Text.{precedes, every}
 use Rattle.syntax.specs.Path.{Name, is_name, most_names}
 use Rattle.tree.specs.declared.Kind.{Kind}
 use Rattle.tree.specs.Forest.{Forest, nil, node, Place, is_empty, height}
-use Rattle.tree.specs.ForestLaws.{larger_bounds, larger_least}
+use Rattle.tree.proofs.ForestLaws.{larger_bounds, larger_least}
 use Rattle.tree.specs.Node.{is_directory, Node}
 use Rattle.tree.specs.Rows.{Row, flatten}
 use Rattle.tree.specs.WellFormed.{is_node, leads, is_forest}
-use Rattle.tree.specs.WellFormedLaws.{place_parts, place_of_parts, forest_parts, forest_of_parts}
+use Rattle.tree.proofs.WellFormedLaws.{place_parts, place_of_parts, forest_parts, forest_of_parts}
 use Rattle.soundness.specs.Sound.{outermost, innermost, may_follow, follows, in_order}
 
 -- ---- the outermost of some names

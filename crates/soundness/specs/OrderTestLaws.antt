@@ -18,7 +18,7 @@ use Rattle.tree.specs.Layout.{row_width}
 use Rattle.tree.specs.Node.{is_directory, Node}
 use Rattle.tree.specs.Rows.{Row}
 use Rattle.tree.specs.RowAt.{row_count, row_bytes_at, row_at, all_rows}
-use Rattle.tree.specs.RowAtLaws.{length_all_rows, row_in_rows}
+use Rattle.tree.proofs.RowAtLaws.{length_all_rows, row_in_rows}
 use Rattle.soundness.specs.Sound.{is_row, row_stretches, outermost, innermost, may_follow, follows, in_order}
 use Rattle.soundness.specs.Tests.{rest_in_order}
 use Rattle.soundness.specs.OrderLaws.{outermost_all, outermost_cons}

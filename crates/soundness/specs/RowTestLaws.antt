@@ -21,10 +21,10 @@ use Rattle.syntax.specs.Number.{is_mode}
 use Rattle.syntax.specs.Field.{is_content}
 use Rattle.syntax.specs.Form.{is_some}
 use Rattle.syntax.specs.Path.{EntryPath, entry_path}
-use Rattle.syntax.specs.PathLaws.{entry_is_entry}
+use Rattle.syntax.proofs.PathLaws.{entry_is_entry}
 use Rattle.tree.specs.Layout.{row_width, mode_offset, revision_offset, name_offset, name_width, tag_offset, tag_width, tag_revision_offset, whole_tag_width, content_offset, content_width, base_offset, base_width}
 use Rattle.tree.specs.WellFormed.{last_revision, is_tag, fits_kind, is_node}
-use Rattle.syntax.specs.ParentLaws.{text_of_entry}
+use Rattle.syntax.proofs.ParentLaws.{text_of_entry}
 use Rattle.tree.specs.Encoding.{kind_byte, kind_of, tag_bytes, tag_of, row_bytes, read_row}
 use Rattle.soundness.specs.Sound.{is_row}
 use Rattle.soundness.specs.Tests.{is_kind_byte, has_numbers, has_tag, has_content, row_test}

@@ -13,18 +13,18 @@ use Rattle.buffers.specs.TextLaws.{no_bytes, same_text_refl, same_text_sound}
 use Rattle.buffers.specs.Fields.{two_bytes, all_bytes, all_from, all_zero}
 use Rattle.buffers.specs.TableLaws.{length_all_bytes}
 use Rattle.syntax.specs.Form.{is_some}
-use Rattle.syntax.specs.FormLaws.{no_answer}
+use Rattle.syntax.proofs.FormLaws.{no_answer}
 use Rattle.tree.specs.Layout.{row_width, tree_width, row_start}
 use Rattle.tree.specs.Forest.{Place}
 use Rattle.tree.specs.Node.{is_directory, Node}
 use Rattle.tree.specs.Rows.{Row, rows}
-use Rattle.tree.specs.RowLaws.{length_rows}
+use Rattle.tree.proofs.RowLaws.{length_rows}
 use Rattle.tree.specs.WellFormed.{most_nodes, is_node, is_tree}
-use Rattle.tree.specs.WellFormedLaws.{place_parts, place_of_parts, tree_parts, tree_of_parts, most_nodes_is}
+use Rattle.tree.proofs.WellFormedLaws.{place_parts, place_of_parts, tree_parts, tree_of_parts, most_nodes_is}
 use Rattle.tree.specs.Encoding.{row_bytes, read_row, encode_rows, encode_tree, decode_tree}
-use Rattle.tree.specs.EncodingLaws.{fits, fits_parts, tree_fits, length_fitting, fitting_back, length_encode_tree, decode_encode_tree, encode_decode_tree}
+use Rattle.tree.proofs.EncodingLaws.{fits, fits_parts, tree_fits, length_fitting, fitting_back, length_encode_tree, decode_encode_tree, encode_decode_tree}
 use Rattle.tree.specs.RowAt.{row_count, all_rows}
-use Rattle.tree.specs.RowAtLaws.{length_all_rows, all_rows_of_tree, row_count_of_tree}
+use Rattle.tree.proofs.RowAtLaws.{length_all_rows, all_rows_of_tree, row_count_of_tree}
 use Rattle.soundness.specs.Sound.{is_row, row_stretches, in_order, is_top_row, form_tree, is_count, is_sound}
 use Rattle.soundness.specs.OrderLaws.{forest_of_rows, forest_in_order}
 

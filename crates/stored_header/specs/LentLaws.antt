@@ -5,7 +5,7 @@ use Rattle.std.proofs.Math.Path.{ap, ap₂}
 use mathlib.Core.List.{List, [], ◌++◌, append-nil}
 use Rattle.std.proofs.Math.ListN.{take-append-drop}
 use Rattle.tree.specs.Result.{Result, refused, done, Outcome}
-use Rattle.tree.specs.ResultLaws.{refused_bind, done_bind}
+use Rattle.tree.proofs.ResultLaws.{refused_bind, done_bind}
 use Rattle.tree.specs.TreeBytes.{Encodes}
 use Rattle.shell.specs.declared.Answer.{Answer}
 use Rattle.shell.specs.Replies.{reply, answer_of, written}

@@ -12,15 +12,15 @@ use Rattle.accounts.specs.declared.Caller.{Caller}
 use Rattle.accounts.specs.Dominance.{BoundedRole}
 use Rattle.accounts.specs.declared.Uid.{Uid}
 use Rattle.syntax.specs.Path.{Path}
-use Rattle.syntax.specs.PathLaws.{path_is_path}
-use Rattle.syntax.specs.ParentLaws.{text_of_path}
+use Rattle.syntax.proofs.PathLaws.{path_is_path}
+use Rattle.syntax.proofs.ParentLaws.{text_of_path}
 use Rattle.setup.specs.Setup.{Setup}
 use Rattle.tree.specs.declared.Cause.{Cause}
 use Rattle.tree.specs.Result.{Result, refused, done, ◌>>=◌, Outcome}
 use Rattle.tree.specs.Forest.{Place}
 use Rattle.tree.specs.Node.{Node}
 use Rattle.tree.specs.Encoding.{encode_tree}
-use Rattle.tree.specs.ResultLaws.{refused_bind, done_bind}
+use Rattle.tree.proofs.ResultLaws.{refused_bind, done_bind}
 use Rattle.tree.specs.TreeBytes.{Encodes, Whole, PathText}
 use Rattle.walks.specs.declared.Walked.{Walked}
 use Rattle.walks.specs.declared.Walked.TheVariants.{To, Refused}
@@ -30,21 +30,21 @@ use Rattle.attributes.specs.Checks.{may_do, may_do_at}
 use Rattle.attributes.specs.ChecksLaws.{enter_checked, decided_refused, decided_there}
 use Rattle.shell.specs.declared.Answer.{Answer}
 use Rattle.shell.specs.declared.Answer.TheVariants
-use Rattle.shell.specs.CommandBytesLaws.{refusal_follows, silence_follows}
+use Rattle.shell.proofs.CommandBytesLaws.{refusal_follows, silence_follows}
 use Rattle.shell.specs.Replies.{reply, answer_of, written}
 use Rattle.shell.specs.CommandBytes.{bytes_after, CarriesSilently}
 use Rattle.store.specs.HeaderLayout.{header_width}
 use Rattle.store.specs.State.{Registry, set_directory, Store, State, well_formed}
-use Rattle.store.specs.StateLaws.{parts, formed}
+use Rattle.store.proofs.StateLaws.{parts, formed}
 use Rattle.store.specs.StoreBytes.{store_width, header_bytes, encode, decode}
-use Rattle.store.specs.HeaderLaws.{length_header}
-use Rattle.store.specs.StoreBytesLaws.{decode_encode, encode_decode, decode_length}
-use Rattle.store.specs.DecodeLaws.{tree_read}
+use Rattle.store.proofs.HeaderLaws.{length_header}
+use Rattle.store.proofs.StoreBytesLaws.{decode_encode, encode_decode, decode_length}
+use Rattle.store.proofs.DecodeLaws.{tree_read}
 use Rattle.store.specs.Logins.{logged_in, logged_out}
 use Rattle.header.specs.HeaderBytes.{Headed, TellsPath, HeaderFollows}
 use Rattle.machine.specs.Machine.{run_login, run_logout, run_cd}
 use Rattle.machine.specs.StoreMachine.{store}
-use Rattle.machine.specs.LoginLaws.{run_login_is, run_logout_is}
+use Rattle.machine.proofs.LoginLaws.{run_login_is, run_logout_is}
 use Rattle.stored_header.specs.Stored.{Stored, SomeStore, bytes_with, moved_to}
 
 -- bytes that are read as a state are that store's

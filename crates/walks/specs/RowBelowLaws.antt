@@ -15,18 +15,18 @@ use Rattle.buffers.specs.Text.{Text}
 use Rattle.syntax.specs.Pieces.{comma, joined}
 use Rattle.syntax.specs.Path.{Name, Path, depth}
 use Rattle.tree.specs.Forest.{Forest, nil, node, Place, is_empty, larger, height, names}
-use Rattle.tree.specs.ForestLaws.{larger_bounds, larger_least}
+use Rattle.tree.proofs.ForestLaws.{larger_bounds, larger_least}
 use Rattle.tree.specs.Node.{Node}
 use Rattle.tree.specs.Rows.{Row, flatten, rows}
-use Rattle.tree.specs.RowLaws.{length_flatten}
+use Rattle.tree.proofs.RowLaws.{length_flatten}
 use Rattle.tree.specs.RowScan.{span, first_passes, is_deeper, depth_of}
 use Rattle.tree.specs.RowPlaces.{ends, place_rows, index_of, Around}
-use Rattle.tree.specs.RowPlacesLaws.{around}
-use Rattle.tree.specs.RowScanLaws.{first_at, span_end, ends_deeper, rows_from_children, subtree_span, depth_of_place}
+use Rattle.tree.proofs.RowPlacesLaws.{around}
+use Rattle.tree.proofs.RowScanLaws.{first_at, span_end, ends_deeper, rows_from_children, subtree_span, depth_of_place}
 use Rattle.tree.specs.RowAt.{row_count, row_at, all_rows}
 use Rattle.tree.specs.TreeBytes.{At}
-use Rattle.tree.specs.RowAtLaws.{length_all_rows, row_in_rows, depth_of_row, scan_stop, scan_end}
-use Rattle.tree.specs.TreeBytesLaws.{encoded_rows}
+use Rattle.tree.proofs.RowAtLaws.{length_all_rows, row_in_rows, depth_of_row, scan_stop, scan_end}
+use Rattle.tree.proofs.TreeBytesLaws.{encoded_rows}
 use Rattle.walks.specs.RowBelow.{front_below, rows_below, has_children_in, deepest_in, height_in, names_in, child_text_in}
 
 -- ---- rows below, by index

@@ -9,23 +9,23 @@ use Rattle.accounts.specs.declared.Account.{Account}
 use Rattle.accounts.specs.declared.Right.TheVariants.{X}
 use Rattle.syntax.specs.Path.{Name}
 use Rattle.syntax.specs.Parts.{last_slash, path_names}
-use Rattle.syntax.specs.FormLaws.{no_answer, answered}
+use Rattle.syntax.proofs.FormLaws.{no_answer, answered}
 use Rattle.tree.specs.declared.Kind.TheVariants.{File, Directory}
 use Rattle.tree.specs.declared.Cause.{Cause}
 use Rattle.tree.specs.declared.Child.{Child}
 use Rattle.tree.specs.declared.Child.TheVariants.{Found, Missing}
 use Rattle.tree.specs.RowScan.{child_in}
-use Rattle.tree.specs.RowScanLaws.{child_in_bound}
+use Rattle.tree.proofs.RowScanLaws.{child_in_bound}
 use Rattle.tree.specs.RowAt.{row_count, row_at, all_rows}
 use Rattle.walks.specs.declared.Walked.{Walked}
 use Rattle.walks.specs.declared.Walked.TheVariants.{To, Refused}
 use Rattle.tree.specs.declared.Cause.TheVariants.{Missing, NotDirectory, Access}
 use Rattle.tree.specs.Result.{Result, refused, done, ◌>>=◌, ◌>>◌, require, present}
-use Rattle.tree.specs.ResultLaws.{not_done, present_some, bind_done, then_done}
+use Rattle.tree.proofs.ResultLaws.{not_done, present_some, bind_done, then_done}
 use Rattle.tree.specs.Node.{is_directory, Node, allows}
 use Rattle.tree.specs.Walk.{by_modes, enter}
 use Rattle.tree.specs.Rows.{Row}
-use Rattle.tree.specs.RowAtLaws.{length_all_rows, row_in_rows}
+use Rattle.tree.proofs.RowAtLaws.{length_all_rows, row_in_rows}
 use Rattle.walks.specs.RowWalk.{Spot, spot, top_spot, enter_first, enter_in, step_in, walk_names_in, walk_in, parent_walk_in, outcome, found_row}
 
 -- ---- into a directory

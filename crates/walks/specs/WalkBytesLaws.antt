@@ -12,29 +12,29 @@ use Rattle.buffers.specs.Text.{Text}
 use Rattle.accounts.specs.declared.Account.{Account}
 use Rattle.syntax.specs.Path.{Name, Path, root, ◌▹◌, parent, extended, path}
 use Rattle.syntax.specs.Parts.{last_slash, path_names}
-use Rattle.syntax.specs.ParentLaws.{path_names_of_path, parent_names}
+use Rattle.syntax.proofs.ParentLaws.{path_names_of_path, parent_names}
 use Rattle.tree.specs.declared.Cause.{Cause}
 use Rattle.tree.specs.declared.Child.{Child}
 use Rattle.tree.specs.declared.Cause.TheVariants.{Missing}
 use Rattle.tree.specs.Result.{Result, refused, done, ◌>>=◌, ◌>>◌, present}
-use Rattle.tree.specs.ResultLaws.{by_result, bind_done, refused_before}
+use Rattle.tree.proofs.ResultLaws.{by_result, bind_done, refused_before}
 use Rattle.tree.specs.Forest.{Place, get, place_at}
 use Rattle.tree.specs.Node.{Node}
 use Rattle.tree.specs.Walk.{Judge, by_modes, look, enter, walk, parent_walk}
-use Rattle.tree.specs.StepLaws.{walk_root, walk_step, parent_walked}
-use Rattle.tree.specs.UpdateLaws.{walked_at, by_option, place_at_parent}
+use Rattle.tree.proofs.StepLaws.{walk_root, walk_step, parent_walked}
+use Rattle.tree.proofs.UpdateLaws.{walked_at, by_option, place_at_parent}
 use Rattle.tree.specs.WellFormed.{is_tree}
 use Rattle.tree.specs.Rows.{rows}
 use Rattle.tree.specs.RowScan.{child_in}
 use Rattle.tree.specs.RowPlaces.{place_rows, index_of}
-use Rattle.tree.specs.RowPlacesLaws.{around}
-use Rattle.tree.specs.RowChangesLaws.{tree_sorted}
-use Rattle.tree.specs.RowScanLaws.{rows_from_place, child_in_rows, no_child_in_rows}
+use Rattle.tree.proofs.RowPlacesLaws.{around}
+use Rattle.tree.proofs.RowChangesLaws.{tree_sorted}
+use Rattle.tree.proofs.RowScanLaws.{rows_from_place, child_in_rows, no_child_in_rows}
 use Rattle.tree.specs.RowAt.{all_rows}
 use Rattle.walks.specs.declared.Walked.{Walked}
 use Rattle.walks.specs.declared.Walked.TheVariants.{To, Refused}
 use Rattle.tree.specs.TreeBytes.{Encodes}
-use Rattle.tree.specs.TreeBytesLaws.{encoded_rows}
+use Rattle.tree.proofs.TreeBytesLaws.{encoded_rows}
 use Rattle.walks.specs.RowWalk.{outcome, Spot, spot, top_spot, enter_first, enter_in, step_in, walk_names_in, walk_in, parent_walk_in, found_row}
 use Rattle.walks.specs.RowWalkLaws.{outcome_refused, outcome_at}
 use Rattle.walks.specs.WalkBytes.{spot_of, Came}

@@ -9,11 +9,11 @@ use Rattle.std.proofs.Math.Bool.{true, false, not}
 use Rattle.buffers.specs.Cases.{contra}
 use Rattle.buffers.specs.Text.{Text}
 use Rattle.syntax.specs.Form.{◌>>=◌, ◌>>◌, check, is_some}
-use Rattle.syntax.specs.FormLaws.{no_answer, both_read, answered}
+use Rattle.syntax.proofs.FormLaws.{no_answer, both_read, answered}
 use Rattle.syntax.specs.Path.{Path, TypedPath, whole, short, is_path, depth, most_names, follows, path, typed_path, names_text}
-use Rattle.syntax.specs.FollowsLaws.{whole_reads, short_reads, joined_reads}
+use Rattle.syntax.proofs.FollowsLaws.{whole_reads, short_reads, joined_reads}
 use Rattle.syntax.specs.Parts.{Inside, span_text}
-use Rattle.syntax.specs.PartsLaws.{inside_text}
+use Rattle.syntax.proofs.PartsLaws.{inside_text}
 use Rattle.arguments.specs.declared.ArgumentKind.{ArgumentKind}
 use Rattle.arguments.specs.declared.ArgumentKind.TheVariants as a
 use Rattle.arguments.specs.Kinds.{Value, Makes, read_in, Argument, value, values_of}
@@ -22,7 +22,7 @@ use Rattle.commands.specs.declared.Word.TheVariants.{Create, Mkdir, Read, Write,
 use Rattle.commands.specs.Command.{create, mkdir, read, write, rm, rmdir, mv, chmod, chgrp, chown, cd, add, co, commit, up, Command, TypedCommand, shell, account, entry, takes, listed}
 use Rattle.tree.specs.declared.Cause.TheVariants.{TooDeep}
 use Rattle.tree.specs.Result.{Result, refused, done, ◌>>=◌ as ◌then◌, ◌>>◌ as ◌upon◌, require}
-use Rattle.tree.specs.ResultLaws.{done_then, refused_then, done_bind, refused_bind, require_true, require_false}
+use Rattle.tree.proofs.ResultLaws.{done_then, refused_then, done_bind, refused_bind, require_true, require_false}
 use Rattle.shell.specs.WholePaths.{shell_paths, account_paths, entry_paths, command_paths, meant_path, whole_command}
 use Rattle.whole_paths.specs.WholeText.{is_path_kind, has_text, is_short, is_deep, made}
 

@@ -14,13 +14,13 @@ use Rattle.buffers.specs.Over.{over}
 use Rattle.buffers.specs.OverLaws.{over_paste}
 use Rattle.syntax.specs.declared.Span.{Span}
 use Rattle.syntax.specs.Form.{is_some}
-use Rattle.syntax.specs.FormLaws.{the_some}
+use Rattle.syntax.proofs.FormLaws.{the_some}
 use Rattle.syntax.specs.Path.{Path, TypedPath, whole, short, is_name, entry_location, path, typed_path, entry_path}
-use Rattle.syntax.specs.PathLaws.{name_length, path_is_path, entry_reads, path_text_fits}
-use Rattle.syntax.specs.ParentLaws.{text_of_path}
-use Rattle.syntax.specs.FollowsLaws.{whole_reads, short_reads}
+use Rattle.syntax.proofs.PathLaws.{name_length, path_is_path, entry_reads, path_text_fits}
+use Rattle.syntax.proofs.ParentLaws.{text_of_path}
+use Rattle.syntax.proofs.FollowsLaws.{whole_reads, short_reads}
 use Rattle.syntax.specs.Field.{is_content}
-use Rattle.syntax.specs.FieldLaws.{content_fits}
+use Rattle.syntax.proofs.FieldLaws.{content_fits}
 use Rattle.syntax.specs.Parts.{part, span_text}
 use Rattle.arguments.specs.declared.ArgumentKind.{ArgumentKind}
 use Rattle.arguments.specs.declared.ArgumentKind.TheVariants as a

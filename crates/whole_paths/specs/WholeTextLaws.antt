@@ -10,12 +10,12 @@ use Rattle.std.proofs.lemmas.Bool.{eqb-false}
 use Rattle.buffers.specs.Cases.{case, contra, neither}
 use Rattle.buffers.specs.Text.{Text}
 use Rattle.syntax.specs.Form.{is_some}
-use Rattle.syntax.specs.FormLaws.{no_answer, answered, is_none, the_some}
+use Rattle.syntax.proofs.FormLaws.{no_answer, answered, is_none, the_some}
 use Rattle.syntax.specs.Path.{Path, root, ◌▹◌, TypedPath, whole, short, is_top, path, typed_path, names_text, path_text}
-use Rattle.syntax.specs.PathLaws.{path_is_path}
-use Rattle.syntax.specs.ParentLaws.{text_of_path}
-use Rattle.syntax.specs.PathTextLaws.{top_by_length, below_by_length}
-use Rattle.syntax.specs.FollowsLaws.{whole_reads, short_reads}
+use Rattle.syntax.proofs.PathLaws.{path_is_path}
+use Rattle.syntax.proofs.ParentLaws.{text_of_path}
+use Rattle.syntax.proofs.PathTextLaws.{top_by_length, below_by_length}
+use Rattle.syntax.proofs.FollowsLaws.{whole_reads, short_reads}
 use Rattle.syntax.specs.Parts.{span_text}
 use Rattle.arguments.specs.declared.ArgumentKind.{ArgumentKind}
 use Rattle.arguments.specs.declared.ArgumentKind.TheVariants as a
@@ -30,7 +30,7 @@ use Rattle.tree.specs.declared.Cause.{Cause}
 use Rattle.tree.specs.declared.Cause.TheVariants.{TooDeep}
 use Rattle.tree.specs.Result.{Result, refused, done}
 use Rattle.shell.specs.WholePaths.{whole_command}
-use Rattle.shell.specs.WholePathsLaws.{whole_only_too_deep}
+use Rattle.shell.proofs.WholePathsLaws.{whole_only_too_deep}
 use Rattle.whole_paths.specs.declared.Whole.TheVariants as answer
 use Rattle.whole_paths.specs.WholeText.{is_path_kind, is_short, is_deep, front_length, joined_text, argument_text, any_argument, any_short, any_deep, text_width, first_text, second_text, third_text, whole_typed, whole_text, whole_or_deep, made}
 use Rattle.whole_paths.specs.WrittenLaws.{short_written, text_written}

@@ -1,5 +1,5 @@
 -- `adding::add` meets its contract: the row and the gap that it acts on are those that the steps lead to, and a refusal leaves all.
-use Rattle.shell.specs.CommandBytesLaws.{refusal_follows, silence_follows}
+use Rattle.shell.proofs.CommandBytesLaws.{refusal_follows, silence_follows}
 use Rattle.adding.specs.AddSteps.{add_tests}
 use Rattle.entries.specs.LinkLaws.{judged_to, judged_not}
 use Rattle.adding.specs.AddLaws.{add_stands, add_not, addition_of, add_unwalked, add_unroomed, add_made}

@@ -2,8 +2,8 @@
 use mathlib.Core.Path.{sym, ◌∙◌, ap}
 use native.Mathlib.Omega.{arith}
 use Rattle.syntax.specs.Path.{entry_location}
-use Rattle.syntax.specs.PathLaws.{entry_reads}
-use Rattle.tree.specs.TreeBytesLaws.{encoded_count}
+use Rattle.syntax.proofs.PathLaws.{entry_reads}
+use Rattle.tree.proofs.TreeBytesLaws.{encoded_count}
 use Rattle.gaps.specs.Gaps.{gap_from, gap_told}
 use Rattle.gaps.specs.GapsLaws.{told_not, room_to, room_not}
 use Rattle.adding.specs.AddSteps.{add_room}

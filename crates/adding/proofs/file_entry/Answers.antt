@@ -3,8 +3,8 @@ use mathlib.Core.Path.{refl, ap, ◌∙◌}
 use native.Mathlib.Omega.{arith}
 use lib.ListN.{length}
 use Rattle.syntax.specs.Path.{entry_location}
-use Rattle.syntax.specs.PathLaws.{entry_reads}
-use Rattle.syntax.specs.PathTextLaws.{text_begins}
+use Rattle.syntax.proofs.PathLaws.{entry_reads}
+use Rattle.syntax.proofs.PathTextLaws.{text_begins}
 use Rattle.tree.specs.declared.Kind.{Kind}
 use Rattle.gaps.specs.GapsLaws.{last_in_text, last_fits}
 use Rattle.entries.specs.LinkLaws.{at_has_row}

@@ -3,7 +3,7 @@ use mathlib.Core.Path.{ap}
 use native.Mathlib.Omega.{arith}
 use lib.ListN.{length}
 use Rattle.tree.specs.RowAt.{row_at}
-use Rattle.tree.specs.RowAtLaws.{row_content_fits}
+use Rattle.tree.proofs.RowAtLaws.{row_content_fits}
 use Rattle.adding.specs.AddRowLaws.{entry_written}
 use Rattle.adding.proofs.write_entry.Goals as goal
 

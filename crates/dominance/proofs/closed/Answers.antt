@@ -1,7 +1,7 @@
 -- `dominance::closed` meets its contract: each pair in turn is one pair more.
 use Rattle.std.proofs.Common.{arith}
 use Rattle.accounts.specs.PairBytes.{no_pair}
-use Rattle.dominance.specs.ClosingLaws.{rows_begin, rows_grow_on}
+use Rattle.dominance.proofs.ClosingLaws.{rows_begin, rows_grow_on}
 use Rattle.dominance.proofs.closed.Goals as goal
 
 pub loop-i-init : goal.loop-i-init

@@ -7,7 +7,7 @@ use lib.ListN.{replicate}
 use Rattle.buffers.specs.Fields.{all_from}
 use Rattle.accounts.specs.PairBytes.{no_pair}
 use Rattle.dominance.specs.PairsIn.{pairs_in}
-use Rattle.dominance.specs.PairsInLaws.{pair_stored}
+use Rattle.dominance.proofs.PairsInLaws.{pair_stored}
 use Rattle.dominance.proofs.pairs_in.Goals as goal
 
 pub loop-k-init : goal.loop-k-init

@@ -5,7 +5,7 @@ use native.Mathlib.Numerals.{add-one}
 use Rattle.printing.specs.Printed.{in_front}
 use Rattle.printing.specs.PrintedLaws.{printed_fits, printed_text}
 use Rattle.agenda.specs.Agenda.{report_text, refusal}
-use Rattle.agenda.specs.AgendaLaws.{wrong_line_told}
+use Rattle.agenda.proofs.AgendaLaws.{wrong_line_told}
 use borrow.Author.Rules.{rules}
 use Rattle.patterns.proofs.refused.Statement.{statement}
 use Rattle.patterns.proofs.refused.Tie as tie

@@ -11,7 +11,7 @@ use Rattle.agenda.specs.declared.Next.TheVariants as next
 use Rattle.agenda.specs.declared.Step.{Step}
 use Rattle.agenda.specs.declared.Step.TheVariants as step
 use Rattle.agenda.specs.Agenda.{next_of}
-use Rattle.agenda.specs.AgendaLaws.{next_held, next_leads}
+use Rattle.agenda.proofs.AgendaLaws.{next_held, next_leads}
 use Rattle.patterns.specs.Buffers.{Buffers, lent, with_window, Ready, lines_at, Countable}
 use Rattle.patterns.specs.Turns.{Turns, Does}
 use borrow.Author.Rules.{rules}

@@ -1,6 +1,6 @@
 -- `stored_header::put_directory` meets its contract: the header is lent, and the tree stays behind what is left of it.
 use mathlib.Core.Path.{sym}
-use Rattle.syntax.specs.ParentLaws.{text_of_path}
+use Rattle.syntax.proofs.ParentLaws.{text_of_path}
 use Rattle.stored_header.specs.StoredLaws.{long_enough, header_length, lent_headed, path_told, directory_bytes}
 use Rattle.stored_header.proofs.put_directory.Goals as goal
 

@@ -10,7 +10,7 @@ use lib.ListN.{length, take, drop, set, get_or, length-set, drop_of_length-le}
 use lib.Seq.{take-suc-set, drop-set-lt, drop-cons, take_all}
 use borrow.Author.Rules.{rules}
 use Rattle.accounts.specs.Closure.{grown_row, grown_rows}
-use Rattle.accounts.specs.ClosureLaws.{none_grown}
+use Rattle.accounts.proofs.ClosureLaws.{none_grown}
 use Rattle.accounts.proofs.Dominance.with.Goals as goal
 
 -- one row more is grown

@@ -4,7 +4,7 @@ use Prim.Native.Nat.{◌+◌}
 use native.Mathlib.Omega.{arith}
 use lib.ListN.{drop}
 use Rattle.syntax.specs.Pieces.{newline, piece_length}
-use Rattle.agenda.specs.InputLinesLaws.{line_ends, line_is_last, line_is_none, line_goes_on}
+use Rattle.agenda.proofs.InputLinesLaws.{line_ends, line_is_last, line_is_none, line_goes_on}
 use Rattle.agenda.proofs.input.next_line.Goals as goal
 
 pub piece_end-end-requires : goal.piece_end-end-requires

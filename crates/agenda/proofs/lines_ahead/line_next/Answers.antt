@@ -5,7 +5,7 @@ use native.Mathlib.Numerals.{add-one}
 use lib.Seq.{length-take-le}
 use Rattle.agenda.specs.declared.NextLine.TheVariants.{Line, Last, More, Nothing}
 use Rattle.agenda.specs.declared.Next.TheVariants.{On}
-use Rattle.agenda.specs.AgendaLaws.{line_within, line_found}
+use Rattle.agenda.proofs.AgendaLaws.{line_within, line_found}
 use Rattle.agenda.specs.Agenda.{lines_from, taken, found_line}
 use Rattle.agenda.proofs.lines_ahead.line_next.Goals as goal
 

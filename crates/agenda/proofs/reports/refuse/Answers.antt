@@ -1,5 +1,5 @@
 -- `agenda::reports::refuse` meets its contract: it is the reply of a wrong line.
-use Rattle.agenda.specs.AgendaLaws.{wrong_line_told}
+use Rattle.agenda.proofs.AgendaLaws.{wrong_line_told}
 use Rattle.agenda.proofs.reports.refuse.Goals as goal
 
 pub returns : goal.returns

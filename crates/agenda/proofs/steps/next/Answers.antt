@@ -1,7 +1,7 @@
 -- `agenda::steps::next` meets its contract: each phase has its function.
 use mathlib.Core.Path.{◌∙◌}
 use Rattle.agenda.specs.declared.Phase.TheVariants.{Setup, Lines, Listing}
-use Rattle.agenda.specs.AgendaLaws.{in_phase}
+use Rattle.agenda.proofs.AgendaLaws.{in_phase}
 use Rattle.agenda.specs.Agenda.{by_phase}
 use Rattle.agenda.proofs.steps.next.Goals as goal
 

@@ -3,7 +3,7 @@ use mathlib.Core.Path.{◌∙◌, sym}
 use lib.Seq.{length-take-le}
 use Rattle.agenda.specs.declared.NextLine.TheVariants.{Line, Last, More, Nothing}
 use Rattle.agenda.specs.Agenda.{found_setup_line}
-use Rattle.agenda.specs.AgendaLaws.{setup_line_found}
+use Rattle.agenda.proofs.AgendaLaws.{setup_line_found}
 use Rattle.agenda.proofs.steps.setup_next.Goals as goal
 
 pub slice_bounds-next_line-end : goal.slice_bounds-next_line-end

@@ -1,7 +1,7 @@
 -- `attributes::checks::fits_mode` meets its contract: by the kinds.
 use mathlib.Core.Path.{ap}
 use mathlib.Core.Bool.{not}
-use Rattle.tree.specs.JudgeLaws.{file_is_none, directory_is_one}
+use Rattle.tree.proofs.JudgeLaws.{file_is_none, directory_is_one}
 use Rattle.attributes.proofs.checks.fits_mode.Goals as goal
 
 pub returns-in-File : goal.returns-in-File

@@ -1,6 +1,6 @@
 -- `attributes::checks::may_do` meets its contract: where the walk came to, the tests of the row decide.
 use native.Mathlib.Omega.{arith}
-use Rattle.tree.specs.TreeBytesLaws.{has_row}
+use Rattle.tree.proofs.TreeBytesLaws.{has_row}
 use Rattle.walks.specs.RowWalkLaws.{walk_came}
 use Rattle.attributes.specs.ChecksLaws.{tested, not_walked}
 use Rattle.attributes.proofs.checks.may_do.Goals as goal

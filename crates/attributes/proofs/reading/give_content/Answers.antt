@@ -2,7 +2,7 @@
 use native.Mathlib.Omega.{arith}
 use mathlib.Core.Path.{refl, ◌∙◌, ap}
 use lib.ListN.{length}
-use Rattle.tree.specs.RowAtLaws.{row_content_fits}
+use Rattle.tree.proofs.RowAtLaws.{row_content_fits}
 use Rattle.attributes.specs.ChecksLaws.{front_written, answers_with}
 use Rattle.attributes.proofs.reading.give_content.Goals as goal
 

@@ -1,6 +1,6 @@
 -- `checkout::command::co` meets its contract: what is left at the site that is found are the command's steps, and a refusal is theirs.
 use mathlib.Core.Path.{refl}
-use Rattle.shell.specs.CommandBytesLaws.{refusal_follows}
+use Rattle.shell.proofs.CommandBytesLaws.{refusal_follows}
 use Rattle.checkout.specs.Checkout.{copier}
 use Rattle.checkout.specs.CheckoutLaws.{site_of, missed_of, site_follows}
 use Rattle.checkout.proofs.command.co.Goals as goal

@@ -1,6 +1,6 @@
 -- `checkout::command::co_at` meets its contract: the array that is chosen has room for the copies of all rows of the entry.
 use native.Mathlib.Omega.{arith}
-use Rattle.tree.specs.TreeBytesLaws.{at_used, at_end}
+use Rattle.tree.proofs.TreeBytesLaws.{at_used, at_end}
 use Rattle.checkout.proofs.command.co_at.Goals as goal
 
 pub subtree_end-requires : goal.subtree_end-requires

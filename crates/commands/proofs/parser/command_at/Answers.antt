@@ -6,7 +6,7 @@ use lib.ListN.{drop}
 use Rattle.syntax.specs.Pieces.{comma, pieces}
 use Rattle.syntax.specs.Parts.{span_text}
 use Rattle.line_fields.specs.FieldsRead.{given}
-use Rattle.line_fields.specs.FieldsReadLaws.{few_pieces, many_pieces, fields_inside}
+use Rattle.line_fields.proofs.FieldsReadLaws.{few_pieces, many_pieces, fields_inside}
 use Rattle.commands.specs.Command.{TypedCommand}
 use Rattle.commands.specs.Parsed.{line_with}
 use Rattle.commands.specs.WordsLaws.{finds_form}

@@ -7,7 +7,7 @@ use lib.ListN.{drop, length}
 use Rattle.buffers.specs.Text.{Text}
 use Rattle.syntax.specs.Pieces.{comma, pieces}
 use Rattle.syntax.specs.Parts.{part, span_text, number_of}
-use Rattle.syntax.specs.FieldPartsLaws.{FieldAt, field_is, field_goes_on, field_inside, last_piece, next_field}
+use Rattle.syntax.proofs.FieldPartsLaws.{FieldAt, field_is, field_goes_on, field_inside, last_piece, next_field}
 use Rattle.commands.specs.ParsedLaws.{uid_not_read, one_field_line, line_no_caller, line_found}
 use Rattle.commands.proofs.parser.parse.Goals as goal
 use Rattle.commands.proofs.parser.parse.Goals.{After-span}

@@ -2,8 +2,8 @@
 use Rattle.std.proofs.Common.{◌<◌, sym, ◌∙◌, arith}
 use Rattle.tree.specs.RowScan.{end_of_subtree}
 use Rattle.tree.specs.RowAt.{row_count, all_rows}
-use Rattle.copying.specs.CopyRowLaws.{end_above}
-use Rattle.copying.specs.CopyJobLaws.{node_held, node_room, node_low, node_spelled, node_skipped, node_children, node_written, no_level, turn_start, turn_end, turn_job, turn_again}
+use Rattle.copying.proofs.CopyRowLaws.{end_above}
+use Rattle.copying.proofs.CopyJobLaws.{node_held, node_room, node_low, node_spelled, node_skipped, node_children, node_written, no_level, turn_start, turn_end, turn_job, turn_again}
 use Rattle.copying.proofs.copies.+copy_children_copy_node.Goals as goal
 
 pub copy_children-returns-then-left-eq0 : goal.copy_children-returns-then-left-eq0

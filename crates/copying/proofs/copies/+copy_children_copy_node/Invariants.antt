@@ -1,6 +1,6 @@
 use Rattle.std.proofs.Common.{◌-◌, ◌+◌}
 use Rattle.copying.specs.CopyRows.{children, Job}
-use Rattle.copying.specs.CopyJobLaws.{Turn}
+use Rattle.copying.proofs.CopyJobLaws.{Turn}
 use Rattle.copying.proofs.copies.+copy_children_copy_node.Given as goal
 
 -- the levels left fall: a node's children are copied with as many, a child with one less

@@ -6,7 +6,7 @@ use native.Mathlib.Omega.{arith}
 use lib.ListN.{length, drop, length-drop}
 use lib.Seq.{paste, take_all}
 use Rattle.tree.specs.Layout.{row_width, row_start}
-use Rattle.copying.specs.CopyBytesLaws.{bytes_copied}
+use Rattle.copying.proofs.CopyBytesLaws.{bytes_copied}
 use Rattle.copying.proofs.copies.copy_bytes.Goals as goal
 
 pub returns : goal.returns

@@ -1,6 +1,6 @@
 -- `copying::copies::copy_entry` meets its contract: the entry's own row, then its children below it.
 use mathlib.Core.Path.{◌∙◌}
-use Rattle.copying.specs.CopyEntryLaws.{entry_first, entry_children, entry_written}
+use Rattle.copying.proofs.CopyEntryLaws.{entry_first, entry_children, entry_written}
 use Rattle.copying.proofs.copies.copy_entry.Goals as goal
 
 pub copy_first-requires : goal.copy_first-requires

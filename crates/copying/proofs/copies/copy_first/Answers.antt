@@ -4,8 +4,8 @@ use native.Mathlib.Omega.{arith}
 use Rattle.tree.specs.Rows.{Row}
 use Rattle.tree.specs.Node.{Node}
 use Rattle.copying.specs.CopyRows.{row_put, tagged_row, first_row}
-use Rattle.copying.specs.CopyBytesLaws.{first_copied}
-use Rattle.copying.specs.CopyEntryLaws.{entry_held, entry_path_fits, entry_row}
+use Rattle.copying.proofs.CopyBytesLaws.{first_copied}
+use Rattle.copying.proofs.CopyEntryLaws.{entry_held, entry_path_fits, entry_row}
 use Rattle.copying.proofs.copies.copy_first.Goals as goal
 
 pub hand_over-requires : goal.hand_over-requires

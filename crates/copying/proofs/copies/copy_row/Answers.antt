@@ -5,7 +5,7 @@ use native.Mathlib.Omega.{arith}
 use native.Mathlib.Numerals.{add-one}
 use Rattle.tree.specs.RowAt.{row_at}
 use Rattle.copying.specs.CopyRows.{row_put, child_entry, tagged_row}
-use Rattle.copying.specs.CopyBytesLaws.{tag_room, child_copied}
+use Rattle.copying.proofs.CopyBytesLaws.{tag_room, child_copied}
 use Rattle.copying.proofs.copies.copy_row.Goals as goal
 
 pub set_tag_below-requires : goal.set_tag_below-requires

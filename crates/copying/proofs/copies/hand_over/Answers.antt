@@ -1,6 +1,6 @@
 -- `copying::copies::hand_over` meets its contract: the row of the original, and its head written over.
 use mathlib.Core.Path.{refl}
-use Rattle.copying.specs.CopyBytesLaws.{head_copied}
+use Rattle.copying.proofs.CopyBytesLaws.{head_copied}
 use Rattle.copying.proofs.copies.hand_over.Goals as goal
 
 pub returns : goal.returns

@@ -5,7 +5,7 @@ use native.Mathlib.Omega.{arith}
 use native.Mathlib.Nat.{sub-zero}
 use Rattle.tree.specs.Forest.{larger}
 use Rattle.copying.specs.CopyRows.{deepest_from}
-use Rattle.copying.specs.DepthLaws.{deepest_again, deepest_done}
+use Rattle.copying.proofs.DepthLaws.{deepest_again, deepest_done}
 use Rattle.copying.proofs.depths.deepest_copy.Goals as goal
 
 pub loop-i-init : goal.loop-i-init

@@ -1,6 +1,6 @@
 -- `directory_commits::below::end_in` meets its contract: in the tree that is lent the rows of a place end behind all below it.
 use mathlib.Core.Path.{◌∙◌}
-use Rattle.tree.specs.TreeBytesLaws.{at_used, at_end}
+use Rattle.tree.proofs.TreeBytesLaws.{at_used, at_end}
 use Rattle.directory_commits.specs.StepsLaws.{place_long, lent_at}
 use borrow.Author.Rules.{rules}
 use Rattle.directory_commits.proofs.below.end_in.Goals as goal

@@ -1,7 +1,7 @@
 -- `directory_commits::row::row_after` meets its contract: the next row for a file and for a directory that may be read, else where its rows end.
 use mathlib.Core.Path.{sym, ◌∙◌}
 use native.Mathlib.Omega.{arith}
-use Rattle.tree.specs.TreeBytesLaws.{at_used}
+use Rattle.tree.proofs.TreeBytesLaws.{at_used}
 use Rattle.entries.specs.LinkLaws.{at_has_row}
 use Rattle.directory_commits.specs.StepsLaws.{file_row_after, next_row, row_passed}
 use Rattle.directory_commits.proofs.row.row_after.Goals as goal

@@ -1,7 +1,7 @@
 -- `entries::filing::bring_up` meets its contract: its two writes are those of the law.
 use mathlib.Core.Path.{ap, ◌∙◌}
 use Rattle.tree.specs.Node.{Node}
-use Rattle.tree.specs.TreeBytesLaws.{at_here}
+use Rattle.tree.proofs.TreeBytesLaws.{at_here}
 use Rattle.entries.specs.LinkLaws.{at_has_row, has_still, up_law}
 use Rattle.entries.proofs.filing.bring_up.Goals as goal
 

@@ -3,8 +3,8 @@ use mathlib.Core.Path.{ap, ◌∙◌}
 use Prim.Native.Nat.{◌+◌}
 use native.Mathlib.Omega.{arith}
 use Rattle.tree.specs.Node.{Node}
-use Rattle.tree.specs.NodeLaws.{last_revision_is}
-use Rattle.tree.specs.TreeBytesLaws.{at_here}
+use Rattle.tree.proofs.NodeLaws.{last_revision_is}
+use Rattle.tree.proofs.TreeBytesLaws.{at_here}
 use Rattle.entries.specs.LinkLaws.{at_has_row, has_still, commit_law}
 use Rattle.entries.proofs.filing.file_content.Goals as goal
 

@@ -2,7 +2,7 @@
 use mathlib.Core.Path.{sym, ◌∙◌}
 use borrow.Author.Tests.{eq-eqb, ne_eqb}
 use Rattle.buffers.specs.Cases.{answers_false, answers_true}
-use Rattle.tree.specs.NodeLaws.{last_revision_is}
+use Rattle.tree.proofs.NodeLaws.{last_revision_is}
 use Rattle.tree.specs.RowAt.{row_at, tag_number_at}
 use Rattle.entries.specs.EntrySteps.{three_rows, links_told}
 use Rattle.entries.specs.TestsLaws.{commit_shut, commit_stale, commit_spent, commit_open}

@@ -1,6 +1,6 @@
 -- `entries::filing::up` meets its contract: the rows it acts on are those that the steps lead to, and a refusal leaves all.
 use Rattle.accounts.specs.declared.Right.TheVariants.{W}
-use Rattle.shell.specs.CommandBytesLaws.{refusal_follows, silence_follows}
+use Rattle.shell.proofs.CommandBytesLaws.{refusal_follows, silence_follows}
 use Rattle.entries.specs.EntrySteps.{link, after_up}
 use Rattle.entries.specs.LinkLaws.{links_to, links_not, link_linked}
 use Rattle.entries.specs.EntryStepsLaws.{comes_to, comes_not}

@@ -1,6 +1,6 @@
 -- `entries::removal::del` meets its contract: the row it takes out is that of the entry that the steps lead to, and a refusal leaves all.
 use mathlib.Core.Path.{◌∙◌}
-use Rattle.shell.specs.CommandBytesLaws.{refusal_follows, silence_follows}
+use Rattle.shell.proofs.CommandBytesLaws.{refusal_follows, silence_follows}
 use Rattle.entries.specs.EntrySteps.{del_walk, after_del}
 use Rattle.entries.specs.RemovalLaws.{del_to, del_not, del_row, del_law}
 use Rattle.entries.specs.EntryStepsLaws.{comes_to, comes_not}

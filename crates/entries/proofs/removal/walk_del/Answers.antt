@@ -1,7 +1,7 @@
 -- `entries::removal::walk_del` meets its contract: the tests at the row that the walk came to are those at its place.
 use mathlib.Core.Path.{◌∙◌}
-use Rattle.syntax.specs.PathLaws.{entry_reads}
-use Rattle.tree.specs.TreeBytesLaws.{at_used}
+use Rattle.syntax.proofs.PathLaws.{entry_reads}
+use Rattle.tree.proofs.TreeBytesLaws.{at_used}
 use Rattle.walks.specs.RowWalkLaws.{outcome_refused}
 use Rattle.walks.specs.WalkBytesLaws.{walk_to, walk_not}
 use Rattle.entries.specs.LinkLaws.{at_has_row}

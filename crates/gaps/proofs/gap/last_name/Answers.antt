@@ -5,7 +5,7 @@ use native.Mathlib.Omega.{arith}
 use lib.ListN.{length, drop, length-drop}
 use lib.Seq.{take_all}
 use Rattle.syntax.specs.Parts.{last_slash}
-use Rattle.syntax.specs.ParentLaws.{last_slash_less}
+use Rattle.syntax.proofs.ParentLaws.{last_slash_less}
 use Rattle.gaps.specs.Gaps.{behind_slash}
 use Rattle.gaps.proofs.gap.last_name.Goals as goal
 

@@ -2,7 +2,7 @@
 use mathlib.Core.Path.{sym, ◌∙◌}
 use native.Mathlib.Omega.{arith}
 use Rattle.buffers.specs.Cases.{answers_false, answers_true}
-use Rattle.tree.specs.TreeBytesLaws.{at_used}
+use Rattle.tree.proofs.TreeBytesLaws.{at_used}
 use Rattle.gaps.specs.GapsLaws.{place_row, place_depth, gap_used, gap_shut, gap_open, told_refused, told_gap}
 use Rattle.gaps.proofs.gap.room_below.Goals as goal
 

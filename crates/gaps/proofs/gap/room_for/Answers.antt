@@ -2,7 +2,7 @@
 use mathlib.Core.Path.{sym, ap, ◌∙◌}
 use Rattle.buffers.specs.Text.{Text}
 use Rattle.syntax.specs.Path.{parent}
-use Rattle.syntax.specs.PathTextLaws.{top_by_length, below_by_length, text_begins}
+use Rattle.syntax.proofs.PathTextLaws.{top_by_length, below_by_length, text_begins}
 use Rattle.tree.specs.Walk.{by_modes, room}
 use Rattle.walks.specs.WalkBytesLaws.{parent_walk_to, parent_walk_not}
 use Rattle.gaps.specs.Gaps.{gap_below}

@@ -1,7 +1,7 @@
 -- `gaps::group::new_group` meets its contract: the directory's mode says whether it has set-gid.
 use mathlib.Core.Path.{sym, ◌∙◌, ap}
 use Rattle.syntax.specs.Number.{set_gid}
-use Rattle.tree.specs.NodeLaws.{group_given, group_primary}
+use Rattle.tree.proofs.NodeLaws.{group_given, group_primary}
 use Rattle.tree.specs.RowAt.{row_at}
 use Rattle.gaps.proofs.group.new_group.Goals as goal
 

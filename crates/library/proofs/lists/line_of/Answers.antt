@@ -1,7 +1,7 @@
 -- `library::lists::line_of` meets its contract: line n is row n, and past the last row there is none.
 use native.Mathlib.Omega.{arith}
-use Rattle.tree.specs.TreeBytesLaws.{encoded_count}
-use Rattle.listing.specs.ListingLaws.{no_line}
+use Rattle.tree.proofs.TreeBytesLaws.{encoded_count}
+use Rattle.listing.proofs.ListingLaws.{no_line}
 use Rattle.library.specs.CallBytesLaws.{refused_call, line_called, no_listed_line}
 use Rattle.library.proofs.lists.line_of.Goals as goal
 

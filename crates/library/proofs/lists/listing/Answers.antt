@@ -1,7 +1,7 @@
 -- `library::lists::listing` meets its contract: the answer buffer's length, then the store, then the line decide.
 use native.Mathlib.Omega.{arith}
 use Rattle.buffers.specs.Cases.{answers_false, answers_true}
-use Rattle.syntax.specs.FormLaws.{the_some}
+use Rattle.syntax.proofs.FormLaws.{the_some}
 use Rattle.store.specs.StoreBytes.{decode}
 use Rattle.library.specs.CallBytesLaws.{listing_short, listing_unsound, listing_sound, tree_part, store_reaches}
 use Rattle.library.proofs.lists.listing.Goals as goal

@@ -2,7 +2,7 @@
 use mathlib.Core.Path.{sym, ◌∙◌, ap, refl, subst}
 use native.Mathlib.Omega.{arith}
 use Rattle.buffers.specs.Cases.{answers_false, answers_true}
-use Rattle.syntax.specs.FormLaws.{the_some}
+use Rattle.syntax.proofs.FormLaws.{the_some}
 use Rattle.commands.specs.Parsed.{parsed, Read_in}
 use Rattle.commands.specs.MeaningLaws.{parsed_none, parsed_line}
 use Rattle.store.specs.StoreBytes.{decode}

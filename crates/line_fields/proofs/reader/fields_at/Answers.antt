@@ -4,7 +4,7 @@ use Rattle.std.proofs.Common.{◌≡◌, ℕ, ◌≤◌, List, length, ◌∙◌
 use Rattle.syntax.specs.declared.Field.{Field}
 use Rattle.syntax.specs.Parts.{field_at}
 use Rattle.line_fields.specs.FieldsRead.{place_after}
-use Rattle.line_fields.specs.FieldsReadLaws.{place_after_inside, read_in_turn}
+use Rattle.line_fields.proofs.FieldsReadLaws.{place_after_inside, read_in_turn}
 use Rattle.line_fields.proofs.reader.fields_at.Goals as goal
 
 -- behind a field the reader of the line l stands inside it

@@ -12,7 +12,7 @@ use Rattle.buffers.specs.Text.{Text}
 use Rattle.syntax.specs.Pieces.{comma, pieces}
 use Rattle.line_fields.specs.declared.Fields.{Fields}
 use Rattle.line_fields.specs.FieldsRead.{argument_texts, fields_read, FieldsInside}
-use Rattle.line_fields.specs.FieldsReadLaws.{few_pieces, counted_pieces, many_pieces, fields_inside}
+use Rattle.line_fields.proofs.FieldsReadLaws.{few_pieces, counted_pieces, many_pieces, fields_inside}
 use Rattle.lines.specs.declared.SetupLine.TheVariants.{Wrong}
 use Rattle.lines.specs.SetupLines.{setup_line}
 use Rattle.lines.specs.Line.{line_told}

@@ -2,7 +2,7 @@
 use mathlib.Core.Path.{◌≡◌, ap, ◌∙◌}
 use mathlib.Core.List.{[], ◌∷◌}
 use Rattle.buffers.specs.Cases.{answers_true, answers_false}
-use Rattle.syntax.specs.PartsLaws.{inside_text}
+use Rattle.syntax.proofs.PartsLaws.{inside_text}
 use Rattle.lines.specs.declared.LineKind.TheVariants.{L}
 use Rattle.syntax.specs.Form.{◌>>=◌}
 use Rattle.syntax.specs.Parts.{span_text}

@@ -5,8 +5,8 @@ use Prim.Native.Nat.{◌+◌}
 use lib.ListN.{set, length-set}
 use Rattle.buffers.specs.OverLaws.{wrote_byte, wrote_both}
 use Rattle.syntax.specs.Pieces.{comma}
-use Rattle.syntax.specs.NumberLaws.{decimal_length}
-use Rattle.syntax.specs.RenderLaws.{wrote_decimal_ends}
+use Rattle.syntax.proofs.NumberLaws.{decimal_length}
+use Rattle.syntax.proofs.RenderLaws.{wrote_decimal_ends}
 use Rattle.listing.proofs.fields.write_decimal_field.Goals as goal
 
 pub write_decimal-requires : goal.write_decimal-requires

@@ -5,9 +5,9 @@ use native.Mathlib.Omega.{arith}
 use lib.ListN.{length}
 use Rattle.buffers.specs.Text.{Text}
 use Rattle.syntax.specs.Pieces.{comma}
-use Rattle.tree.specs.RowAtLaws.{row_content_fits}
+use Rattle.tree.proofs.RowAtLaws.{row_content_fits}
 use Rattle.listing.specs.RowListing.{fields_at}
-use Rattle.listing.specs.RowListingLaws.{writes_as, writes_both, writes_behind}
+use Rattle.listing.proofs.RowListingLaws.{writes_as, writes_both, writes_behind}
 use Rattle.tree.specs.Layout.{content_width}
 use Rattle.listing.proofs.fields.write_fields.Goals as goal
 

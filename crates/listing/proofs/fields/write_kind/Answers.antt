@@ -5,7 +5,7 @@ use native.Mathlib.Omega.{arith}
 use Rattle.syntax.specs.Pieces.{bytes, comma}
 use Rattle.tree.specs.declared.Kind.{Kind}
 use Rattle.listing.specs.Listing.{kind_text}
-use Rattle.listing.specs.RowListingLaws.{writes_as}
+use Rattle.listing.proofs.RowListingLaws.{writes_as}
 use Rattle.listing.proofs.fields.write_kind.Goals as goal
 
 pub returns-in-File : goal.returns-in-File

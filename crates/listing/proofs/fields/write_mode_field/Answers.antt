@@ -4,7 +4,7 @@ use native.Mathlib.Omega.{arith}
 use lib.ListN.{length-set}
 use Rattle.buffers.specs.OverLaws.{wrote_byte, wrote_both}
 use Rattle.syntax.specs.Pieces.{comma}
-use Rattle.syntax.specs.NumberLaws.{mode_length}
+use Rattle.syntax.proofs.NumberLaws.{mode_length}
 use Rattle.listing.proofs.fields.write_mode_field.Goals as goal
 
 pub write_mode-requires : goal.write_mode-requires

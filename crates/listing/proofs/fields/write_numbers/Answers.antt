@@ -6,7 +6,7 @@ use native.Mathlib.Omega.{arith}
 use Rattle.syntax.specs.Pieces.{comma}
 use Rattle.syntax.specs.Number.{decimal_text, mode_text}
 use Rattle.listing.specs.RowListing.{number_fields}
-use Rattle.listing.specs.RowListingLaws.{writes_as, writes_both}
+use Rattle.listing.proofs.RowListingLaws.{writes_as, writes_both}
 use Rattle.listing.proofs.fields.write_numbers.Goals as goal
 
 pub returns : goal.returns

@@ -8,7 +8,7 @@ use Rattle.accounts.specs.declared.Gid.{Gid}
 use Rattle.syntax.specs.Pieces.{comma}
 use Rattle.syntax.specs.Number.{decimal_text}
 use Rattle.listing.specs.RowListing.{owner_fields}
-use Rattle.listing.specs.RowListingLaws.{writes_as, writes_both}
+use Rattle.listing.proofs.RowListingLaws.{writes_as, writes_both}
 use Rattle.listing.proofs.fields.write_owners.Goals as goal
 
 pub returns : goal.returns

@@ -7,9 +7,9 @@ use lib.ListN.{length}
 use Rattle.buffers.specs.Text.{Text}
 use Rattle.syntax.specs.Pieces.{comma}
 use Rattle.syntax.specs.Number.{decimal_text}
-use Rattle.tree.specs.RowAtLaws.{row_tag_fits}
+use Rattle.tree.proofs.RowAtLaws.{row_tag_fits}
 use Rattle.listing.specs.RowListing.{or_dash, tag_fields_at}
-use Rattle.listing.specs.RowListingLaws.{writes_as, writes_both}
+use Rattle.listing.proofs.RowListingLaws.{writes_as, writes_both}
 use Rattle.listing.proofs.fields.write_tag.Goals as goal
 
 pub write_tag_path-end-requires : goal.write_tag_path-end-requires

@@ -4,7 +4,7 @@ use mathlib.Core.List.{◌∷◌}
 use native.Mathlib.Omega.{arith}
 use Rattle.buffers.specs.Text.{Text}
 use Rattle.syntax.specs.Pieces.{comma}
-use Rattle.listing.specs.RowListingLaws.{writes_as, dash_none, dash_there}
+use Rattle.listing.proofs.RowListingLaws.{writes_as, dash_none, dash_there}
 use Rattle.listing.proofs.fields.write_tag_path.Goals as goal
 
 pub returns-then-path-eq0 : goal.returns-then-path-eq0

@@ -1,7 +1,7 @@
 -- `listing::line::write_line` meets its contract: the path and the fields behind it are the line of the row.
 use native.Mathlib.Omega.{arith}
 use Rattle.buffers.specs.OverLaws.{wrote_both}
-use Rattle.listing.specs.RowListingLaws.{whole_row, line_wrote}
+use Rattle.listing.proofs.RowListingLaws.{whole_row, line_wrote}
 use Rattle.listing.proofs.line.write_line.Goals as goal
 
 pub write_fields-requires : goal.write_fields-requires

@@ -2,9 +2,9 @@
 use mathlib.Core.Path.{◌≡◌, refl}
 use native.Mathlib.Omega.{arith}
 use Prim.Native.Nat.{◌+◌}
-use Rattle.tree.specs.TreeBytesLaws.{encoded_depth}
+use Rattle.tree.proofs.TreeBytesLaws.{encoded_depth}
 use Rattle.listing.specs.RowListing.{last_among}
-use Rattle.listing.specs.RowListingLaws.{whole_row, last_next}
+use Rattle.listing.proofs.RowListingLaws.{whole_row, last_next}
 use Rattle.listing.proofs.path.last_rows.Goals as goal
 
 pub loop-i-init : goal.loop-i-init

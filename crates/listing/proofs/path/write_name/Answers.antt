@@ -4,8 +4,8 @@ use mathlib.Core.List.{◌∷◌}
 use native.Mathlib.Omega.{arith}
 use lib.ListN.{length}
 use Rattle.buffers.specs.Text.{Text}
-use Rattle.tree.specs.RowAtLaws.{row_name_fits}
-use Rattle.listing.specs.RowListingLaws.{writes_as, writes_behind}
+use Rattle.tree.proofs.RowAtLaws.{row_name_fits}
+use Rattle.listing.proofs.RowListingLaws.{writes_as, writes_behind}
 use Rattle.listing.proofs.path.write_name.Goals as goal
 
 pub write_behind-requires : goal.write_behind-requires

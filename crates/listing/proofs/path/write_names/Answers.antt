@@ -6,7 +6,7 @@ use Prim.Native.Nat.{ℕ, ◌≤◌, ◌<◌, ◌+◌, ◌*◌}
 use lib.ListN.{length}
 use Rattle.buffers.specs.OverLaws.{wrote_nothing, wrote_both}
 use Rattle.listing.specs.RowListing.{names_told, WroteMost}
-use Rattle.listing.specs.RowListingLaws.{names_none, names_more}
+use Rattle.listing.proofs.RowListingLaws.{names_none, names_more}
 use Rattle.listing.proofs.path.write_names.Invariants.{Going}
 use Rattle.listing.proofs.path.write_names.Goals as goal
 

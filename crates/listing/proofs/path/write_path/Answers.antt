@@ -3,9 +3,9 @@ use mathlib.Core.Path.{sym, ap, ◌∙◌}
 use native.Mathlib.Omega.{arith}
 use Rattle.buffers.specs.OverLaws.{wrote_byte}
 use Rattle.syntax.specs.Path.{path_text}
-use Rattle.tree.specs.TreeBytesLaws.{encoded_depth}
+use Rattle.tree.proofs.TreeBytesLaws.{encoded_depth}
 use Rattle.listing.specs.RowListing.{names_told}
-use Rattle.listing.specs.RowListingLaws.{top_path, told_path, last_told, path_of_names, writes_as}
+use Rattle.listing.proofs.RowListingLaws.{top_path, told_path, last_told, path_of_names, writes_as}
 use Rattle.listing.proofs.path.write_path.Goals as goal
 
 pub returns-then-depth-eq0 : goal.returns-then-depth-eq0

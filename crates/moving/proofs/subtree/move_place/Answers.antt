@@ -1,6 +1,6 @@
 -- `moving::subtree::move_place` meets its contract: the array that is chosen has room for the rows of the place.
 use native.Mathlib.Omega.{arith}
-use Rattle.tree.specs.TreeBytesLaws.{at_used}
+use Rattle.tree.proofs.TreeBytesLaws.{at_used}
 use Rattle.moving.specs.MovingLaws.{movable_span}
 use Rattle.moving.proofs.subtree.move_place.Goals as goal
 

@@ -5,9 +5,9 @@ use native.Mathlib.Omega.{arith}
 use lib.ListN.{length}
 use Rattle.buffers.specs.Text.{Text}
 use Rattle.syntax.specs.Path.{depth}
-use Rattle.syntax.specs.PathTextLaws.{text_begins}
-use Rattle.tree.specs.ResultLaws.{not_done}
-use Rattle.tree.specs.TreeBytesLaws.{encoded_count}
+use Rattle.syntax.proofs.PathTextLaws.{text_begins}
+use Rattle.tree.proofs.ResultLaws.{not_done}
+use Rattle.tree.proofs.TreeBytesLaws.{encoded_count}
 use Rattle.edits.specs.Changes.{rows_put}
 use Rattle.gaps.specs.Gaps.{Gap}
 use Rattle.gaps.specs.GapsLaws.{last_in_text, last_fits, room_to, room_gap, room_not, stands_insertable}

@@ -2,9 +2,9 @@
 use mathlib.Core.Path.{◌∙◌, ap, refl}
 use native.Mathlib.Omega.{arith}
 use lib.ListN.{length}
-use Rattle.syntax.specs.PathTextLaws.{text_begins}
+use Rattle.syntax.proofs.PathTextLaws.{text_begins}
 use Rattle.gaps.specs.GapsLaws.{last_in_text, last_fits, place_row, stands_insertable}
-use Rattle.shell.specs.CommandBytesLaws.{refusal_follows, silence_follows}
+use Rattle.shell.proofs.CommandBytesLaws.{refusal_follows, silence_follows}
 use Rattle.nodes.specs.NodeChecksLaws.{create_refused, create_done, making_stands, making_not}
 use Rattle.nodes.specs.NodeChangesLaws.{create_law}
 use Rattle.nodes.proofs.making.create.Goals as goal

@@ -1,7 +1,7 @@
 -- `nodes::making::may_create` meets its contract: no room, 256 nodes, or the room.
 use mathlib.Core.Path.{sym, ◌∙◌, ap}
 use native.Mathlib.Omega.{arith}
-use Rattle.tree.specs.TreeBytesLaws.{encoded_count}
+use Rattle.tree.proofs.TreeBytesLaws.{encoded_count}
 use Rattle.gaps.specs.Gaps.{gap_from, gap_told}
 use Rattle.gaps.specs.GapsLaws.{told_not, room_to, room_not}
 use Rattle.nodes.specs.NodeChecks.{may_create}

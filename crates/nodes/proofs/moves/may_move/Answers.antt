@@ -3,14 +3,14 @@ use mathlib.Core.Path.{◌≡◌, sym, ◌∙◌, ap}
 use mathlib.Core.Option.{some}
 use mathlib.Core.Bool.{false}
 use Rattle.syntax.specs.Path.{Path, parent, path, reserved}
-use Rattle.syntax.specs.PathTextLaws.{text_begins, same_by_text}
+use Rattle.syntax.proofs.PathTextLaws.{text_begins, same_by_text}
 use Rattle.tree.specs.Forest.{Place}
 use Rattle.tree.specs.Node.{Node}
 use Rattle.tree.specs.Walk.{by_modes, walk, parent_walk}
 use Rattle.tree.specs.RowScan.{child_in}
 use Rattle.tree.specs.RowAt.{all_rows}
 use Rattle.tree.specs.TreeBytes.{Encodes}
-use Rattle.tree.specs.TreeBytesLaws.{at_used, at_found, at_missing}
+use Rattle.tree.proofs.TreeBytesLaws.{at_used, at_found, at_missing}
 use Rattle.walks.specs.WalkBytes.{Came}
 use Rattle.walks.specs.WalkBytesLaws.{walk_to, walk_not, parent_walk_to, parent_walk_not}
 use Rattle.gaps.specs.GapsLaws.{last_in_text, place_row}

@@ -5,7 +5,7 @@ use Prim.Native.Nat.{ℕ}
 use Rattle.tree.specs.Encoding.{encode_tree}
 use Rattle.edits.specs.Changes.{rows_taken}
 use Rattle.gaps.specs.GapsLaws.{place_row}
-use Rattle.shell.specs.CommandBytesLaws.{refusal_follows, silence_follows}
+use Rattle.shell.proofs.CommandBytesLaws.{refusal_follows, silence_follows}
 use Rattle.nodes.specs.MoveChecksLaws.{mv_refused, mv_done, moving_passed, told_refused, told_itself, found_into, found_onto}
 use Rattle.nodes.specs.NodeChangesLaws.{movable, movable_moves, copied_row, replace_law, still_law}
 use Rattle.nodes.proofs.moves.mv.Goals as goal

@@ -4,7 +4,7 @@ use mathlib.Core.Bool.{not}
 use Rattle.tree.specs.declared.Kind.{Kind}
 use Rattle.tree.specs.declared.Kind.TheVariants.{File, Directory}
 use Rattle.tree.specs.Node.{is_directory, same_kind}
-use Rattle.tree.specs.JudgeLaws.{file_is_none, directory_is_one, kind_of_file, kind_of_directory}
+use Rattle.tree.proofs.JudgeLaws.{file_is_none, directory_is_one, kind_of_file, kind_of_directory}
 use Rattle.nodes.proofs.removing.is_of_kind.Goals as goal
 
 asked-file : {j : Kind} (k : Kind) {i : Kind} → j ≡ File → i ≡ k → same_kind i j ≡ not (is_directory k)

@@ -1,6 +1,6 @@
 -- `nodes::removing::may_remove` meets its contract: a reserved path, a refused walk, or the checks where the walk came to.
 use mathlib.Core.Path.{sym, ◌∙◌}
-use Rattle.tree.specs.TreeBytesLaws.{at_used}
+use Rattle.tree.proofs.TreeBytesLaws.{at_used}
 use Rattle.walks.specs.WalkBytesLaws.{walk_to, walk_not}
 use Rattle.gaps.specs.GapsLaws.{place_row}
 use Rattle.nodes.specs.NodeChecks.{may_remove}

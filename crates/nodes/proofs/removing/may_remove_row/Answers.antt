@@ -1,7 +1,7 @@
 -- `nodes::removing::may_remove_row` meets its contract: one law of the checks for each return.
 use mathlib.Core.Path.{sym, ◌∙◌}
 use Rattle.buffers.specs.Cases.{answers_false, answers_true}
-use Rattle.tree.specs.TreeBytesLaws.{used_row}
+use Rattle.tree.proofs.TreeBytesLaws.{used_row}
 use Rattle.nodes.specs.NodeChecksLaws.{removal_kind, removal_shut, removal_full, removal_done, refusal_told, spot_told}
 use Rattle.nodes.proofs.removing.may_remove_row.Goals as goal
 

@@ -1,7 +1,7 @@
 -- `nodes::removing::rm` meets its contract: what the checks refuse stays, and what they pass is taken out with its one row.
 use mathlib.Core.Path.{◌∙◌, refl}
 use Rattle.walks.specs.WalkBytesLaws.{came_not}
-use Rattle.shell.specs.CommandBytesLaws.{refusal_follows, silence_follows}
+use Rattle.shell.proofs.CommandBytesLaws.{refusal_follows, silence_follows}
 use Rattle.nodes.specs.NodeChecks.{may_remove}
 use Rattle.nodes.specs.NodeChecksLaws.{rm_refused, rm_done, removing_passed, removing_came}
 use Rattle.nodes.specs.NodeChangesLaws.{rm_row, rm_law}

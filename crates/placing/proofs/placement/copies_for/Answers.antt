@@ -1,6 +1,6 @@
 -- `placing::placement::copies_for` meets its contract: the copies are those of the checkout, and each answer is what the steps make of them.
 use native.Mathlib.Omega.{arith}
-use Rattle.placing.specs.PlacingJobLaws.{job_row, job_text, job_name, job_low, checkout_job, copies_lie, copies_few, copies_fit, copies_too_deep, copies_too_many, copies_ready}
+use Rattle.placing.proofs.PlacingJobLaws.{job_row, job_text, job_name, job_low, checkout_job, copies_lie, copies_few, copies_fit, copies_too_deep, copies_too_many, copies_ready}
 use Rattle.placing.proofs.placement.copies_for.Goals as goal
 
 pub new_group-group-requires : goal.new_group-group-requires

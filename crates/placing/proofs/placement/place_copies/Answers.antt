@@ -1,7 +1,7 @@
 -- `placing::placement::place_copies` meets its contract: copies that are ready make the tree of the steps, and a refusal is theirs.
 use mathlib.Core.Path.{refl}
-use Rattle.shell.specs.CommandBytesLaws.{refusal_follows}
-use Rattle.placing.specs.PlacingLaws.{ready_of, refused_of, ready_follows}
+use Rattle.shell.proofs.CommandBytesLaws.{refusal_follows}
+use Rattle.placing.proofs.PlacingLaws.{ready_of, refused_of, ready_follows}
 use Rattle.placing.proofs.placement.place_copies.Goals as goal
 
 pub copies_for-requires : goal.copies_for-requires

@@ -1,5 +1,5 @@
 -- `printing::replies::number` meets its contract: each arm has the number of its row in the table.
-use Rattle.tree.specs.CausesLaws.{no_form_number, unknown_caller_number, missing_number, not_directory_number, access_number, exists_number, wrong_kind_number, not_empty_number, reserved_number, full_number, into_itself_number, no_session_number, no_grant_number, stale_number, untagged_number, revisions_spent_number, unsound_number, too_deep_number, short_answer_number}
+use Rattle.tree.proofs.CausesLaws.{no_form_number, unknown_caller_number, missing_number, not_directory_number, access_number, exists_number, wrong_kind_number, not_empty_number, reserved_number, full_number, into_itself_number, no_session_number, no_grant_number, stale_number, untagged_number, revisions_spent_number, unsound_number, too_deep_number, short_answer_number}
 use Rattle.printing.proofs.replies.number.Goals as goal
 
 pub returns-in-NoForm : goal.returns-in-NoForm

@@ -1,6 +1,6 @@
 -- `printing::replies::write_no` meets its contract: the digits stand behind the word.
 use native.Mathlib.Omega.{arith}
-use Rattle.syntax.specs.NumberLaws.{decimal_length}
+use Rattle.syntax.proofs.NumberLaws.{decimal_length}
 use Rattle.printing.specs.PrintedLaws.{wrote_behind, wrote_number}
 use Rattle.printing.proofs.replies.write_no.Goals as goal
 

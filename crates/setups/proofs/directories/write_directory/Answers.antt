@@ -6,7 +6,7 @@ use native.Mathlib.Omega.{arith}
 use lib.Seq.{paste}
 use Rattle.accounts.specs.declared.Uid.{Uid}
 use Rattle.store.specs.HeaderLayout.{directory_width, directory_start}
-use Rattle.store.specs.InitialRowsLaws.{short_path, long_path}
+use Rattle.store.proofs.InitialRowsLaws.{short_path, long_path}
 use Rattle.setups.specs.DirectoriesLaws.{begins_at_top, begins_at_home}
 use Rattle.setups.proofs.directories.write_directory.Goals as goal
 

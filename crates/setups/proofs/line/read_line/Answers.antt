@@ -3,7 +3,7 @@ use mathlib.Core.Path.{refl, sym, ap, ◌∙◌}
 use native.Mathlib.Omega.{arith}
 use Rattle.syntax.specs.Pieces.{bytes}
 use Rattle.syntax.specs.Parts.{part, span_text}
-use Rattle.setup.specs.SetupLaws.{p_range, g_range, l_range}
+use Rattle.setup.proofs.SetupLaws.{p_range, g_range, l_range}
 use Rattle.store.specs.SetupHeader.{reading_in}
 use Rattle.setups.specs.LineRead.{after_line}
 use Rattle.setups.specs.LineReadLaws.{told_person, told_group, told_pair, told_grant, told_wrong, password_short, word_whole, is_the_end, is_a_line, is_no_line}

@@ -2,7 +2,7 @@
 use mathlib.Core.Path.{sym}
 use native.Mathlib.Omega.{arith}
 use Rattle.store.specs.StoreBytes.{store_width}
-use Rattle.store.specs.SetupHeaderLaws.{nothing_is_zeros}
+use Rattle.store.proofs.SetupHeaderLaws.{nothing_is_zeros}
 use Rattle.setups.specs.MakingLaws.{store_left, held_wide, to_open, store_opened}
 use Rattle.setups.proofs.making.make_store.Goals as goal
 

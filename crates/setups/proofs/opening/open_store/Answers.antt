@@ -3,7 +3,7 @@
 use mathlib.Core.Path.{sym, ◌∙◌}
 use native.Mathlib.Omega.{arith}
 use Rattle.store.specs.StoreBytes.{setup_of}
-use Rattle.store.specs.InitialRowsLaws.{slots_of_setup}
+use Rattle.store.proofs.InitialRowsLaws.{slots_of_setup}
 use Rattle.setups.specs.OpeningLaws.{store_wide, tree_wide, opened}
 use Rattle.setups.proofs.opening.open_store.Goals as goal
 

@@ -14,7 +14,7 @@ use Rattle.buffers.specs.Text.{every}
 use Rattle.buffers.specs.TextLaws.{every_get_or, every_set}
 use Rattle.tree.specs.declared.Kind.{Kind}
 use Rattle.tree.specs.RowAt.{row_count, row_bytes_at, row_at}
-use Rattle.tree.specs.TreeBytesLaws.{has_row}
+use Rattle.tree.proofs.TreeBytesLaws.{has_row}
 use Rattle.soundness.specs.Sound.{is_row, may_follow}
 use Rattle.soundness.specs.Tests.{rest_in_order}
 use Rattle.soundness.specs.OrderTestLaws.{names_to, follow_low, rest_row, rest_follow, rest_next, rest_end}

@@ -4,11 +4,11 @@ use native.Mathlib.Omega.{arith}
 use lib.ListN.{length}
 use Rattle.accounts.specs.Access.{is_root_is}
 use Rattle.syntax.specs.Path.{root, ◌▹◌}
-use Rattle.syntax.specs.PathTextLaws.{text_begins}
+use Rattle.syntax.proofs.PathTextLaws.{text_begins}
 use Rattle.tree.specs.Forest.{put, leaf}
 use Rattle.tree.specs.Node.{Node}
 use Rattle.tree.specs.Encoding.{encode_tree}
-use Rattle.store.specs.InitialRowsLaws.{not_refused, spot_opens, spot_named, directory_put, directory_is}
+use Rattle.store.proofs.InitialRowsLaws.{not_refused, spot_opens, spot_named, directory_put, directory_is}
 use Rattle.store.proofs.initial.put_directory.Goals as goal
 
 pub last_name-requires : goal.last_name-requires

@@ -5,7 +5,7 @@ use Rattle.tree.specs.Forest.{Forest}
 use Rattle.tree.specs.Node.{Node}
 use Rattle.tree.specs.Encoding.{encode_tree}
 use Rattle.store.specs.Initial.{home_name, topped}
-use Rattle.store.specs.InitialRowsLaws.{opens_at, short_path, long_path, no_home, home_put}
+use Rattle.store.proofs.InitialRowsLaws.{opens_at, short_path, long_path, no_home, home_put}
 use Rattle.store.proofs.initial.put_home.Goals as goal
 
 pub returns-then-group-eq0 : goal.returns-then-group-eq0

@@ -6,7 +6,7 @@ use native.Mathlib.Omega.{arith}
 use Rattle.tree.specs.Encoding.{encode_tree}
 use Rattle.store.specs.Initial.{homes}
 use Rattle.store.specs.InitialRows.{slot_value}
-use Rattle.store.specs.InitialRowsLaws.{with_persons, turn_opens, turn_home, turned_all}
+use Rattle.store.proofs.InitialRowsLaws.{with_persons, turn_opens, turn_home, turned_all}
 use Rattle.store.proofs.initial.write_initial.Goals as goal
 
 pub loop-k-init : goal.loop-k-init

@@ -6,7 +6,7 @@ use Rattle.tree.specs.TreeBytes.{Wide}
 use Rattle.store.specs.declared.Person.{Person as Slot}
 use Rattle.store.specs.Initial.{homes, topped}
 use Rattle.store.specs.InitialRows.{slot_value}
-use Rattle.store.specs.InitialRowsLaws.{with_persons}
+use Rattle.store.proofs.InitialRowsLaws.{with_persons}
 use Rattle.store.proofs.initial.write_initial.Given as goal
 
 -- before the turn of account k

@@ -9,7 +9,7 @@ use Rattle.tree.specs.Forest.{no_nodes, leaf}
 use Rattle.tree.specs.Encoding.{encode_tree}
 use Rattle.edits.specs.Changes.{fresh_node}
 use Rattle.store.specs.Initial.{top_node, rep_node, topped}
-use Rattle.store.specs.InitialRowsLaws.{planted_opens, rep_put, directory_is}
+use Rattle.store.proofs.InitialRowsLaws.{planted_opens, rep_put, directory_is}
 use Rattle.store.proofs.initial.write_top.Goals as goal
 
 -- `/` as it is planted

@@ -5,7 +5,7 @@ use mathlib.Core.Path.{sym, ap, ◌∙◌}
 use lib.ListN.{drop}
 use Rattle.buffers.specs.Cases.{answers_false, answers_true}
 use Rattle.syntax.specs.Pieces.{pieces}
-use Rattle.syntax.specs.PathPartsLaws.{names_left, names_full, names_stop_from, names_last_from, names_next_from, names_are}
+use Rattle.syntax.proofs.PathPartsLaws.{names_left, names_full, names_stop_from, names_last_from, names_next_from, names_are}
 use Rattle.syntax.specs.Parts.{part}
 use Rattle.syntax.proofs.paths.are_names.Goals as goal
 

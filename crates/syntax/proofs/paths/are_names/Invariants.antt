@@ -5,7 +5,7 @@ use lib.ListN.{length, drop}
 use Rattle.syntax.specs.Pieces.{pieces}
 use Rattle.syntax.specs.Path.{some_names}
 use Rattle.syntax.specs.Form.{is_some}
-use Rattle.syntax.specs.PathPartsLaws.{names_left}
+use Rattle.syntax.proofs.PathPartsLaws.{names_left}
 use Rattle.syntax.proofs.paths.are_names.Given as goal
 
 pub record Going (s : List ℕ) (from at count : ℕ) : Type 0 where

@@ -4,7 +4,7 @@ use mathlib.Core.Path.{sym, ◌∙◌}
 use lib.Seq.{length-take-le}
 use Rattle.buffers.specs.Cases.{answers_false, answers_true}
 use Rattle.syntax.specs.Pieces.{bytes}
-use Rattle.syntax.specs.PathPartsLaws.{entry_long, entry_begins, entry_is_path}
+use Rattle.syntax.proofs.PathPartsLaws.{entry_long, entry_begins, entry_is_path}
 use Rattle.syntax.proofs.paths.is_entry_path.Goals as goal
 
 pub returns-then-s-lt6 : goal.returns-then-s-lt6

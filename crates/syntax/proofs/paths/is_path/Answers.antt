@@ -1,7 +1,7 @@
 -- `syntax::paths::is_path` meets its contract: a text that begins with `/` is a path where nothing or names stand behind it.
 use native.Mathlib.Omega.{arith}
 use mathlib.Core.Path.{sym, ◌∙◌}
-use Rattle.syntax.specs.PathPartsLaws.{path_empty, path_begins, path_top, path_is_names}
+use Rattle.syntax.proofs.PathPartsLaws.{path_empty, path_begins, path_top, path_is_names}
 use Rattle.syntax.proofs.paths.is_path.Goals as goal
 
 pub returns-then-s-eq0 : goal.returns-then-s-eq0

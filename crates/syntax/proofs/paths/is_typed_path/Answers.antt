@@ -1,7 +1,7 @@
 -- `syntax::paths::is_typed_path` meets its contract: what begins with `/` has to be a path, and anything else names.
 use native.Mathlib.Omega.{arith}
 use mathlib.Core.Path.{sym, ◌∙◌}
-use Rattle.syntax.specs.PathPartsLaws.{typed_empty, typed_whole, typed_short}
+use Rattle.syntax.proofs.PathPartsLaws.{typed_empty, typed_whole, typed_short}
 use Rattle.syntax.proofs.paths.is_typed_path.Goals as goal
 
 pub returns-then-s-eq0 : goal.returns-then-s-eq0

@@ -3,7 +3,7 @@ use Prim.Native.Nat.{◌-◌}
 use native.Mathlib.Omega.{arith}
 use mathlib.Core.Path.{◌≡◌, refl, sym, ap, ◌∙◌}
 use Rattle.syntax.specs.Parts.{slash_before, last_slash}
-use Rattle.syntax.specs.ParentLaws.{slash_here, slash_not_here}
+use Rattle.syntax.proofs.ParentLaws.{slash_here, slash_not_here}
 use Rattle.syntax.proofs.paths.last_slash.Goals as goal
 
 pub loop-i-init : goal.loop-i-init

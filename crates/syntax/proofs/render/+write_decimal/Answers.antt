@@ -1,8 +1,8 @@
 -- `syntax::render::write_decimal`, which calls itself, meets its contract: the last digit stands behind the text of the others, and the
 -- number falls.
 use Rattle.std.proofs.Common.{arith}
-use Rattle.syntax.specs.RenderLaws.{wrote_digit, wrote_last, before_last_ends}
-use Rattle.syntax.specs.NumberLaws.{decimal_one, decimal_longer}
+use Rattle.syntax.proofs.RenderLaws.{wrote_digit, wrote_last, before_last_ends}
+use Rattle.syntax.proofs.NumberLaws.{decimal_one, decimal_longer}
 use Rattle.syntax.proofs.render.+write_decimal.Goals as goal
 
 pub bounds-b-at : goal.bounds-b-at

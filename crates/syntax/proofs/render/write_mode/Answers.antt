@@ -1,5 +1,5 @@
 -- `syntax::render::write_mode` meets its contract: its four digits are written side by side.
-use Rattle.syntax.specs.RenderLaws.{wrote_mode}
+use Rattle.syntax.proofs.RenderLaws.{wrote_mode}
 use Rattle.syntax.proofs.render.write_mode.Goals as goal
 
 pub returns : goal.returns

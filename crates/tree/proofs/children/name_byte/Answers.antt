@@ -3,8 +3,8 @@ use native.Mathlib.Omega.{arith}
 use mathlib.Core.Path.{sym}
 use lib.ListN.{get_or-eq_default}
 use Rattle.tree.specs.RowAt.{row_at}
-use Rattle.tree.specs.RowAtLaws.{row_name_fits}
-use Rattle.tree.specs.SearchLaws.{name_byte}
+use Rattle.tree.proofs.RowAtLaws.{row_name_fits}
+use Rattle.tree.proofs.SearchLaws.{name_byte}
 use Rattle.tree.proofs.children.name_byte.Goals as goal
 
 pub returns-then-k-lt-NAME_WIDTH : goal.returns-then-k-lt-NAME_WIDTH

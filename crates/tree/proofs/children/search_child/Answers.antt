@@ -12,13 +12,13 @@ use Rattle.tree.specs.declared.Child.TheVariants.{Missing}
 use Rattle.tree.specs.declared.Search.{Search}
 use Rattle.tree.specs.Layout.{most_rows, name_width}
 use Rattle.tree.specs.RowScan.{Order, Before, Same, After, order_in, child_by, child_in}
-use Rattle.tree.specs.RowScanLaws.{order_below, order_above, order_beside}
+use Rattle.tree.proofs.RowScanLaws.{order_below, order_above, order_beside}
 use Rattle.tree.specs.Search.{steps_at, steps_by, steps_in, search_in}
-use Rattle.tree.specs.ComparedLaws.{Decided, compared_none, one_more, first_ends, stands_before, stands_after, both_end, second_ends}
+use Rattle.tree.proofs.ComparedLaws.{Decided, compared_none, one_more, first_ends, stands_before, stands_after, both_end, second_ends}
 use Rattle.tree.specs.RowAt.{row_count, row_at, all_rows}
 use Rattle.tree.specs.TreeBytes.{HasRow}
-use Rattle.tree.specs.RowAtLaws.{row_name_fits}
-use Rattle.tree.specs.SearchLaws.{name_nonzero, steps_aside, steps_beside, child_left, child_left_row, child_left_end, child_left_all, steps_left, steps_left_row, steps_left_end, steps_left_all}
+use Rattle.tree.proofs.RowAtLaws.{row_name_fits}
+use Rattle.tree.proofs.SearchLaws.{name_nonzero, steps_aside, steps_beside, child_left, child_left_row, child_left_end, child_left_all, steps_left, steps_left_row, steps_left_end, steps_left_all}
 use Rattle.tree.proofs.children.search_child.Invariants.{Going, Inner}
 use Rattle.tree.proofs.children.search_child.Goals as goal
 

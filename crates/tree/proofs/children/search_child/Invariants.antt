@@ -6,10 +6,10 @@ use Rattle.buffers.specs.Text.{Text}
 use Rattle.tree.specs.Layout.{most_rows, name_width}
 use Rattle.tree.specs.RowScan.{child_in}
 use Rattle.tree.specs.Search.{steps_in}
-use Rattle.tree.specs.ComparedLaws.{Compared}
+use Rattle.tree.proofs.ComparedLaws.{Compared}
 use Rattle.tree.specs.RowAt.{row_count, row_at, all_rows}
 use Rattle.tree.specs.TreeBytes.{HasRow}
-use Rattle.tree.specs.SearchLaws.{child_left, steps_left}
+use Rattle.tree.proofs.SearchLaws.{child_left, steps_left}
 use Rattle.tree.proofs.children.search_child.Given as goal
 
 -- before the row i what is left of the search, with the steps so far, gives the whole

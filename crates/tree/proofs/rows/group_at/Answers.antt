@@ -5,7 +5,7 @@ use native.Mathlib.Omega.{arith}
 use Rattle.accounts.specs.declared.Gid.{Gid}
 use Rattle.tree.specs.Encoding.{read_row}
 use Rattle.tree.specs.RowAt.{row_at}
-use Rattle.tree.specs.RowAtLaws.{byte_in_row}
+use Rattle.tree.proofs.RowAtLaws.{byte_in_row}
 use Rattle.tree.proofs.rows.group_at.Goals as goal
 
 pub returns : goal.returns

@@ -3,7 +3,7 @@ use mathlib.Core.Path.{◌∙◌, sym}
 use native.Mathlib.Omega.{arith}
 use Rattle.tree.specs.Encoding.{read_row}
 use Rattle.tree.specs.RowAt.{row_at}
-use Rattle.tree.specs.RowAtLaws.{number_in_row}
+use Rattle.tree.proofs.RowAtLaws.{number_in_row}
 use Rattle.tree.proofs.rows.mode_at.Goals as goal
 
 pub returns : goal.returns

@@ -2,7 +2,7 @@
 use mathlib.Core.Path.{◌∙◌, sym}
 use native.Mathlib.Omega.{arith}
 use Rattle.tree.specs.RowAt.{tag_text_at}
-use Rattle.tree.specs.RowAtLaws.{text_in_row}
+use Rattle.tree.proofs.RowAtLaws.{text_in_row}
 use Rattle.tree.specs.Layout.{tag_offset, tag_width}
 use Rattle.tree.proofs.rows.tag_path_at.Goals as goal
 

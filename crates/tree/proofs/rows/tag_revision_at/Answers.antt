@@ -2,7 +2,7 @@
 use mathlib.Core.Path.{◌∙◌, sym}
 use native.Mathlib.Omega.{arith}
 use Rattle.tree.specs.RowAt.{tag_number_at}
-use Rattle.tree.specs.RowAtLaws.{number_in_row}
+use Rattle.tree.proofs.RowAtLaws.{number_in_row}
 use Rattle.tree.specs.Layout.{tag_revision_offset}
 use Rattle.tree.proofs.rows.tag_revision_at.Goals as goal
 

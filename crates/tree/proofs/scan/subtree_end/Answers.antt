@@ -6,7 +6,7 @@ use mathlib.Core.List.{List}
 use borrow.Author.Tests.{lt-ltb, le-ltb}
 use Rattle.tree.specs.RowScan.{is_deeper, end_of_subtree}
 use Rattle.tree.specs.RowAt.{row_at, all_rows}
-use Rattle.tree.specs.RowAtLaws.{scan_go, scan_stop, scan_end, end_at}
+use Rattle.tree.proofs.RowAtLaws.{scan_go, scan_stop, scan_end, end_at}
 use Rattle.tree.proofs.scan.subtree_end.Invariants.{Going}
 use Rattle.tree.proofs.scan.subtree_end.Goals as goal
 

@@ -3,7 +3,7 @@ use mathlib.Core.Path.{◌≡◌}
 use mathlib.Core.List.{List}
 use Rattle.tree.specs.RowScan.{is_deeper}
 use Rattle.tree.specs.RowAt.{row_count, row_at}
-use Rattle.tree.specs.RowAtLaws.{Scanned}
+use Rattle.tree.proofs.RowAtLaws.{Scanned}
 use Rattle.tree.proofs.scan.subtree_end.Given as goal
 
 pub record Going (tree : List ℕ) (at n depth i : ℕ) : Type 0 where

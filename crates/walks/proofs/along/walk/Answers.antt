@@ -8,11 +8,11 @@ use Rattle.accounts.specs.declared.Account.{Account}
 use Rattle.syntax.specs.declared.Names.{Names}
 use Rattle.syntax.specs.declared.NextName.TheVariants.{End}
 use Rattle.syntax.specs.Parts.{part, next_name}
-use Rattle.syntax.specs.ParentLaws.{names_from, Named, names_from_first, names_from_end, names_from_next}
+use Rattle.syntax.proofs.ParentLaws.{names_from, Named, names_from_first, names_from_end, names_from_next}
 use Rattle.tree.specs.declared.Cause.{Cause}
 use Rattle.tree.specs.Result.{refused, done}
 use Rattle.tree.specs.RowAt.{all_rows}
-use Rattle.tree.specs.RowAtLaws.{length_all_rows}
+use Rattle.tree.proofs.RowAtLaws.{length_all_rows}
 use Rattle.walks.specs.RowWalk.{spot, top_spot, step_in, walk_names_in, walk_in, outcome}
 use Rattle.walks.specs.RowWalkLaws.{step_within, walk_none, walk_on, walk_stops, outcome_at, outcome_refused}
 use Rattle.walks.proofs.along.walk.Invariants.{Going}

@@ -3,7 +3,7 @@ use mathlib.Core.Path.{◌≡◌}
 use mathlib.Core.List.{List}
 use lib.ListN.{length}
 use Rattle.accounts.specs.declared.Account.{Account}
-use Rattle.syntax.specs.ParentLaws.{names_from}
+use Rattle.syntax.proofs.ParentLaws.{names_from}
 use Rattle.tree.specs.RowAt.{row_count, all_rows}
 use Rattle.walks.specs.RowWalk.{spot, walk_names_in, walk_in}
 use Rattle.walks.proofs.along.walk.Given as goal

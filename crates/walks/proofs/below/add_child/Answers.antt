@@ -4,7 +4,7 @@ use mathlib.Core.List.{append-nil}
 use native.Mathlib.Omega.{arith}
 use lib.ListN.{length}
 use Rattle.tree.specs.RowAt.{row_at}
-use Rattle.tree.specs.RowAtLaws.{row_name_fits}
+use Rattle.tree.proofs.RowAtLaws.{row_name_fits}
 use Rattle.walks.specs.RowBelowLaws.{name_there, name_elsewhere}
 use Rattle.walks.proofs.below.add_child.Goals as goal
 

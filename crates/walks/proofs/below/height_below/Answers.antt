@@ -5,7 +5,7 @@ use mathlib.Core.Path.{◌≡◌, refl, sym, ◌∙◌, ap}
 use mathlib.Core.List.{List}
 use lib.ListN.{drop}
 use Rattle.tree.specs.Forest.{larger}
-use Rattle.tree.specs.ForestLaws.{larger_bounds}
+use Rattle.tree.proofs.ForestLaws.{larger_bounds}
 use Rattle.tree.specs.RowAt.{row_at, all_rows}
 use Rattle.walks.specs.RowBelow.{front_below, deepest_in, height_in}
 use Rattle.walks.specs.RowBelowLaws.{deepest_go, deepest_stop, deepest_end, height_from}

@@ -1,0 +1,7 @@
+pub mod InputLinesLaws
+pub mod LongLineLaws
+pub mod AgendaLaws
+pub mod StepLaws
+pub mod ReadingOnLaws
+pub mod LinesDueLaws
+pub mod ConversationLaws

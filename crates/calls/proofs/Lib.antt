@@ -1,0 +1,10 @@
+pub mod CallsLaws
+pub mod CallBoundsLaws
+pub mod CallListsLaws
+pub mod ProgramLaws
+pub mod ProgramByLinesLaws
+pub mod CommitLinesLaws
+pub mod CallTheorems
+pub mod CallCases
+pub mod CommitLinesCases
+pub mod Example

@@ -1,0 +1,2 @@
+pub mod PairsInLaws
+pub mod ClosingLaws

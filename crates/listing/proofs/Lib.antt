@@ -1,0 +1,5 @@
+pub mod ListingLaws
+pub mod RowListingLaws
+pub mod ByteOrderLaws
+pub mod ListedLaws
+mod Cases

@@ -1,0 +1,4 @@
+pub mod SetupLaws
+pub mod SetupStepLaws
+pub mod SoundSetupLaws
+pub mod LinesLaws

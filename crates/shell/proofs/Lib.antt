@@ -1,0 +1,16 @@
+pub mod WholePathsLaws
+pub mod ReplacingLaws
+pub mod PassedMoveLaws
+pub mod ReplacedLaws
+pub mod ReplyLaws
+pub mod CommandBytesLaws
+pub mod ReadTextLaws
+pub mod ShellAnswerLaws
+pub mod HidingLaws
+pub mod ShellKeepingLaws
+pub mod ShutLaws
+pub mod ShellPrivacyLaws
+pub mod WholePathsCases
+pub mod Cases
+pub mod MovingCases
+pub mod WithheldCases

@@ -1,0 +1,13 @@
+pub mod RegistryLaws
+pub mod StateLaws
+pub mod PersonLaws
+pub mod InitialLaws
+pub mod InitialRowsLaws
+pub mod ValuesLaws
+pub mod FrontLaws
+pub mod HeaderLaws
+pub mod SetupHeaderLaws
+pub mod StoreBytesLaws
+pub mod DecodeLaws
+pub mod SoundStoreLaws
+pub mod Cases

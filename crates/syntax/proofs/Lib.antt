@@ -1,0 +1,14 @@
+pub mod JoinedLaws
+pub mod FormLaws
+pub mod NumberLaws
+pub mod RenderLaws
+pub mod WithinLaws
+pub mod PathLaws
+pub mod FieldLaws
+pub mod PartsLaws
+pub mod PathPartsLaws
+pub mod ParentLaws
+pub mod FollowsLaws
+pub mod PathTextLaws
+pub mod FieldPartsLaws
+pub mod Cases
