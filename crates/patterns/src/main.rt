@@ -2,6 +2,7 @@
 // printed, and what a read or a print comes to, `agenda` decides.
 #![tactic(auto)]
 
+mod failures;
 mod streams;
 mod usage;
 
@@ -25,9 +26,10 @@ use agenda::{
     refuse, report, setup_from,
 };
 use buffers::move_bytes;
+use failures::fail;
 use setups::{LineRead, begin_store, setup_line};
 use shell::Answer;
-use streams::{Stream, argument, argument_count, fail, read, write_all};
+use streams::{Stream, argument, argument_count, read, write_all};
 
 // Prints the first n bytes of a buffer, which are what is printed for a call, and answers whether all was printed; if not it says why.
 fn print(

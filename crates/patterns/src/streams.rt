@@ -2,6 +2,7 @@
 ghost use Rattle.std.specs.Prelude.{◌≡◌, ◌≤◌, length};
 ghost use Rattle.patterns.specs.Buffers.{Counted};
 
+use crate::failures::fail;
 use std::env::{Env, FillError};
 use std::io;
 use std::io::Read;
@@ -33,17 +34,6 @@ pub fn read(rt: &HostRuntime, buffer: &mut [u8]) -> isize
             -1
         }
     }
-}
-
-// Says on standard error what failed and why, in the system's words without its number.
-pub fn fail(rt: &HostRuntime, what: &str, why: io::Error) {
-    let _ = match format!(in rt.alloc(); "{why}") {
-        Ok(said) => match said.as_str().split_once(" (os error ") {
-            Some((words, _)) => eprintln!(rt; "{what}: {words}"),
-            None => eprintln!(rt; "{what}: {said}"),
-        },
-        Err(_) => eprintln!(rt; "{what}: {why}"),
-    };
 }
 
 // Puts an argument at the start of a buffer, and tells its length: 0 where it is missing, or longer than the buffer.

@@ -2,7 +2,8 @@
 ghost use Rattle.std.specs.Prelude.{◌≡◌};
 ghost use Rattle.patterns.specs.Buffers.{standard_output, standard_error};
 
-use crate::streams::{Stream, fail, write_all};
+use crate::failures::fail;
+use crate::streams::{Stream, write_all};
 
 // Prints what the program reads and prints, or says why that cannot be printed.
 pub fn help(rt: &HostRuntime, to: Stream)

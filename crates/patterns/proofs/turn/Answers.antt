@@ -7,7 +7,6 @@ use Rattle.setups.specs.LineRead.{BegunStore}
 use Rattle.agenda.specs.declared.Phase.{Phase}
 use Rattle.agenda.specs.declared.Phase.TheVariants as phase
 use Rattle.agenda.specs.declared.Next.{Next}
-use Rattle.agenda.specs.declared.Next.TheVariants as next
 use Rattle.agenda.specs.Agenda.{NextHeld, NextLeads}
 use Rattle.agenda.specs.AgendaLaws.{next_held, next_leads}
 use Rattle.patterns.specs.Buffers.{Ready, lines_at, Countable}
