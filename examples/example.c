@@ -1,6 +1,6 @@
 /* The worked example by the library's three calls: a store is set up, eleven lines are carried out, and all nodes are listed.
  *
- *     cc -std=c11 -Wall -Wextra -Iinclude examples/example.c target/staticlib/libexports.a -o example
+ *     cc -std=c11 -Wall -Wextra -Iinclude examples/example.c crates/exports/out/libexports.a -o example
  */
 #include <inttypes.h>
 #include <stdio.h>

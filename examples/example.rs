@@ -1,6 +1,6 @@
 //! The worked example by the library's three calls: a store is set up, eleven lines are carried out, and all nodes are listed.
 //!
-//!     rustc --edition 2021 -L native=target/staticlib -l static=exports examples/example.rs
+//!     rustc --edition 2021 -L native=crates/exports/out -l static=exports examples/example.rs
 
 // As include/patterns.h has them.
 extern "C" {

@@ -5,7 +5,7 @@
  *     store FILE list             prints all nodes
  *     store FILE check            says whether FILE holds a sound store
  *
- *     cc -std=c11 -Wall -Wextra -Iinclude examples/store.c target/staticlib/libexports.a -o store
+ *     cc -std=c11 -Wall -Wextra -Iinclude examples/store.c crates/exports/out/libexports.a -o store
  *
  * A power cut leaves the old store or the new one, whole (save says how), and an answer is told once the store that has it is
  * saved. The exit status is 0 if all was done, 1 if something was refused or failed, 2 if the arguments are none of the above.

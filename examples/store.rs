@@ -5,7 +5,7 @@
 //!     store FILE list             prints all nodes
 //!     store FILE check            says whether FILE holds a sound store
 //!
-//!     rustc --edition 2021 -L native=target/staticlib -l static=exports examples/store.rs
+//!     rustc --edition 2021 -L native=crates/exports/out -l static=exports examples/store.rs
 //!
 //! A power cut leaves the old store or the new one, whole (`save` says how), and an answer is told once the store that has it is
 //! saved. The exit status is 0 if all was done, 1 if something was refused or failed, 2 if the arguments are none of the above.

@@ -1,5 +1,5 @@
 -- The program's buffers, and what its functions ask of them.
-use Rattle.std.specs.Prelude.{◌≡◌, List, ℕ, ◌≤◌, ◌<◌, ℤ, pos, length}
+use Rattle.std.specs.Prelude.{◌≡◌, List, ℕ, ◌≤◌, ◌<◌, ℤ, pos, negsuc, length}
 use Rattle.buffers.specs.Text.{Text}
 use Rattle.setups.specs.LineRead.{BegunStore}
 use Rattle.printing.specs.Printed.{in_front}
@@ -10,13 +10,20 @@ use Rattle.agenda.specs.declared.Place.{Place}
 use Rattle.agenda.specs.declared.Call.{Call}
 use Rattle.agenda.specs.Agenda.{PlaceHeld, report_text}
 use Rattle.agenda.specs.Conversation.{made}
+use Rattle.patterns.specs.declared.streams.Stream.{Stream}
+use Rattle.patterns.specs.declared.streams.Stream.TheVariants.{Output, Error}
 
 -- where reports go, and what is said of a failure
-abbrev pub standard_output : ℤ
-standard_output = pos 1
+abbrev pub standard_output : Stream
+standard_output = Output
 
-abbrev pub standard_error : ℤ
-standard_error = pos 2
+abbrev pub standard_error : Stream
+standard_error = Error
+
+-- what a read of at most n bytes answers: how many it gave, or -1
+abbrev pub Counted : ℕ → ℤ → Type 0
+Counted n (pos j) = j ≤ n
+Counted n (negsuc j) = j ≡ 0
 
 -- what standard input is read into, the store, the library's answers, and what is printed
 pub record Buffers : Type 0 where

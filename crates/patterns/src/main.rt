@@ -2,6 +2,8 @@
 // printed, and what a read or a print comes to, `agenda` decides.
 #![tactic(auto)]
 
+mod failures;
+mod streams;
 mod usage;
 
 ghost use Rattle.std.specs.Prelude.{◌≡◌, false, ◌≤◌, ◌<◌, suc, length, take};
@@ -24,35 +26,43 @@ use agenda::{
     refuse, report, setup_from,
 };
 use buffers::move_bytes;
-use libc::{STDERR_FILENO, STDIN_FILENO, STDOUT_FILENO};
+use failures::fail;
 use setups::{LineRead, begin_store, setup_line};
 use shell::Answer;
+use streams::{Stream, argument, argument_count, read, write_all};
 
 // Prints the first n bytes of a buffer, which are what is printed for a call, and answers whether all was printed; if not it says why.
-fn print(to: i32, out: &[u8], n: usize, call: Call, r: Answer, answer: &[u8]) -> bool
+fn print(
+    rt: &HostRuntime,
+    to: Stream,
+    out: &[u8],
+    n: usize,
+    call: Call,
+    r: Answer,
+    answer: &[u8],
+) -> bool
     requires to_value { to ≡ standard_output }
     requires n_in_bounds { n ≤ length out.now }
     requires out_value { take n out.now ≡ report_text call (told r) answer.now }
 {
-    if io::write_all(to, &out[..n]) {
-        return true;
+    match write_all(rt, to, &out[..n]) {
+        Ok(()) => true,
+        Err(why) => {
+            fail(rt, "patterns: cannot write to standard output", why);
+            false
+        }
     }
-    os::fail(b"patterns: cannot write to standard output");
-    false
 }
 
 // Moves what is left to the front of the window and reads once behind it; says why where that fails.
-fn read_on(window: &mut [u8], at: Place) -> Step
+fn read_on(rt: &HostRuntime, window: &mut [u8], at: Place) -> Step
     requires { PlaceHeld at (length window.old) }
     ensures { Reads result at window.old window.new }
 {
     let from = at.from;
     let kept = at.to - from;
     move_bytes(window, from, 0, kept);
-    let got = libc::read(STDIN_FILENO, &mut window[kept..]);
-    if got < 0 {
-        os::fail(b"patterns: cannot read standard input");
-    }
+    let got = read(rt, &mut window[kept..]);
     read_step(at, got)
 }
 
@@ -69,6 +79,7 @@ fn answer_to(store: &mut [u8], window: &[u8], call: Call, answer: &mut [u8]) -> 
 
 // Makes a call and prints what is printed for it.
 fn make_call(
+    rt: &HostRuntime,
     store: &mut [u8],
     window: &[u8],
     call: Call,
@@ -84,12 +95,12 @@ fn make_call(
 {
     let r = answer_to(store, window, call, answer);
     let n = report(call, r, answer, out);
-    let printed = print(STDOUT_FILENO, out, n, call, r, answer);
+    let printed = print(rt, Stream::Output, out, n, call, r, answer);
     after_print(printed, goes_on(call, r), then)
 }
 
 // Prints which line of the setup is wrong: the one behind so many.
-fn refused(at: Place, lines: usize, answer: &[u8], out: &mut [u8]) -> Step
+fn refused(rt: &HostRuntime, at: Place, lines: usize, answer: &[u8], out: &mut [u8]) -> Step
     requires lines_bound { lines < 18446744073709551615 }
     requires answering { Answering answer.now }
     requires reporting { Reporting out.old }
@@ -100,12 +111,13 @@ fn refused(at: Place, lines: usize, answer: &[u8], out: &mut [u8]) -> Step
     // A refusal is what is printed for a line that is answered so.
     let call = Call::Run { from: 0, end: 0 };
     let wrong = Answer::WrongLine(lines + 1);
-    let printed = print(STDOUT_FILENO, out, n, call, wrong, answer);
+    let printed = print(rt, Stream::Output, out, n, call, wrong, answer);
     after_print(printed, false, at)
 }
 
 // Reads the line of the setup that ends at this byte 10.
 fn read_setup(
+    rt: &HostRuntime,
     store: &mut [u8],
     window: &[u8],
     at: Place,
@@ -131,31 +143,38 @@ fn read_setup(
     match setup_line(store, kind, &window[from..end]) {
         LineRead::More(next) => Step::On(setup_from(at, end + 1, next, lines + 1)),
         LineRead::End => Step::On(lines_from(at, end + 1)),
-        LineRead::Wrong => refused(at, lines, answer, out),
+        LineRead::Wrong => refused(rt, at, lines, answer, out),
     }
 }
 
 // Does what is to be done next.
-fn turn(store: &mut [u8], window: &mut [u8], at: Place, answer: &mut [u8], out: &mut [u8]) -> Step
+fn turn(
+    rt: &HostRuntime,
+    store: &mut [u8],
+    window: &mut [u8],
+    at: Place,
+    answer: &mut [u8],
+    out: &mut [u8],
+) -> Step
     requires { Held at (lent window.old store.old answer.old out.old) }
     ensures { Turns result at (lent window.old store.old answer.old out.old)
         (lent window.new store.new answer.new out.new) }
 {
     match next(window, at) {
-        Next::Call { call, then } => make_call(store, window, call, then, answer, out),
+        Next::Call { call, then } => make_call(rt, store, window, call, then, answer, out),
         Next::On(then) => Step::On(then),
-        Next::Read => read_on(window, at),
+        Next::Read => read_on(rt, window, at),
         Next::Over => Step::Ended,
         Next::Line { end, kind, lines } => read_setup(
-            store, window, at, end, kind, lines, answer, out,
+            rt, store, window, at, end, kind, lines, answer, out,
         ),
-        Next::Wrong { lines } => refused(at, lines, answer, out),
+        Next::Wrong { lines } => refused(rt, at, lines, answer, out),
     }
 }
 
 // The whole program over its buffers. A proved loop has to end and an input need not, so this one counts down, from more
 // turns than any run uses.
-fn serve(store: &mut [u8], window: &mut [u8], answer: &mut [u8], out: &mut [u8])
+fn serve(rt: &HostRuntime, store: &mut [u8], window: &mut [u8], answer: &mut [u8], out: &mut [u8])
     requires { Wide (lent window.old store.old answer.old out.old) }
     ensures { Serves most_turns first_place (lent window.old (headed no_setup store.old) answer.old out.old)
         (lent window.new store.new answer.new out.new) }
@@ -171,7 +190,7 @@ fn serve(store: &mut [u8], window: &mut [u8], answer: &mut [u8], out: &mut [u8])
     let mut turns = u64::MAX;
     while turns > 0 {
         turns -= 1;
-        match turn(store, window, at, answer, out) {
+        match turn(rt, store, window, at, answer, out) {
             Step::On(then) => at = then,
             Step::Ended => return,
             Step::Failed => return,
@@ -180,20 +199,20 @@ fn serve(store: &mut [u8], window: &mut [u8], answer: &mut [u8], out: &mut [u8])
 }
 
 // Runs the program over buffers of its own.
-fn run() {
-    let mut store = io::large_buffer();
-    let mut window = io::large_buffer();
-    let mut answer = io::buffer();
+fn run(rt: &HostRuntime) {
+    let mut store = [0u8; 65536];
+    let mut window = [0u8; 65536];
+    let mut answer = [0u8; 4096];
     let mut out = [0u8; 4128];
-    serve(&mut store, &mut window, &mut answer, &mut out);
+    serve(rt, &mut store, &mut window, &mut answer, &mut out);
 }
 
-fn main() {
-    let mut first = io::buffer();
-    let n = os::arg(1, &mut first);
-    match asked_by(os::arg_count(), &first[..n]) {
-        Asked::Run => run(),
-        Asked::Help => usage::help(STDOUT_FILENO),
-        Asked::Wrong => usage::wrong(STDERR_FILENO),
+fn main(rt: HostRuntime) {
+    let mut first = [0u8; 4096];
+    let n = argument(&rt, 1, &mut first);
+    match asked_by(argument_count(&rt), &first[..n]) {
+        Asked::Run => run(&rt),
+        Asked::Help => usage::help(&rt, Stream::Output),
+        Asked::Wrong => usage::wrong(&rt, Stream::Error),
     }
 }

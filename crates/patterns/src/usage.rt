@@ -2,8 +2,11 @@
 ghost use Rattle.std.specs.Prelude.{◌≡◌};
 ghost use Rattle.patterns.specs.Buffers.{standard_output, standard_error};
 
+use crate::failures::fail;
+use crate::streams::{Stream, write_all};
+
 // Prints what the program reads and prints, or says why that cannot be printed.
-pub fn help(to: i32)
+pub fn help(rt: &HostRuntime, to: Stream)
     requires { to ≡ standard_output }
 {
     let text = b"usage: patterns < INPUT
@@ -13,14 +16,14 @@ A setup that is refused is answered by `no,17,` and the number of its first wron
 A failure to read or to write is told on standard error; the exit status tells nothing.
 docs/MANUAL.md describes the lines.
 ";
-    if !io::write_all(to, text) {
-        os::fail(b"patterns: cannot write to standard output");
+    if let Err(why) = write_all(rt, to, text) {
+        fail(rt, "patterns: cannot write to standard output", why);
     }
 }
 
 // Says that the arguments are none that the program takes.
-pub fn wrong(to: i32)
+pub fn wrong(rt: &HostRuntime, to: Stream)
     requires { to ≡ standard_error }
 {
-    io::write_all(to, b"patterns: no argument is taken but --help alone\n");
+    let _ = write_all(rt, to, b"patterns: no argument is taken but --help alone\n");
 }
