@@ -15,8 +15,10 @@ use Rattle.buffers.specs.Cases.{case, and_both}
 use Rattle.accounts.specs.declared.Role.{Role}
 use Rattle.accounts.specs.declared.Pair.{Pair}
 use Rattle.accounts.specs.declared.Session.TheVariants.{As}
-use Rattle.accounts.specs.Groups.{same_gid, member, no_groups, with_group, member_with}
-use Rattle.accounts.specs.Dominance.{BoundedRole, Listed, first, later, Dominates, self, down, same_role, same_role_is, juniors, any_role, chain, dominates, dominates_is, dominates_falls, Falling, falls, all_fall, all_fall_is}
+use Rattle.accounts.specs.Groups.{same_gid, member, no_groups, with_group}
+use Rattle.accounts.proofs.GroupsLaws.{member_with}
+use Rattle.accounts.specs.Dominance.{BoundedRole, Listed, first, later, Dominates, self, down, same_role, juniors, any_role, chain, dominates, Falling, falls, all_fall}
+use Rattle.accounts.proofs.DominanceLaws.{same_role_is, dominates_is, dominates_falls, all_fall_is}
 use Rattle.accounts.specs.Service.{service_gid, all_services, service_groups, service, service_uid}
 use Rattle.accounts.specs.Closure.{has_role, row_of, rows_from, rows_of, own_rows, grown_row, grown_rows, row_dominates, row_account, session_dominates}
 

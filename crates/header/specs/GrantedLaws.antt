@@ -6,8 +6,9 @@ use borrow.Author.Tests.{eq-eqb, ne_eqb}
 use Rattle.buffers.specs.Text.{Text, same_text}
 use Rattle.accounts.specs.declared.Uid.{Uid}
 use Rattle.accounts.specs.declared.Role.{Role}
-use Rattle.accounts.specs.Access.{same_uid_is}
-use Rattle.accounts.specs.Dominance.{BoundedRole, same_role_number}
+use Rattle.accounts.proofs.AccessLaws.{same_uid_is}
+use Rattle.accounts.specs.Dominance.{BoundedRole}
+use Rattle.accounts.proofs.DominanceLaws.{same_role_number}
 use Rattle.setup.specs.Setup.{Grant, Setup}
 use Rattle.setup.proofs.SetupLaws.{apart}
 use Rattle.store.specs.HeaderLayout.{grants_offset}

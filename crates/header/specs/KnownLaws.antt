@@ -7,9 +7,9 @@ use Rattle.accounts.specs.declared.Caller.{Caller}
 use Rattle.accounts.specs.declared.Gid.{Gid}
 use Rattle.accounts.specs.declared.Groups.{Groups}
 use Rattle.accounts.specs.declared.Uid.{Uid}
-use Rattle.accounts.specs.Access.{is_root_is}
+use Rattle.accounts.proofs.AccessLaws.{is_root_is}
 use Rattle.accounts.specs.Groups.{no_groups, with_group}
-use Rattle.accounts.specs.Caller.{root_caller_is}
+use Rattle.accounts.proofs.CallerLaws.{root_caller_is}
 use Rattle.setup.specs.Setup.{Person, Setup, person}
 use Rattle.tree.specs.declared.Cause.TheVariants.{UnknownCaller}
 use Rattle.tree.specs.Result.{done}

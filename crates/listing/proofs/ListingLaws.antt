@@ -21,7 +21,8 @@ use Rattle.tree.specs.Forest.{Forest, Place, size, height}
 use Rattle.tree.proofs.ForestLaws.{forest_induction, height_node}
 use Rattle.tree.proofs.PlaceLaws.{nodes_below}
 use Rattle.tree.proofs.SizeLaws.{size_nil, size_node}
-use Rattle.tree.specs.LargestTrees.{deep, deep_is_tree}
+use Rattle.tree.specs.LargestTrees.{deep}
+use Rattle.tree.proofs.LargestTreesLaws.{deep_is_tree}
 use Rattle.tree.specs.Node.{Tag, Node}
 use Rattle.tree.proofs.NodeLaws.{last_revision_is, TagRange, node_ranges}
 use Rattle.tree.specs.WellFormed.{last_revision, nodes, is_node, is_forest, is_tree}

@@ -10,10 +10,14 @@ use Rattle.accounts.specs.declared.Caller.{Caller}
 use Rattle.accounts.specs.declared.Uid.{Uid}
 use Rattle.accounts.specs.declared.Right.{Right}
 use Rattle.accounts.specs.declared.Right.TheVariants.{W}
-use Rattle.accounts.specs.Groups.{member, with_group, member_with, same_gid_is, member_high}
-use Rattle.accounts.specs.Access.{is_root, same_uid, may_other, grants_none, grants_5, root_is, same_uid_is, same_as_root}
-use Rattle.accounts.specs.Caller.{root_caller, root_caller_is}
-use Rattle.accounts.specs.Service.{all_services, all_services_is}
+use Rattle.accounts.specs.Groups.{member, with_group}
+use Rattle.accounts.proofs.GroupsLaws.{member_with, same_gid_is, member_high}
+use Rattle.accounts.specs.Access.{is_root, same_uid}
+use Rattle.accounts.proofs.AccessLaws.{may_other, grants_none, grants_5, root_is, same_uid_is, same_as_root}
+use Rattle.accounts.specs.Caller.{root_caller}
+use Rattle.accounts.proofs.CallerLaws.{root_caller_is}
+use Rattle.accounts.specs.Service.{all_services}
+use Rattle.accounts.proofs.ServiceLaws.{all_services_is}
 use Rattle.syntax.specs.Number.{octal}
 use Rattle.setup.specs.Setup.{Person, Setup, person, is_setup}
 use Rattle.tree.specs.declared.Cause.TheVariants.{UnknownCaller}

@@ -12,7 +12,7 @@ use Rattle.buffers.specs.Text.{Text}
 use Rattle.accounts.specs.declared.Caller.{Caller}
 use Rattle.accounts.specs.declared.Right.TheVariants.{R, W}
 use Rattle.accounts.specs.Dominance.{BoundedRole}
-use Rattle.accounts.specs.Service.{service_role}
+use Rattle.accounts.proofs.ServiceLaws.{service_role}
 use Rattle.syntax.specs.Path.{Path, EntryPath, same_path, in_rep, entry_location, below_rep}
 use Rattle.syntax.proofs.WithinLaws.{same_path_sound}
 use Rattle.syntax.proofs.FormLaws.{answered}

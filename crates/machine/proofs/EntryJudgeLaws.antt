@@ -12,9 +12,12 @@ use Rattle.accounts.specs.declared.Gid.{Gid}
 use Rattle.accounts.specs.declared.Role.{Role}
 use Rattle.accounts.specs.Groups.{member}
 use Rattle.accounts.specs.declared.Account.{Account}
-use Rattle.accounts.specs.Access.{is_root, same_uid, grants, may_owner, may_group, may_other, grants_none, grants_7, grants_5, grants_4, same_as_root}
-use Rattle.accounts.specs.Dominance.{same_role, same_role_is, BoundedRole, dominates, dominates_self}
-use Rattle.accounts.specs.Service.{service_uid, service_gid, service, service_not_root, service_own, same_service, member_service, member_all, service_uid_is, all_services_is}
+use Rattle.accounts.specs.Access.{is_root, same_uid, grants}
+use Rattle.accounts.proofs.AccessLaws.{may_owner, may_group, may_other, grants_none, grants_7, grants_5, grants_4, same_as_root}
+use Rattle.accounts.specs.Dominance.{same_role, BoundedRole, dominates}
+use Rattle.accounts.proofs.DominanceLaws.{same_role_is, dominates_self}
+use Rattle.accounts.specs.Service.{service_uid, service_gid, service}
+use Rattle.accounts.proofs.ServiceLaws.{service_not_root, service_own, same_service, member_service, member_all, service_uid_is, all_services_is}
 use Rattle.syntax.specs.Number.{octal}
 use Rattle.setup.specs.Setup.{Setup}
 use Rattle.tree.specs.declared.Kind.{Kind}

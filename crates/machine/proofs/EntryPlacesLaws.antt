@@ -8,7 +8,8 @@ use Rattle.buffers.specs.Text.{Text}
 use Rattle.accounts.specs.declared.Caller.{Caller}
 use Rattle.accounts.specs.declared.Uid.{Uid}
 use Rattle.accounts.specs.Access.{is_root}
-use Rattle.accounts.specs.Dominance.{BoundedRole, dominates, same_role_is}
+use Rattle.accounts.specs.Dominance.{BoundedRole, dominates}
+use Rattle.accounts.proofs.DominanceLaws.{same_role_is}
 use Rattle.syntax.specs.Path.{Path, ◌▹◌, EntryPath, parent, last, same_path, in_rep, entry_location, below_rep}
 use Rattle.syntax.proofs.WithinLaws.{same_path_sound}
 use Rattle.syntax.proofs.FormLaws.{no_answer, answered}

@@ -3,7 +3,7 @@ use Rattle.std.specs.Prelude.{◌≡◌, refl, [], true, false, ◌+◌}
 use Rattle.std.proofs.Common.{arith, ltb-true, lt-ltb}
 use Rattle.buffers.specs.Text.{Text}
 use Rattle.accounts.specs.Dominance.{BoundedRole}
-use Rattle.accounts.specs.Service.{service_uid_is, service_gid_is}
+use Rattle.accounts.proofs.ServiceLaws.{service_uid_is, service_gid_is}
 use Rattle.syntax.proofs.FormLaws.{no_answer}
 use Rattle.syntax.specs.Number.{set_gid, is_mode}
 use Rattle.syntax.specs.Field.{is_content}

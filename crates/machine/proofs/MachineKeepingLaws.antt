@@ -12,7 +12,8 @@ use Rattle.accounts.specs.declared.Caller.{Caller}
 use Rattle.accounts.specs.declared.Uid.{Uid}
 use Rattle.accounts.specs.declared.Right.{Right}
 use Rattle.accounts.specs.declared.Right.TheVariants.{R, W}
-use Rattle.accounts.specs.Caller.{is_caller, caller_low}
+use Rattle.accounts.specs.Caller.{is_caller}
+use Rattle.accounts.proofs.CallerLaws.{caller_low}
 use Rattle.accounts.specs.Dominance.{BoundedRole}
 use Rattle.accounts.specs.Service.{service}
 use Rattle.syntax.specs.Path.{Path, ◌▹◌, EntryPath, parent, depth, in_rep, entry_location, is_path, is_entry_path, most_names, below_rep}

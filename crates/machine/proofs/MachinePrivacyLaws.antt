@@ -10,7 +10,8 @@ use Rattle.accounts.specs.declared.Caller.{Caller}
 use Rattle.accounts.specs.declared.Right.{Right}
 use Rattle.accounts.specs.declared.Right.TheVariants.{R, W, X}
 use Rattle.accounts.specs.Dominance.{BoundedRole}
-use Rattle.accounts.specs.Service.{service, service_not_root, service_own, service_foreign}
+use Rattle.accounts.specs.Service.{service}
+use Rattle.accounts.proofs.ServiceLaws.{service_not_root, service_own, service_foreign}
 use Rattle.syntax.specs.Path.{Path, ◌▹◌, EntryPath, parent, last, within, lies_below, in_rep, entry_location, below_rep}
 use Rattle.syntax.proofs.WithinLaws.{outside_differs}
 use Rattle.commands.specs.Command.{ShellAction, AccountAction, login, logout, cd, EntryAction, add, co, commit, up, del, Command, shell, account, entry, some_path, some_account_path, some_working_path, some_walked_path}

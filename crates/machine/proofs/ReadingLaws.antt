@@ -9,7 +9,8 @@ use Rattle.buffers.specs.Cases.{and_both}
 use Rattle.buffers.specs.Text.{every}
 use Rattle.accounts.specs.declared.Role.{Role}
 use Rattle.accounts.specs.declared.Pair.{Pair}
-use Rattle.accounts.specs.Dominance.{BoundedRole, Listed, Dominates, self, down, Falling, all_fall_is, dominates_is, dominates_self, dominates_trans}
+use Rattle.accounts.specs.Dominance.{BoundedRole, Listed, Dominates, self, down, Falling}
+use Rattle.accounts.proofs.DominanceLaws.{all_fall_is, dominates_is, dominates_self, dominates_trans}
 use Rattle.syntax.specs.Pieces.{bytes}
 use Rattle.syntax.specs.Path.{Path, EntryPath, root, ◌▹◌, depth, rep, in_rep, name_byte, is_name}
 use Rattle.syntax.specs.Field.{is_content}

@@ -1,7 +1,7 @@
 -- How long an answer buffer has to be, and whose a line is: root's just if it has a listed form and caller 0.
 use Rattle.std.specs.Prelude.{◌≡◌, refl, false, eqb}
 use Rattle.std.proofs.Math.Option.{none, some}
-use Rattle.accounts.specs.Access.{is_root_is}
+use Rattle.accounts.proofs.AccessLaws.{is_root_is}
 use Rattle.commands.specs.Command.{Line, line}
 use Rattle.machine.specs.Runs.{Call, least_room, of_root, root's}
 

@@ -7,8 +7,9 @@ use Rattle.std.proofs.Math.Bool.{and-false}
 use Rattle.buffers.specs.Cases.{case, contra}
 use Rattle.buffers.specs.Text.{Text}
 use Rattle.accounts.specs.declared.Caller.{Caller}
-use Rattle.accounts.specs.Dominance.{same_role, same_role_is, BoundedRole}
-use Rattle.accounts.specs.Service.{same_service}
+use Rattle.accounts.specs.Dominance.{same_role, BoundedRole}
+use Rattle.accounts.proofs.DominanceLaws.{same_role_is}
+use Rattle.accounts.proofs.ServiceLaws.{same_service}
 use Rattle.syntax.specs.Path.{Name, Path, root, ◌▹◌, EntryPath, in_rep}
 use Rattle.setup.specs.Setup.{Setup}
 use Rattle.tree.specs.declared.Kind.TheVariants.{Directory}

@@ -13,9 +13,11 @@ use Rattle.accounts.specs.declared.Uid.{Uid}
 use Rattle.accounts.specs.declared.Gid.{Gid}
 use Rattle.accounts.specs.declared.Role.{Role}
 use Rattle.accounts.specs.declared.Pair.{Pair}
-use Rattle.accounts.specs.Groups.{no_groups, no_groups_is, with_group_is}
+use Rattle.accounts.specs.Groups.{no_groups}
+use Rattle.accounts.proofs.GroupsLaws.{no_groups_is, with_group_is}
 use Rattle.accounts.specs.Access.{is_root}
-use Rattle.accounts.specs.Dominance.{falls, all_fall, all_fall_every}
+use Rattle.accounts.specs.Dominance.{falls, all_fall}
+use Rattle.accounts.proofs.DominanceLaws.{all_fall_every}
 use Rattle.syntax.specs.Pieces.{bytes, comma, newline, pieces}
 use Rattle.syntax.specs.Form.{◌>>=◌, ◌>>◌, check, is_some}
 use Rattle.syntax.proofs.FormLaws.{no_answer, both_read, checked, answered, both, AnswersPass, two_gives, three_gives, FormsGive, no_form, ◌also◌, by_form_gives}

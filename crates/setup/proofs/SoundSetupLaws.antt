@@ -8,9 +8,11 @@ use Rattle.std.proofs.lemmas.Bool.{eqb-false}
 use Rattle.buffers.specs.Cases.{case, and_both}
 use Rattle.buffers.specs.Text.{every}
 use Rattle.accounts.specs.declared.Pair.{Pair}
-use Rattle.accounts.specs.Groups.{member_is}
-use Rattle.accounts.specs.Access.{is_root, is_root_is}
-use Rattle.accounts.specs.Dominance.{falls, falls_is}
+use Rattle.accounts.proofs.GroupsLaws.{member_is}
+use Rattle.accounts.specs.Access.{is_root}
+use Rattle.accounts.proofs.AccessLaws.{is_root_is}
+use Rattle.accounts.specs.Dominance.{falls}
+use Rattle.accounts.proofs.DominanceLaws.{falls_is}
 use Rattle.syntax.specs.Path.{is_name}
 use Rattle.syntax.specs.Form.{is_some}
 use Rattle.syntax.proofs.FormLaws.{no_answer, is_none, answered, both, the_some}

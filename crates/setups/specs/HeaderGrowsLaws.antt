@@ -13,7 +13,8 @@ use Rattle.buffers.specs.TableLaws.{zeros_join, all_bytes_append, length_all_byt
 use Rattle.buffers.specs.PasteLaws.{paste_piece}
 use Rattle.buffers.specs.FieldsLaws.{length_padded}
 use Rattle.accounts.specs.declared.Pair.{Pair}
-use Rattle.accounts.specs.PairBytes.{pair_bytes, length_pair as pair_wide}
+use Rattle.accounts.specs.PairBytes.{pair_bytes}
+use Rattle.accounts.proofs.PairBytesLaws.{length_pair as pair_wide}
 use Rattle.setup.specs.Setup.{Person, Grant, Setup, accounts, most_pairs, most_grants, with_pair, with_grant, is_slot, is_pair, is_grant, is_setup}
 use Rattle.setup.proofs.SetupLaws.{apart}
 use Rattle.store.specs.HeaderLayout.{directories_width, spare_width, pairs_offset, pair_width, grants_offset, grant_width, pair_start, grant_start}

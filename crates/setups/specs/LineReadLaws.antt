@@ -20,7 +20,8 @@ use Rattle.accounts.specs.declared.Pair.{Pair}
 use Rattle.accounts.specs.declared.Groups.{Groups}
 use Rattle.accounts.specs.Groups.{no_groups, with_group}
 use Rattle.accounts.specs.Access.{is_root}
-use Rattle.accounts.specs.Dominance.{falls, falls_is}
+use Rattle.accounts.specs.Dominance.{falls}
+use Rattle.accounts.proofs.DominanceLaws.{falls_is}
 use Rattle.accounts.specs.PairBytes.{pair_bytes, pair_of}
 use Rattle.syntax.specs.declared.Span.{Span}
 use Rattle.syntax.specs.Pieces.{bytes}

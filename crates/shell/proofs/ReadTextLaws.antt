@@ -17,7 +17,7 @@ use Rattle.tree.proofs.NodeLaws.{node_ranges}
 use Rattle.tree.specs.WellFormed.{is_place, is_tree}
 use Rattle.tree.proofs.WellFormedLaws.{place_parts, top_directory}
 use Rattle.tree.proofs.SizeLaws.{names_few, names_are_names, tree_place}
-use Rattle.tree.specs.LargestTrees.{full, full_is_tree, full_names}
+use Rattle.tree.proofs.LargestTreesLaws.{full, full_is_tree, full_names}
 use Rattle.shell.specs.Steps.{text_of, longest_text}
 
 -- names joined by commas have at most 9 bytes each, less one

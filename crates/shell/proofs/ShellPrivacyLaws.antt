@@ -14,7 +14,8 @@ use Rattle.accounts.specs.declared.Right.{Right}
 use Rattle.accounts.specs.declared.Right.TheVariants.{W, X}
 use Rattle.accounts.specs.Groups.{member}
 use Rattle.accounts.specs.declared.Account.{Account}
-use Rattle.accounts.specs.Access.{is_root, same_uid, may_group, may_other, grants_none}
+use Rattle.accounts.specs.Access.{is_root, same_uid}
+use Rattle.accounts.proofs.AccessLaws.{may_group, may_other, grants_none}
 use Rattle.syntax.specs.Number.{octal}
 use Rattle.syntax.specs.Path.{Name, Path, root, ◌▹◌, parent, last, is_top, same_path, within, lies_below, reserved}
 use Rattle.syntax.proofs.WithinLaws.{same_path_sound, outside_differs, apart_below, top_not_below}

@@ -17,9 +17,10 @@ use Rattle.buffers.specs.TextLaws.{same_text_refl}
 use Rattle.buffers.specs.Fields.{two_bytes, number_at, padded, unpadded, text_at, all_zero, zeros_at, all_bytes, all_from, table_bytes, table_from}
 use Rattle.buffers.specs.FieldsLaws.{length_two_bytes, length_padded, byte_there}
 use Rattle.buffers.specs.TableLaws.{length_all_from, all_from_at, table_count}
-use Rattle.accounts.specs.Access.{is_root_is}
-use Rattle.accounts.specs.Dominance.{falls_is}
-use Rattle.accounts.specs.PairBytes.{pair_bytes, pair_of, pair_bytes_are, pair_of_two, length_pair}
+use Rattle.accounts.proofs.AccessLaws.{is_root_is}
+use Rattle.accounts.proofs.DominanceLaws.{falls_is}
+use Rattle.accounts.specs.PairBytes.{pair_bytes, pair_of}
+use Rattle.accounts.proofs.PairBytesLaws.{pair_bytes_are, pair_of_two, length_pair}
 use Rattle.syntax.specs.Path.{is_name}
 use Rattle.syntax.specs.Form.{is_some}
 use Rattle.syntax.specs.Field.{bounded, bounded_by}

@@ -15,7 +15,8 @@ use Rattle.buffers.specs.FieldsLaws.{length_two_bytes, number_at_bytes, length_p
 use Rattle.buffers.specs.TableLaws.{length_all_bytes, length_table, all_from_bytes, table_from_bytes}
 use Rattle.accounts.specs.Access.{is_root}
 use Rattle.accounts.specs.Dominance.{BoundedRole}
-use Rattle.accounts.specs.PairBytes.{pair_bytes, pair_of, length_pair, pair_back}
+use Rattle.accounts.specs.PairBytes.{pair_bytes, pair_of}
+use Rattle.accounts.proofs.PairBytesLaws.{length_pair, pair_back}
 use Rattle.syntax.specs.Path.{is_name}
 use Rattle.syntax.proofs.PathLaws.{name_fits}
 use Rattle.syntax.specs.Field.{bounded, bounded_by}

@@ -37,3 +37,4 @@ pub mod OutlineLaws
 pub mod TagBytesLaws
 pub mod SearchCases
 pub mod FilesCases
+pub mod LargestTreesLaws

@@ -9,7 +9,8 @@ use Rattle.buffers.specs.Text.{same_text}
 use Rattle.buffers.specs.TextLaws.{same_text_sound}
 use Rattle.accounts.specs.declared.Right.TheVariants.{X}
 use Rattle.accounts.specs.declared.Account.{Account}
-use Rattle.accounts.specs.Access.{is_root, may_root}
+use Rattle.accounts.specs.Access.{is_root}
+use Rattle.accounts.proofs.AccessLaws.{may_root}
 use Rattle.syntax.specs.Path.{Name, Path, root, ◌▹◌, parent, same_path, within, lies_below, carried}
 use Rattle.syntax.proofs.WithinLaws.{Lies, itself, deeper, same_path_sound, same_path_refl, lies, lies_outside, lies_top, top_not_below, below_parent}
 use Rattle.syntax.specs.Form

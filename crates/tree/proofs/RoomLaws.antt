@@ -5,7 +5,8 @@ use Rattle.std.proofs.Math.Option.{none, some}
 use Rattle.std.proofs.lemmas.Bool.{not-true}
 use Rattle.accounts.specs.declared.Right.TheVariants.{W}
 use Rattle.accounts.specs.declared.Account.{Account}
-use Rattle.accounts.specs.Access.{is_root, may_root}
+use Rattle.accounts.specs.Access.{is_root}
+use Rattle.accounts.proofs.AccessLaws.{may_root}
 use Rattle.syntax.specs.Path.{Name, Path, root, ◌▹◌, parent, last, is_top}
 use Rattle.syntax.proofs.FormLaws.{answered}
 use Rattle.tree.specs.declared.Cause.TheVariants.{Access, Exists}

@@ -1,5 +1,5 @@
 -- `adding::new_entry` meets its contract: owner and group are counted from 16 by role, and the mode goes by the kind.
-use Rattle.accounts.specs.Service.{service_uid_is, service_gid_is}
+use Rattle.accounts.proofs.ServiceLaws.{service_uid_is, service_gid_is}
 use Rattle.adding.specs.AddSteps.{fresh_entry}
 use Rattle.adding.proofs.new_entry.Goals as goal
 

@@ -1,5 +1,5 @@
 -- `stored_header::account_command` meets its contract: each case is the command that its parts mean.
-use Rattle.accounts.specs.Dominance.{role_low}
+use Rattle.accounts.proofs.DominanceLaws.{role_low}
 use Rattle.commands.specs.Meaning.{AccountMeans}
 use Rattle.commands.specs.MeaningLaws.{means_as, part_read}
 use Rattle.machine.specs.Machine.{run_account}

@@ -2,7 +2,8 @@
 -- Assumes nothing.
 use mathlib.Core.Path.{sym, ◌∙◌}
 use borrow.Author.Tests.{eq-eqb, ne_eqb}
-use Rattle.accounts.specs.Access.{is_root, same_uid, may_root, may_owner, may_group, may_other}
+use Rattle.accounts.specs.Access.{is_root, same_uid}
+use Rattle.accounts.proofs.AccessLaws.{may_root, may_owner, may_group, may_other}
 use Rattle.accounts.proofs.Account.may.Goals as goal
 
 pub returns-then-uid-eq0 : goal.returns-then-uid-eq0

@@ -1,6 +1,7 @@
 -- `entry_runner::command::entry_command` meets its contract: each case is the command that its parts mean, in the session.
 use mathlib.Core.Path.{◌∙◌, ap}
-use Rattle.accounts.specs.Dominance.{role_low, dominates}
+use Rattle.accounts.specs.Dominance.{dominates}
+use Rattle.accounts.proofs.DominanceLaws.{role_low}
 use Rattle.commands.specs.Meaning.{EntryMeans}
 use Rattle.commands.specs.MeaningLaws.{means_as, part_read}
 use Rattle.machine.specs.Machine.{run_entry}

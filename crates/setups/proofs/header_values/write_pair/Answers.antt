@@ -1,5 +1,5 @@
 -- `setups::header_values::write_pair` meets its contract: a pair is its two roles.
-use Rattle.accounts.specs.PairBytes.{pair_bytes_are}
+use Rattle.accounts.proofs.PairBytesLaws.{pair_bytes_are}
 use Rattle.setups.proofs.header_values.write_pair.Goals as goal
 
 pub returns : goal.returns

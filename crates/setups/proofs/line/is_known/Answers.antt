@@ -5,7 +5,7 @@ use borrow.Author.Tests.{eq-eqb, ne_eqb, eqb-true, eqb-false}
 use lib.Dec.{eqb}
 use lib.ListN.{get_or}
 use Rattle.buffers.specs.Cases.{case}
-use Rattle.accounts.specs.Access.{is_root_is}
+use Rattle.accounts.proofs.AccessLaws.{is_root_is}
 use Rattle.syntax.specs.Form.{is_some}
 use Rattle.setups.specs.LineReadLaws.{begun_wide, slot_empty, slot_filled}
 use Rattle.setups.proofs.line.is_known.Goals as goal

@@ -6,7 +6,8 @@ use native.Mathlib.Omega.{arith}
 use lib.Seq.{paste}
 use Rattle.accounts.specs.declared.Gid.{Gid}
 use Rattle.accounts.specs.declared.Groups.{Groups}
-use Rattle.accounts.specs.Groups.{no_groups, no_groups_is}
+use Rattle.accounts.specs.Groups.{no_groups}
+use Rattle.accounts.proofs.GroupsLaws.{no_groups_is}
 use Rattle.setup.specs.Setup.{Person, is_slot}
 use Rattle.store.specs.InitialRows.{slot_value}
 use Rattle.store.specs.StoreBytes.{slot_bytes, setup_of}

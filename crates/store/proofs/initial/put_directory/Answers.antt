@@ -2,7 +2,7 @@
 use mathlib.Core.Path.{ap, ◌∙◌}
 use native.Mathlib.Omega.{arith}
 use lib.ListN.{length}
-use Rattle.accounts.specs.Access.{is_root_is}
+use Rattle.accounts.proofs.AccessLaws.{is_root_is}
 use Rattle.syntax.specs.Path.{root, ◌▹◌}
 use Rattle.syntax.proofs.PathTextLaws.{text_begins}
 use Rattle.tree.specs.Forest.{put, leaf}
