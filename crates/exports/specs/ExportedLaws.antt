@@ -1,5 +1,5 @@
 -- What each answer hands over, and that a call whose answer is told hands over what it tells.
-use Rattle.std.specs.Prelude.{◌≡◌, refl, [], ℕ}
+use Rattle.std.specs.Prelude.{◌≡◌, refl, ℕ}
 use Rattle.std.proofs.Common.{◌∙◌, ap}
 use Rattle.tree.specs.declared.Cause.{Cause}
 use Rattle.tree.specs.Causes.{number}
