@@ -30,6 +30,7 @@ LABELLED = {"held-after": "buffer_after", "held_after": "buffer_after"}
 
 NAME = re.compile(r"[^\s(){}.;,@\"«»\[\]`]+")
 HYPHENS = re.compile(r"[A-Za-zα-ω]\w*(-[\w']+)+")
+JOINED = re.compile(r"[A-Z]\w*[a-z]_[a-z]\w*")
 USE = re.compile(r"^\s*(?:pub )?use ([^\s{]+?)(?:\.\{([^}]*)\})?(?: as \S+)?\s*$", re.M)
 PARTS = re.compile(r'(--.*|//.*|"(?:[^"\\\n]|\\.)*")')
 QUOTED = re.compile(r"`[^`\n]*`")
@@ -84,6 +85,8 @@ def main():
     sources = sorted(ROOT.glob("crates/*/src/*.rt"))
     used = {name for file in [*files, *sources] for part, code in code_parts(file.read_text()) if code for name in NAME.findall(part)}
     names = {name: spelling(name) for name in used if HYPHENS.fullmatch(name) and name not in libraries}
+    # types that port.py has given an underscore
+    names |= {name: spelling(name.replace("_", "-")) for name in used if JOINED.fullmatch(name) and name not in libraries}
     names["held-after"] = LABELLED["held-after"]
     meet = {name for name, new in names.items() if new in used or new in libraries}
     print("meets another name, and may:", *sorted(meet))

@@ -108,9 +108,9 @@ pub record TypedRead (t : Text) (c : Typed) : Type 0 where
   pub second : ArgumentRead c.shape.second t (second_of c)
   pub third : ArgumentRead c.shape.third t (third_of c)
 
-abbrev pub Read_in : Text → Parsed → Type 0
-Read_in t (IsLine u c) = TypedRead t c
-Read_in t NoForm = Unit {0}
+abbrev pub ReadIn : Text → Parsed → Type 0
+ReadIn t (IsLine u c) = TypedRead t c
+ReadIn t NoForm = Unit {0}
 
 -- the command of a word with these arguments
 abbrev pub command_from : Word → List Text → Option TypedCommand

@@ -5,7 +5,7 @@ ghost use Rattle.syntax.specs.Pieces.{comma, pieces};
 ghost use Rattle.line_fields.specs.FieldsRead.{FieldsInside, given};
 ghost use Rattle.commands.specs.Command.{listed, line as line_of_text};
 ghost use Rattle.commands.specs.Words.{shape_of};
-ghost use Rattle.commands.specs.Parsed.{line_with, parsed, Read_in, command_of, command_from};
+ghost use Rattle.commands.specs.Parsed.{line_with, parsed, ReadIn, command_of, command_from};
 
 use crate::shapes::numbers_at;
 use crate::words::form_at;
@@ -20,7 +20,7 @@ fn with_arguments(line: &[u8], caller: Uid, f: Fields, word: Word, shape: Shape)
     requires count_bound { f.count ≤ 3 }
     requires shape_value { shape ≡ shape_of (listed word).kinds }
     ensures result_value { parsed line.now result ≡ map some (line_with caller (command_from word (given line.now f))) }
-    ensures read_in { Read_in line.now result }
+    ensures read_in { ReadIn line.now result }
 {
     match numbers_at(line, f, shape) {
         Numbers::Wrong => Parsed::NoForm,
@@ -42,7 +42,7 @@ fn with_arguments(line: &[u8], caller: Uid, f: Fields, word: Word, shape: Shape)
 fn command_at(line: &[u8], caller: Uid, at: usize) -> Parsed
     requires { at ≤ length line.now }
     ensures result_value { parsed line.now result ≡ map some (line_with caller (command_of (pieces comma (drop at line.now)))) }
-    ensures read_in { Read_in line.now result }
+    ensures read_in { ReadIn line.now result }
 {
     let f = fields_at(line, at);
     if 3 < f.count {
@@ -57,7 +57,7 @@ fn command_at(line: &[u8], caller: Uid, at: usize) -> Parsed
 // A command line of any bytes.
 pub fn parse(line: &[u8]) -> Parsed
     ensures result_value { parsed line.now result ≡ map some (line_of_text line.now) }
-    ensures read_in { Read_in line.now result }
+    ensures read_in { ReadIn line.now result }
 {
     let u = first_field(line);
     if u.last {

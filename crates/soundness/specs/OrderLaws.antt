@@ -1,6 +1,6 @@
 -- Rows stand in order behind `/` just if they are the rows of a well-formed forest.
 --
--- In order: the outermost of some names; from rows to forests: Level to below; from forests to rows: Goes_on, ordered.
+-- In order: the outermost of some names; from rows to forests: Level to below; from forests to rows: GoesOn, ordered.
 use Rattle.std.specs.Prelude.{◌≡◌, refl, true, false, ◌&&◌, cond, eqb, leb}
 use Rattle.std.proofs.Math.Path.{sym, ap, ap₂}
 use Rattle.std.proofs.Common.{◌∙◌, length-drop}
@@ -265,8 +265,8 @@ forest_of_rows kind rs v h =
 -- ---- from forests to rows
 
 -- rows stand in order behind every row whose k outermost names are these
-Goes_on : ℕ → List Name → List (Row Node) → Type 0
-Goes_on k ns rs = (ms : List Name) (kind : Kind) → k ≤ length ms → outermost k ms ≡ outermost k ns → in_order ms kind rs ≡ true
+GoesOn : ℕ → List Name → List (Row Node) → Type 0
+GoesOn k ns rs = (ms : List Name) (kind : Kind) → k ≤ length ms → outermost k ms ≡ outermost k ns → in_order ms kind rs ≡ true
 
 follows_of_parts : (ns : List Name) (kind : Kind) (r : Row Node) → Follows ns kind r → follows ns kind r ≡ true
 unfolding follows may_follow most_names
@@ -281,8 +281,8 @@ follows_of_parts ns kind r f =
 ordered : (F : Forest Node) (k : ℕ) (ns : List Name) (kind : Kind) (rs : List (Row Node)) → Siblings (suc k) F → k ≤ length ns
     → (length ns ≡ k → is_directory kind ≡ false → is_empty F ≡ true)
     → (k < length ns → leads (innermost (outermost (suc k) ns)) F ≡ true)
-    → Goes_on k ns rs → in_order ns kind (flatten (suc k) F ++ rs) ≡ true
-unfolding Goes_on flatten in_order height leads is_empty innermost
+    → GoesOn k ns rs → in_order ns kind (flatten (suc k) F ++ rs) ≡ true
+unfolding GoesOn flatten in_order height leads is_empty innermost
 ordered nil k ns kind rs w l c a g = g ns kind l refl
 ordered (node n x cs rest) k ns kind rs w l c a g =
     let v = forest_parts n (record { here = x; below = cs }) rest w.good in
@@ -318,7 +318,7 @@ ordered (node n x cs rest) k ns kind rs w l c a g =
 
 -- the rows of a well-formed forest below `/` stand in order
 pub forest_in_order : (kind : Kind) (F : Forest Node) → is_directory kind ≡ true → is_forest F ≡ true → height F ≤ 6 → in_order [] kind (flatten 1 F) ≡ true
-unfolding Goes_on in_order
+unfolding GoesOn in_order
 forest_in_order kind F d h l =
     rw (← append-nil (flatten 1 F))
     (ordered F 0 [] kind [] (record { good = h; low = omega arith }) (omega arith) (λ e f. contra d f) (λ m. let z : ⊥ = omega arith in absurd z) (λ ms k m e. refl))

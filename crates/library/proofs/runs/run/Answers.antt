@@ -3,7 +3,7 @@ use mathlib.Core.Path.{sym, ◌∙◌, ap, refl, subst}
 use native.Mathlib.Omega.{arith}
 use Rattle.buffers.specs.Cases.{answers_false, answers_true}
 use Rattle.syntax.proofs.FormLaws.{the_some}
-use Rattle.commands.specs.Parsed.{parsed, Read_in}
+use Rattle.commands.specs.Parsed.{parsed, ReadIn}
 use Rattle.commands.specs.MeaningLaws.{parsed_none, parsed_line}
 use Rattle.store.specs.StoreBytes.{decode}
 use Rattle.stored_header.specs.StoredLaws.{read_stored}
@@ -41,7 +41,7 @@ by_caller-requires c =
     let a = c.args in
     let s = the_some (decode a.store.now) (answers_true c.holds_store.ensures c.if-not-holds_store.false-raw) in
     let l = parsed_line a.line.now _ _ (ap (parsed a.line.now) (sym c.in-Line.is) ∙ c.parse.ensures.result_value) in
-    let read = subst (Read_in a.line.now) c.in-Line.is c.parse.ensures.read_in in
+    let read = subst (ReadIn a.line.now) c.in-Line.is c.parse.ensures.read_in in
     record {
       some_store = (s.0, read_stored _ s.0 s.1);
       some_typed = record { command = l.0; meant = l.1; read = read };
