@@ -43,7 +43,8 @@ use Rattle.machine.specs.Machine.{session, commit_found, commit_file}
 use Rattle.machine.specs.StoreMachine.{store}
 use Rattle.machine.specs.Acting.{Acting, on_tree_steps}
 use Rattle.machine.proofs.ActingLaws.{file_registry}
-use Rattle.machine.proofs.DirectoryCommitLaws.{commits_below, file_found}
+use Rattle.machine.specs.DirectoryCommit.{commits_below}
+use Rattle.machine.proofs.DirectoryCommitLaws.{file_found}
 use Rattle.machine.proofs.MachineKeepingLaws.{file_keeps}
 use Rattle.machine.proofs.SingleCommitsLaws.{file_outlines}
 use Rattle.stored_header.specs.Stored.{bytes_with}

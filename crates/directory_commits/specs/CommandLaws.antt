@@ -43,7 +43,8 @@ use Rattle.machine.specs.Machine.{commit_found, commit_file, commit_directory, r
 use Rattle.machine.specs.StoreMachine.{store}
 use Rattle.machine.specs.Acting.{Acting, on_tree_steps}
 use Rattle.machine.proofs.ActingLaws.{file_registry}
-use Rattle.machine.proofs.DirectoryCommitLaws.{each_counts, of_directory, file_found}
+use Rattle.machine.specs.DirectoryCommit.{of_directory}
+use Rattle.machine.proofs.DirectoryCommitLaws.{each_counts, file_found}
 use Rattle.stored_header.specs.Stored.{Stored, bytes_with}
 use Rattle.entries.specs.declared.Links.{Links}
 use Rattle.entries.specs.declared.Links.TheVariants.{To, Refused}

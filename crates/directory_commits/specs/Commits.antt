@@ -16,7 +16,7 @@ use Rattle.store.specs.State.{state_of}
 use Rattle.machine.specs.Machine.{commit_found, run_commit}
 use Rattle.machine.specs.StoreMachine.{store}
 use Rattle.machine.specs.Acting.{Acting}
-use Rattle.machine.proofs.DirectoryCommitLaws.{commits_below, of_directory}
+use Rattle.machine.specs.DirectoryCommit.{commits_below, of_directory}
 use Rattle.stored_header.specs.Stored.{Stored, bytes_with, InSession}
 
 -- the row of a place to which the caller walks, in a session

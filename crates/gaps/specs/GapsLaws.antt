@@ -25,7 +25,8 @@ use Rattle.tree.specs.Forest.{Place, update, put, leaf, size}
 use Rattle.tree.specs.Node.{Node, allows}
 use Rattle.tree.specs.Walk.{by_modes, unused, parent_walk, room}
 use Rattle.tree.proofs.JudgeLaws.{room_by_modes}
-use Rattle.tree.proofs.RoomLaws.{is_unused, is_used, Roomed, room_found}
+use Rattle.tree.specs.Room.{Roomed}
+use Rattle.tree.proofs.RoomLaws.{is_unused, is_used, room_found}
 use Rattle.tree.proofs.UpdateLaws.{height_below, walked_at}
 use Rattle.tree.specs.WellFormed.{nodes, is_place}
 use Rattle.tree.proofs.WellFormedLaws.{tree_parts}

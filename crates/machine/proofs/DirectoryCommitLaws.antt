@@ -21,6 +21,7 @@ use Rattle.tree.specs.Walk.{by_modes, walk}
 use Rattle.tree.specs.Files.{files_below}
 use Rattle.machine.specs.Working.{Commits, then_commits, commit_each}
 use Rattle.machine.specs.Machine.{Machine, session, commit_found, commit_file, commit_directory, run_commit}
+use Rattle.machine.specs.DirectoryCommit.{commits_below, of_directory}
 
 -- ---- commits one after another
 
@@ -54,14 +55,6 @@ module _ {S : Type 0} where
 -- ---- the command
 
 module _ {S A : Type 0} (M : Machine S A) (u : Setup) (c : Caller) where
-  -- the commits of the files below a directory
-  abbrev pub commits_below : S → Path → Place Node → Commits S
-  commits_below s w found = commit_each (λ t p. commit_file M u t c p) (files_below (by_modes c.account) w found.below) s
-
-  -- its outcome
-  abbrev pub of_directory : S → Path → Place Node → Outcome S
-  of_directory s w found = record { text = some (decimal_text (commits_below s w found).count); state = (commits_below s w found).state }
-
   -- a single commit, in a session, of what the walk found
   pub file_found : (s : S) (w : Path) {z : BoundedRole} {found : Place Node} → session M u s c ≡ done z → walk (by_modes c.account) (M.workspace s) w ≡ done found
       → commit_file M u s c w ≡ commit_found M u s c z w found
@@ -70,7 +63,7 @@ module _ {S A : Type 0} (M : Machine S A) (u : Setup) (c : Caller) where
 
   -- a commit is that of a directory, or a single one
   pub commit_either : {Q : Outcome S → Type 0} (s : S) (w : Path) → Ensures Q (commit_file M u s c w)
-      → ((found : Place Node) → walk (by_modes c.account) (M.workspace s) w ≡ done found → is_directory found.here.kind ≡ true → Q (of_directory s w found))
+      → ((found : Place Node) → walk (by_modes c.account) (M.workspace s) w ≡ done found → is_directory found.here.kind ≡ true → Q (of_directory M u c s w found))
       → Ensures Q (run_commit M u s c w)
   unfolding run_commit commit_directory
   commit_either s w one all =
@@ -82,13 +75,13 @@ module _ {S A : Type 0} (M : Machine S A) (u : Setup) (c : Caller) where
 
   -- what a done commit is
   pub commit_done : (s : S) (w : Path) (o : Outcome S) → run_commit M u s c w ≡ done o
-      → (commit_file M u s c w ≡ done o) ⊎ ((found : Place Node) × (o ≡ of_directory s w found))
+      → (commit_file M u s c w ≡ done o) ⊎ ((found : Place Node) × (o ≡ of_directory M u c s w found))
   unfolding run_commit commit_directory
   commit_done s w o e =
       let z = bind_done (session M u s c) _ e in
       let d = bind_done (walk (by_modes c.account) (M.workspace s) w) _ z.2 in
       case (is_directory d.0.here.kind)
-      (λ i. let r = then_done (require ((by_modes c.account).readable d.0.here) Access) _ (rw i at d.2) in inr (d.0, (let q : o ≡ of_directory s w d.0 = cc r.1 in q)))
+      (λ i. let r = then_done (require ((by_modes c.account).readable d.0.here) Access) _ (rw i at d.2) in inr (d.0, (let q : o ≡ of_directory M u c s w d.0 = cc r.1 in q)))
       (λ i. inl (rw (file_found s w z.1 d.1) (rw i at d.2)))
 
   -- and it keeps what every single commit keeps

@@ -1,5 +1,6 @@
 pub mod Working
 pub mod Machine
+pub mod DirectoryCommit
 pub mod StoreMachine
 pub mod AbstractMachine
 pub mod AbstractInstance

@@ -21,7 +21,8 @@ use Rattle.tree.specs.WellFormed.{nodes, is_tree}
 use Rattle.tree.specs.Result.{done}
 use Rattle.tree.specs.Walk.{by_modes, room}
 use Rattle.tree.proofs.UpdateLaws.{place_at_child, place_at_parent, walked_at}
-use Rattle.tree.proofs.RoomLaws.{Roomed, room_found, root_room}
+use Rattle.tree.specs.Room.{Roomed}
+use Rattle.tree.proofs.RoomLaws.{room_found, root_room}
 use Rattle.tree.proofs.WellFormedLaws.{tree_parts, place_below}
 use Rattle.tree.proofs.ChangeLaws.{keep_drop, nodes_drop}
 use Rattle.tree.proofs.OtherPathLaws.{drop_none, drop_some}

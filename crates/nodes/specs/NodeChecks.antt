@@ -7,7 +7,7 @@ use Rattle.accounts.specs.declared.Account.{Account}
 use Rattle.accounts.specs.declared.Right.TheVariants.{W}
 use Rattle.syntax.specs.Pieces.{bytes}
 use Rattle.syntax.specs.Path.{Path, path, parent, reserved}
-use Rattle.syntax.proofs.PathTextLaws.{text_goes_on_from}
+use Rattle.syntax.specs.Parts.{text_goes_on_from}
 use Rattle.tree.specs.declared.Kind.{Kind}
 use Rattle.tree.specs.declared.Cause.TheVariants.{Access, WrongKind, NotEmpty, Reserved, Full}
 use Rattle.tree.specs.Result.{Result, done, ◌>>=◌, ◌>>◌, require, Outcome}

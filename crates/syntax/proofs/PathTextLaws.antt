@@ -1,5 +1,5 @@
 -- What the text of a path tells of the path: whether it is `/`, whether it is reserved, and whether it is another or lies within it.
-use Rattle.std.specs.Prelude.{◌≡◌, ◌∷◌, ◌++◌, ◌⊎◌, Bool, ◌&&◌, ◌||◌, ℕ, suc, ◌≤◌, ◌<◌, eqb, leb, take, drop, get_or}
+use Rattle.std.specs.Prelude.{◌≡◌, ◌∷◌, ◌++◌, ◌⊎◌, ◌||◌, ℕ, suc, ◌≤◌, ◌<◌, eqb, leb, take, drop, get_or}
 use Rattle.std.proofs.Math.Path.{refl}
 use Rattle.std.proofs.Common.{sym, ap, ◌∙◌, inl, inr, arith, eq-eqb, eqb-true, length-append, length-take, take-append-drop, take_all, drop-cons}
 use Rattle.std.proofs.Math.Option.{some}
@@ -13,6 +13,7 @@ use Rattle.buffers.specs.TextLaws.{same_text_refl, same_text_sound}
 use Rattle.syntax.specs.Pieces.{bytes}
 use Rattle.syntax.proofs.FormLaws.{answered}
 use Rattle.syntax.specs.Path.{Name, Path, root, ◌▹◌, last, depth, is_top, same_path, within, rep, reserved, name_byte, is_name, most_names, has_names, is_path, path, names_text, path_text}
+use Rattle.syntax.specs.Parts.{text_goes_on_from}
 use Rattle.syntax.proofs.WithinLaws.{Lies, itself, deeper, same_path_sound, same_path_refl, lies, lies_within}
 use Rattle.syntax.proofs.PathLaws.{name_length, path_of_text, path_is_path, last_is_name, text_lies, lies_text}
 use Rattle.syntax.proofs.ParentLaws.{text_of_path}
@@ -106,10 +107,6 @@ reserved_by_text s p reads = case (same_text s (path_text root))
     (λ f. rw (e, f) (reserved_alone p (not_text s p reads root e) (not_text s p reads (root ▹ rep) f))))
 
 -- ---- a path within another
-
--- the text u is s, or goes on behind it with a `/`
-unfoldable pub text_goes_on_from : Text → Text → Bool
-text_goes_on_from s u = same_text (take (length s) u) s && (eqb (length u) (length s) || eqb (get_or u (length s) 0) 47)
 
 went_on : (s u : Text) → (u ≡ s) ⊎ ((t : Text) × (u ≡ s ++ (47 ∷ t))) → text_goes_on_from s u ≡ true
 unfolding text_goes_on_from

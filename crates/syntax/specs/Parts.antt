@@ -1,7 +1,7 @@
 -- What the code's readers answer: parts of a text by their places, fields, numbers and names.
-use Rattle.std.specs.Prelude.{List, [], ◌∷◌, Bool, ◌&&◌, cond, ℕ, zero, suc, ◌+◌, ◌-◌, ◌≤◌, eqb, leb, length, take, drop, get_or}
+use Rattle.std.specs.Prelude.{List, [], ◌∷◌, Bool, ◌&&◌, ◌||◌, cond, ℕ, zero, suc, ◌+◌, ◌-◌, ◌≤◌, eqb, leb, length, take, drop, get_or}
 use Rattle.std.proofs.Math.Option.{Option, none, some}
-use Rattle.buffers.specs.Text.{Text}
+use Rattle.buffers.specs.Text.{Text, same_text}
 use Rattle.syntax.specs.declared.Span.{Span}
 use Rattle.syntax.specs.declared.Field.{Field}
 use Rattle.syntax.specs.declared.Class.{Class}
@@ -83,3 +83,7 @@ slash_before t (suc n) = cond (eqb (get_or t n 0) 47) n (slash_before t n)
 -- where the last `/` of a text is, or 0 where there is none
 unfoldable pub last_slash : Text → ℕ
 last_slash t = slash_before t (length t)
+
+-- the text u is s, or goes on behind it with a `/`
+unfoldable pub text_goes_on_from : Text → Text → Bool
+text_goes_on_from s u = same_text (take (length s) u) s && (eqb (length u) (length s) || eqb (get_or u (length s) 0) 47)

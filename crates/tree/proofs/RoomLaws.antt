@@ -17,6 +17,7 @@ use Rattle.tree.proofs.GivesLaws.{any_outcome, done_with, then_check, then_guard
 use Rattle.tree.specs.Forest.{Forest, Place, get, place_at}
 use Rattle.tree.specs.Node.{is_directory, Node}
 use Rattle.tree.specs.Walk.{Judge, by_modes, unused, walk, room}
+use Rattle.tree.specs.Room.{Roomed}
 use Rattle.tree.proofs.JudgeLaws.{allows_is, room_by_modes}
 use Rattle.tree.proofs.StepLaws.{walk_root, walked, was_unused, parent_walked}
 use Rattle.tree.proofs.UpdateLaws.{place_at_root, walked_at}
@@ -41,13 +42,6 @@ pub walked_above : {A : Type 0} (j : Judge A) (t : Place A) (p : Path) {d e : Pl
 unfolding parent
 walked_above j t root w a = walk_root j t ∙ ap done (answered (sym a ∙ place_at_root t))
 walked_above j t (p ▹ n) w a = let i = walked j t p n w in i.1 ∙ ap done (answered (sym a ∙ walked_at t j p i.0 i.1))
-
--- a directory for a new node at p: the walk to the parent leads there, and the name is not used
-pub record Roomed (a : Account) (t : Place Node) (p : Path) (d : Place Node) : Type 0 where
-  pub led : walk (by_modes a) t (parent p) ≡ done d
-  pub enterable : is_directory d.here.kind ≡ true
-  pub free : get (last p) d.below ≡ none
-  pub below_top : is_top p ≡ false
 
 module _ (a : Account) (t : Place Node) (p : Path) where
   room_ensures : Ensures (Roomed a t p) (room (by_modes a) t p)

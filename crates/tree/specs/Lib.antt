@@ -5,6 +5,7 @@ pub mod Outcomes
 pub mod Forest
 pub mod Node
 pub mod Walk
+pub mod Room
 pub mod WellFormed
 pub mod SoundTree
 pub mod Graft

@@ -9,7 +9,7 @@ use lib.ListN.{length, take, get_or, length-take}
 use Rattle.buffers.specs.Cases.{answers_false, answers_true}
 use Rattle.buffers.specs.Text.{Text, same_text}
 use Rattle.buffers.specs.TextLaws.{same_text_sound}
-use Rattle.syntax.proofs.PathTextLaws.{text_goes_on_from}
+use Rattle.syntax.specs.Parts.{text_goes_on_from}
 use Rattle.nodes.specs.NodeChecks.{text_within}
 use Rattle.nodes.proofs.paths.is_within.Goals as goal
 
