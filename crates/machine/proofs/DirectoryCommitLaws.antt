@@ -2,12 +2,10 @@
 use Rattle.std.specs.Prelude.{◌≡◌, ◌⊎◌, true, ℕ, suc, ◌≤◌, length}
 use mathlib.Core.List.{List, [], ◌∷◌}
 use Rattle.std.proofs.Math.Logic.{inl, inr}
-use Rattle.std.proofs.Math.Option.{some}
 use native.Mathlib.Omega.{arith}
 use Rattle.buffers.specs.Cases.{case}
 use Rattle.accounts.specs.declared.Caller.{Caller}
 use Rattle.accounts.specs.Dominance.{BoundedRole}
-use Rattle.syntax.specs.Number.{decimal_text}
 use Rattle.syntax.specs.Path.{Path}
 use Rattle.setup.specs.Setup.{Setup}
 use Rattle.tree.specs.declared.Cause.TheVariants.{Access}
@@ -18,10 +16,9 @@ use Rattle.tree.proofs.GivesLaws.{then_check, then_do}
 use Rattle.tree.specs.Forest.{Place}
 use Rattle.tree.specs.Node.{Node, is_directory}
 use Rattle.tree.specs.Walk.{by_modes, walk}
-use Rattle.tree.specs.Files.{files_below}
 use Rattle.machine.specs.Working.{Commits, then_commits, commit_each}
 use Rattle.machine.specs.Machine.{Machine, session, commit_found, commit_file, commit_directory, run_commit}
-use Rattle.machine.specs.DirectoryCommit.{commits_below, of_directory}
+use Rattle.machine.specs.DirectoryCommit.{of_directory}
 
 -- ---- commits one after another
 
