@@ -60,17 +60,19 @@ def rattle(crate, verb, room, *more):
     return ran.returncode, ran.stdout
 
 
-def checked(crate, texts):
+def checked(crate, texts, kept=None, keeps=False):
     """A check of the crate with these texts in place of its own, by their places in it: its status and what it said. It begins with
-    what `rt check` kept, if it kept anything."""
+    what an earlier check kept in a folder, by default what `rt check` kept, if it kept anything; with `keeps` it adds to that folder."""
     with tempfile.TemporaryDirectory() as room:
         for part in PARTS:
             if os.path.isdir(f"{crate.folder}/{part}"):
                 shutil.copytree(f"{crate.folder}/{part}", f"{room}/{part}")
         for place, text in texts.items():
             pathlib.Path(room, place).write_text(text)
-        kept, more = f"{crate.folder}/out/incremental", []
-        if os.path.isdir(kept):
+        kept, more = kept or f"{crate.folder}/out/incremental", []
+        if keeps:
+            more = ["--incremental", str(kept)]
+        elif os.path.isdir(kept):
             linked(kept, f"{room}/kept")
             more = ["--incremental", f"{room}/kept"]
         return rattle(crate, "check", room, *more)
