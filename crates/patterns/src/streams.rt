@@ -24,7 +24,6 @@ pub fn write_all(rt: &HostRuntime, to: Stream, text: &[u8]) -> io::Result<()> {
 
 // Reads once from standard input: how many bytes, none only at its end, or -1 where that fails, and then it says why.
 pub fn read(rt: &HostRuntime, buffer: &mut [u8]) -> isize
-    requires { length buffer.old ≤ 65536 }
     ensures { Counted (length buffer.new) result }
 {
     match rt.stdin().read(buffer) {
@@ -47,7 +46,9 @@ pub fn argument(rt: &HostRuntime, i: usize, buffer: &mut [u8]) -> usize
 }
 
 // How many arguments the program was started with, its own name among them; from 3 on it tells 3.
-pub fn argument_count(rt: &HostRuntime) -> usize {
+pub fn argument_count(rt: &HostRuntime) -> usize
+    ensures { result ≤ 3 }
+{
     let mut text = [0u8; 1];
     for i in 0..3 {
         if let Err(FillError::NotPresent) = rt.arg(i, &mut text) {
