@@ -2,9 +2,10 @@
 use Rattle.std.specs.Prelude.{◌≡◌, refl, Bool, true, false, ◌&&◌}
 use Rattle.std.proofs.Common.{sym, ap}
 use Rattle.std.proofs.Math.Option.{Option, none, some}
+use Rattle.std.specs.Prelude.{Ok, Err}
 use Rattle.buffers.specs.Cases.{contra}
 use Rattle.tree.specs.declared.Cause.{Cause}
-use Rattle.tree.specs.Result.{Result, refused, done, ◌>>=◌, ◌>>◌, require, present, absent}
+use Rattle.tree.specs.Result.{Result, refused, done, outcome, ◌>>=◌, ◌>>◌, require, present, absent}
 
 -- a refusal is not done
 pub not_done : {A P : Type 0} {why : Cause} {a : A} → refused why ≡ done a → P
@@ -14,6 +15,16 @@ not_done e = contra {b = true} refl (cc)
 pub by_result : {A P : Type 0} (r : Result A) → ((k : Cause) → r ≡ refused k → P) → ((a : A) → r ≡ done a → P) → P
 by_result (refused k) f g = f k refl
 by_result (done a) f g = g a refl
+
+-- ---- the code's answers
+
+pub outcome_ok : {A : Type 0} (a : A) → outcome (Ok a) ≡ done a
+unfolding outcome
+outcome_ok a = refl
+
+pub outcome_err : {A : Type 0} (why : Cause) → outcome {A = A} (Err why) ≡ refused why
+unfolding outcome
+outcome_err why = refl
 
 -- ---- what has been done
 

@@ -20,13 +20,12 @@ use Rattle.buffers.specs.Cases.{case, and_both, contra}
 use Rattle.buffers.specs.Text.{every, same_text, precedes}
 use Rattle.buffers.specs.TextLaws.{every_append, same_text_refl, precedes_differ}
 use Rattle.syntax.specs.Path.{Name, Path, ◌▹◌, last, depth}
-use Rattle.tree.specs.declared.Child.{Child}
-use Rattle.tree.specs.declared.Child.TheVariants.{Found, Missing}
+use Rattle.std.specs.Prelude.{Ok, Err}
 use Rattle.tree.specs.Forest.{Forest, nil, node, Place, get, size}
 use Rattle.tree.proofs.ForestLaws.{differ_sym, found_none}
 use Rattle.tree.specs.Rows.{Row, flatten, rows}
 use Rattle.tree.proofs.RowLaws.{length_flatten}
-use Rattle.tree.specs.RowScan.{order_of, Order, Before, Same, After, span, first_passes, is_deeper, first_depth, depth_of, order_in, child_by, child_from, child_in}
+use Rattle.tree.specs.RowScan.{Child, order_of, Order, Before, Same, After, span, first_passes, is_deeper, first_depth, depth_of, order_in, child_by, child_from, child_in}
 use Rattle.tree.specs.RowPlaces.{place_rows, ends, index_of, Around, sorted, lesser, not_lesser}
 use Rattle.tree.proofs.RowPlacesLaws.{length_place_rows}
 use Rattle.tree.proofs.RowChangesLaws.{found_split, spot_index}
@@ -104,17 +103,17 @@ module _ {A : Type 0} (k : ℕ) (n : Name) (r : Row A) where
 
 module _ {A : Type 0} (k : ℕ) (n : Name) (i : ℕ) where
   -- nothing is found where the children have ended
-  child_from_ends : (B : List (Row A)) → ends k B ≡ true → child_from (suc k) n i B ≡ Missing i
+  child_from_ends : (B : List (Row A)) → ends k B ≡ true → child_from (suc k) n i B ≡ Err i
   unfolding ends child_from child_by
   child_from_ends [] h = refl
   child_from_ends (r ∷ rs) h = let l = leb-true r.depth k h in rw (order_above (suc k) n r (omega arith))
 
 -- nothing missing is found
-pub missing_not_found : {P : Type 0} {i j : ℕ} → Missing i ≡ Found j → P
+pub missing_not_found : {P : Type 0} {i j : ℕ} → Err i ≡ Ok j → P
 missing_not_found e = contra {b = true} refl (cc)
 
 -- what is found stands at an index in front of the end
-bound_by : (o : Order) (i j l : ℕ) (behind : Child) → (behind ≡ Found j → j < suc i + l) → child_by o i behind ≡ Found j → j < i + suc l
+bound_by : (o : Order) (i j l : ℕ) (behind : Child) → (behind ≡ Ok j → j < suc i + l) → child_by o i behind ≡ Ok j → j < i + suc l
 unfolding child_by
 bound_by Before i j l behind f e = let h = f e in omega arith
 bound_by Same i j l behind f e = let h : i ≡ j = cc in omega arith
@@ -122,7 +121,7 @@ bound_by After i j l behind f e = missing_not_found e
 
 module _ {A : Type 0} (k : ℕ) (n : Name) where
   -- what is found is one of the rows
-  child_from_bound : (i j : ℕ) (rs : List (Row A)) → child_from k n i rs ≡ Found j → j < i + length rs
+  child_from_bound : (i j : ℕ) (rs : List (Row A)) → child_from k n i rs ≡ Ok j → j < i + length rs
   unfolding child_from
   child_from_bound i j [] e = missing_not_found e
   child_from_bound i j (r ∷ rs) e = bound_by (order_in k n r) i j (length rs) (child_from k n (suc i) rs) (child_from_bound (suc i) j rs) e
@@ -176,8 +175,8 @@ module _ {A : Type 0} (k : ℕ) (n : Name) where
       (λ t. let q : i + 0 ≡ i = omega arith in rw (t, q))
 
   -- the next is not the child where there is none
-  child_from_greater : (i : ℕ) (F : Forest A) (B : List (Row A)) → get n F ≡ none → child_from k n i B ≡ Missing i
-      → child_from k n i (flatten k (not_lesser n F) ++ B) ≡ Missing i
+  child_from_greater : (i : ℕ) (F : Forest A) (B : List (Row A)) → get n F ≡ none → child_from k n i B ≡ Err i
+      → child_from k n i (flatten k (not_lesser n F) ++ B) ≡ Err i
   unfolding not_lesser flatten child_from child_by
   child_from_greater i nil B g h = h
   child_from_greater i (node m x cs rest) B g h =
@@ -188,12 +187,12 @@ module _ {A : Type 0} (k : ℕ) (n : Name) where
 
   -- and is where there is one
   child_from_found : (i : ℕ) (F : Forest A) (B : List (Row A)) (e : Place A) → sorted F ≡ true → get n F ≡ some e
-      → child_from k n i (flatten k (not_lesser n F) ++ B) ≡ Found i
+      → child_from k n i (flatten k (not_lesser n F) ++ B) ≡ Ok i
   unfolding flatten child_from child_by
   child_from_found i F B e s g = rw ((found_split n F e s g).1, sibling_same n e.here (same_text_refl n))
 
 -- and so is a child that is found behind the row of its parent
-pub child_in_bound : {A : Type 0} (rs : List (Row A)) (at j : ℕ) (n : Name) → at < length rs → child_in rs at n ≡ Found j → j < length rs
+pub child_in_bound : {A : Type 0} (rs : List (Row A)) (at j : ℕ) (n : Name) → at < length rs → child_in rs at n ≡ Ok j → j < length rs
 unfolding child_in
 child_in_bound rs at j n h e =
     let b = child_from_bound (suc (depth_of rs at)) n (suc at) j (drop (suc at) rs) e in
@@ -251,11 +250,11 @@ module _ {A : Type 0} {t : Place A} {p : Path} {d : Place A} (c : Around t p d) 
         ∙ ap (λ (i : ℕ). child_from (suc (depth p)) n i (flatten (suc (depth p)) (not_lesser n d.below) ++ c.post)) q)
 
     -- a child is found where it stands
-    pub child_in_rows : (e : Place A) → sorted d.below ≡ true → get n d.below ≡ some e → child_in (rows t) (index_of t p) n ≡ Found (index_of t (p ▹ n))
+    pub child_in_rows : (e : Place A) → sorted d.below ≡ true → get n d.below ≡ some e → child_in (rows t) (index_of t p) n ≡ Ok (index_of t (p ▹ n))
     child_in_rows e s g =
-        child_in_spot ∙ child_from_found (suc (depth p)) n would_stand d.below c.post e s g ∙ ap {B = Child} Found (spot_index c n e s g)
+        child_in_spot ∙ child_from_found (suc (depth p)) n would_stand d.below c.post e s g ∙ ap {B = Child} Ok (spot_index c n e s g)
 
     -- and one that is not there would stand behind the lesser ones
-    pub no_child_in_rows : get n d.below ≡ none → child_in (rows t) (index_of t p) n ≡ Missing (suc (index_of t p + size (lesser n d.below)))
+    pub no_child_in_rows : get n d.below ≡ none → child_in (rows t) (index_of t p) n ≡ Err (suc (index_of t p + size (lesser n d.below)))
     no_child_in_rows g =
         child_in_spot ∙ child_from_greater (suc (depth p)) n would_stand d.below c.post g (child_from_ends (depth p) n would_stand c.post c.stops)

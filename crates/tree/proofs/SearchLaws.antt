@@ -8,9 +8,8 @@ use Rattle.buffers.specs.Text.{Text}
 use Rattle.buffers.specs.FieldsLaws.{text_byte, text_nonzero}
 use Rattle.tree.specs.Layout.{row_start, name_offset, name_width}
 use Rattle.tree.specs.Rows.{Row}
-use Rattle.tree.specs.declared.Child.{Child}
-use Rattle.tree.specs.declared.Child.TheVariants.{Missing}
-use Rattle.tree.specs.RowScan.{order_in, child_by, child_from, child_in}
+use Rattle.std.specs.Prelude.{Err}
+use Rattle.tree.specs.RowScan.{Child, order_in, child_by, child_from, child_in}
 use Rattle.tree.specs.Encoding.{read_row}
 use Rattle.tree.specs.RowAt.{row_count, row_bytes_at, row_at, all_rows}
 use Rattle.tree.proofs.RowAtLaws.{byte_in_row, rows_from, rows_end, depth_of_row}
@@ -67,7 +66,7 @@ module _ (b : List ℕ) (k : ℕ) (n : Text) (i : ℕ) where
   steps_left_row h = ap (steps_from k n) (rows_from b i h)
 
   -- and end behind the last
-  pub child_left_end : row_count b ≤ i → child_left b k n i ≡ Missing i
+  pub child_left_end : row_count b ≤ i → child_left b k n i ≡ Err i
   unfolding child_from
   child_left_end h = ap (child_from k n i) (rows_end b i h)
 

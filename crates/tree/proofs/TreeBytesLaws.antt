@@ -11,7 +11,7 @@ use Rattle.buffers.specs.TextLaws.{every_there}
 use Rattle.buffers.specs.Fields.{two_bytes}
 use Rattle.buffers.specs.TableLaws.{all_bytes_at}
 use Rattle.syntax.specs.Path.{Name, Path, root, ◌▹◌, last, depth}
-use Rattle.tree.specs.declared.Child.TheVariants.{Found, Missing}
+use Rattle.std.specs.Prelude.{Ok, Err}
 use Rattle.tree.specs.Layout.{row_width, most_rows, row_start}
 use Rattle.tree.specs.Forest.{Place, get, place_at, size}
 use Rattle.tree.specs.Node.{Node}
@@ -145,14 +145,14 @@ module _ {b : List ℕ} {t : Place Node} {p : Path} {i : ℕ} {d : Place Node} (
 
   module _ (n : Name) where
     -- a child is found, and its row is the one found
-    pub at_child : {c : Place Node} → get n d.below ≡ some c → (child_in (all_rows b) i n ≡ Found (index_of t (p ▹ n))) × At b t (p ▹ n) (index_of t (p ▹ n)) c
+    pub at_child : {c : Place Node} → get n d.below ≡ some c → (child_in (all_rows b) i n ≡ Ok (index_of t (p ▹ n))) × At b t (p ▹ n) (index_of t (p ▹ n)) c
     at_child {c} g = (
       rw (encoded_rows a.tree, a.row) (child_in_rows stands n c (tree_sorted t p d a.tree.whole a.there) g),
       at_index a.tree (place_at_child t p n d a.there ∙ g),
     )
 
     -- one that is not there would stand behind the lesser ones
-    pub at_no_child : get n d.below ≡ none → child_in (all_rows b) i n ≡ Missing (suc (i + size (lesser n d.below)))
+    pub at_no_child : get n d.below ≡ none → child_in (all_rows b) i n ≡ Err (suc (i + size (lesser n d.below)))
     at_no_child g = rw (encoded_rows a.tree, a.row) (no_child_in_rows stands n g)
 
     -- the steps of the search are those among its children
@@ -161,13 +161,13 @@ module _ {b : List ℕ} {t : Place Node} {p : Path} {i : ℕ} {d : Place Node} (
     at_steps = rw (encoded_rows a.tree, a.row) (steps_are stands n)
 
     -- what is found is a child
-    pub at_found : {j : ℕ} → Found j ≡ child_in (all_rows b) i n → (c : Place Node) × (get n d.below ≡ some c) × At b t (p ▹ n) j c
+    pub at_found : {j : ℕ} → Ok j ≡ child_in (all_rows b) i n → (c : Place Node) × (get n d.below ≡ some c) × At b t (p ▹ n) j c
     at_found {j} f = by_option (get n d.below)
         (λ g. missing_not_found (sym (at_no_child g) ∙ sym f))
         (λ c g. let k = at_child g in let q : j ≡ index_of t (p ▹ n) = cc (f ∙ k.0) in (c, g, rw q k.1))
 
     -- what is missing is none, and the place told is where it would stand
-    pub at_missing : {j : ℕ} → Missing j ≡ child_in (all_rows b) i n → (get n d.below ≡ none) × (j ≡ suc (i + size (lesser n d.below)))
+    pub at_missing : {j : ℕ} → Err j ≡ child_in (all_rows b) i n → (get n d.below ≡ none) × (j ≡ suc (i + size (lesser n d.below)))
     at_missing {j} f = by_option (get n d.below)
-        (λ g. let q : Missing j ≡ Missing (suc (i + size (lesser n d.below))) = f ∙ at_no_child g in (g, cc))
+        (λ g. let q : Err j ≡ Err (suc (i + size (lesser n d.below))) = f ∙ at_no_child g in (g, cc))
         (λ c g. missing_not_found (f ∙ (at_child g).0))

@@ -4,6 +4,8 @@
 use Rattle.std.proofs.Math.Option.{Option, none, some}
 use Rattle.std.specs.Prelude.{Bool, true, false}
 use Rattle.buffers.specs.Text.{Text}
+use Rattle.std.specs.Prelude as code
+use Rattle.std.specs.Prelude.{Ok, Err}
 use Rattle.tree.specs.declared.Cause.{Cause}
 
 pub data Result (A : Type 0) : Type 0 where
@@ -34,6 +36,11 @@ present (some a) why = done a
 unfoldable pub absent : {A : Type 0} → Option A → Cause → Result (Unit {0})
 absent none why = done tt
 absent (some a) why = refused why
+
+-- what an answer of the code means
+unfoldable pub outcome : {A : Type 0} → code.Result A Cause → Result A
+outcome (Ok a) = done a
+outcome (Err why) = refused why
 
 -- the text of a done command, and the state after it
 pub record Outcome (S : Type 0) : Type 0 where

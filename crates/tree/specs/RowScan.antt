@@ -1,9 +1,7 @@
 -- Scans over the rows of a tree: how many lie below a place, and where the child of a name stands.
-use Rattle.std.specs.Prelude.{List, [], ◌∷◌, Bool, false, cond, ℕ, suc, ◌+◌, ltb, drop}
+use Rattle.std.specs.Prelude.{List, [], ◌∷◌, Bool, false, cond, ℕ, suc, ◌+◌, ltb, drop, Result, Ok, Err}
 use Rattle.buffers.specs.Text.{Text, same_text, precedes}
 use Rattle.syntax.specs.Path.{Name}
-use Rattle.tree.specs.declared.Child.{Child}
-use Rattle.tree.specs.declared.Child.TheVariants.{Found, Missing}
 use Rattle.tree.specs.Rows.{Row}
 
 -- how many rows in front pass a test
@@ -43,15 +41,19 @@ order_of s t = cond (same_text s t) Same (cond (precedes s t) Before After)
 unfoldable pub order_in : {A : Type 0} → ℕ → Name → Row A → Order
 order_in k n r = cond (ltb k r.depth) Before (cond (ltb r.depth k) After (order_of r.name n))
 
+-- what a search for a child answers: its row, or the one before which it would stand
+abbrev pub Child : Type 0
+Child = Result ℕ ℕ
+
 -- what the search answers at index i, by how the row there stands and what the rows behind it answer
 unfoldable pub child_by : Order → ℕ → Child → Child
 child_by Before i behind = behind
-child_by Same i behind = Found i
-child_by After i behind = Missing i
+child_by Same i behind = Ok i
+child_by After i behind = Err i
 
 -- the child named n at depth k among rows of which the first has index i, or where it would stand
 unfoldable pub child_from : {A : Type 0} → ℕ → Name → ℕ → List (Row A) → Child
-child_from k n i [] = Missing i
+child_from k n i [] = Err i
 child_from k n i (r ∷ rs) = child_by (order_in k n r) i (child_from k n (suc i) rs)
 
 -- the child of a name of the place whose row has an index

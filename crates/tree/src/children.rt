@@ -1,15 +1,13 @@
 // The search for a child by its name: each child's name is measured and compared in one pass.
 ghost use Rattle.std.specs.Prelude.{◌≡◌, ◌≤◌, length, get_or};
-ghost use Rattle.tree.specs.declared.Child.TheVariants.{Found, Missing};
-ghost use Rattle.tree.specs.declared.Search.{Search};
 ghost use Rattle.tree.specs.RowScan.{child_in};
 ghost use Rattle.tree.specs.Search.{search_in};
 ghost use Rattle.tree.specs.RowAt.{row_at, all_rows};
 ghost use Rattle.tree.specs.TreeBytes.{HasRow, Used};
 
+use crate::Search;
 use crate::layout::{FIRST, NAME, NAME_WIDTH, ROW};
 use crate::rows::{count, depth_at};
-use crate::{Child, Search};
 
 // A byte of a row's name; 0 where the name has ended.
 fn name_byte(tree: &[u8], i: usize, k: usize) -> u8
@@ -21,26 +19,6 @@ fn name_byte(tree: &[u8], i: usize, k: usize) -> u8
         return tree[FIRST + ROW * i + NAME + k];
     }
     0
-}
-
-// The child stands at a row.
-fn found(i: usize, steps: usize) -> Search
-    ensures { ◌≡◌ {A = Search} result (record { child = Found i; steps = steps }) }
-{
-    Search {
-        child: Child::Found(i),
-        steps,
-    }
-}
-
-// There is none of that name; it would stand at a row.
-fn missing(i: usize, steps: usize) -> Search
-    ensures { ◌≡◌ {A = Search} result (record { child = Missing i; steps = steps }) }
-{
-    Search {
-        child: Child::Missing(i),
-        steps,
-    }
 }
 
 // The child of a place, or where it would stand, and the steps of the search. At the first byte that differs it is done with a child:
@@ -55,7 +33,10 @@ pub fn search_child(tree: &[u8], at: usize, name: &[u8]) -> Search
     'children: for i in at + 1..n {
         let d = depth_at(tree, i) as usize;
         if d < depth {
-            return missing(i, steps);
+            return Search {
+                child: Err(i),
+                steps,
+            };
         }
         if depth < d {
             continue 'children;
@@ -67,7 +48,10 @@ pub fn search_child(tree: &[u8], at: usize, name: &[u8]) -> Search
             if a != b {
                 steps += k + 1; // they differ
                 if b < a {
-                    return missing(i, steps);
+                    return Search {
+                        child: Err(i),
+                        steps,
+                    };
                 }
                 continue 'children;
             }
@@ -78,18 +62,26 @@ pub fn search_child(tree: &[u8], at: usize, name: &[u8]) -> Search
             k += 1;
         }
         if name_byte(tree, i, k) == 0 {
-            return found(i, steps + k + 1);
+            return Search {
+                child: Ok(i),
+                steps: steps + k + 1,
+            };
         }
-        return missing(i, steps + k + 1);
+        return Search {
+            child: Err(i),
+            steps: steps + k + 1,
+        };
     }
-    missing(n, steps)
+    Search {
+        child: Err(n),
+        steps,
+    }
 }
 
-// The child of a place, or where it would stand.
-pub fn find_child(tree: &[u8], at: usize, name: &[u8]) -> Child
+// The row of the child of a place, or the row before which it would stand.
+pub fn find_child(tree: &[u8], at: usize, name: &[u8]) -> Result<usize, usize>
     requires { Used tree.now at }
     ensures { result ≡ child_in (all_rows tree.now) at name.now }
 {
-    let answer = search_child(tree, at, name);
-    answer.child
+    search_child(tree, at, name).child
 }

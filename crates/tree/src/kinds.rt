@@ -5,11 +5,9 @@ ghost use Rattle.tree.specs.Node.{is_directory};
 use crate::Kind;
 
 // Whether a kind is that of a directory.
+#[tactic(auto, unfolding(crate::specs::Node::is_directory))]
 pub fn is_directory(kind: Kind) -> bool
     ensures { result ≡ is_directory kind }
 {
-    match kind {
-        Kind::File => false,
-        Kind::Directory => true,
-    }
+    matches!(kind, Kind::Directory)
 }

@@ -21,7 +21,7 @@ pub use rows::{
 pub use scan::subtree_end;
 
 // What a node is.
-#[derive(Clone, Copy)]
+#[derive(Clone, Copy, PartialEq, Eq, Debug)]
 pub enum Kind {
     File,
     Directory,
@@ -29,7 +29,7 @@ pub enum Kind {
 
 // Why a call was refused; document 01 gives each cause a number. Causes stand in this crate, the lowest that refuses
 // anything, so that a walk answers what the call will.
-#[derive(Clone, Copy)]
+#[derive(Clone, Copy, PartialEq, Eq, Debug)]
 pub enum Cause {
     NoForm,
     UnknownCaller,
@@ -47,21 +47,17 @@ pub enum Cause {
     Stale,
     Untagged,
     RevisionsSpent,
+    // The setup's first wrong line, from 1.
+    WrongSetup(usize),
     Unsound,
     TooDeep,
     ShortAnswer,
 }
 
-// The row of a child, or where a child of that name would stand.
-#[derive(Clone, Copy)]
-pub enum Child {
-    Found(usize),
-    Missing(usize),
-}
-
-// What a search for a child found, and its steps: of each child tried the bytes alike from the front, and one more.
+// What a search for a child found, its row or the one before which a child of that name would stand, and its steps: of each child
+// tried the bytes alike from the front, and one more.
 #[derive(Clone, Copy)]
 pub struct Search {
-    pub child: Child,
+    pub child: Result<usize, usize>,
     pub steps: usize,
 }

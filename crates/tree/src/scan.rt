@@ -13,12 +13,10 @@ pub fn subtree_end(tree: &[u8], at: usize) -> usize
 {
     let n = count(tree);
     let depth = depth_at(tree, at);
-    let mut i = at + 1;
-    while i < n {
+    for i in at + 1..n {
         if depth_at(tree, i) <= depth {
             return i;
         }
-        i += 1;
     }
-    i
+    n
 }

@@ -6,4 +6,4 @@ use Rattle.tree.proofs.children.find_child.Goals as goal
 
 pub returns : goal.returns
 unfolding search_in
-returns c = ap (λ (x : Search). x.child) c.search_child-answer.ensures
+returns c = ap (λ (x : Search). x.child) c.search_child.ensures

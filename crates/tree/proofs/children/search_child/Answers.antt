@@ -7,11 +7,10 @@ use mathlib.Core.Path.{◌≡◌, refl, sym, ◌∙◌, ap}
 use mathlib.Core.List.{List}
 use lib.ListN.{length, get_or}
 use Rattle.buffers.specs.Text.{Text}
-use Rattle.tree.specs.declared.Child.{Child}
-use Rattle.tree.specs.declared.Child.TheVariants.{Missing}
+use Rattle.std.specs.Prelude.{Err}
 use Rattle.tree.specs.declared.Search.{Search}
 use Rattle.tree.specs.Layout.{most_rows, name_width}
-use Rattle.tree.specs.RowScan.{Order, Before, Same, After, order_in, child_by, child_in}
+use Rattle.tree.specs.RowScan.{Child, Order, Before, Same, After, order_in, child_by, child_in}
 use Rattle.tree.proofs.RowScanLaws.{order_below, order_above, order_beside}
 use Rattle.tree.specs.Search.{steps_at, steps_by, steps_in, search_in}
 use Rattle.tree.proofs.ComparedLaws.{Decided, compared_none, one_more, first_ends, stands_before, stands_after, both_end, second_ends}
@@ -67,11 +66,11 @@ module _ {tree : List ℕ} {at : ℕ} {name : Text} {n depth steps i : ℕ} (g :
     halts o e z = whole tree at name (child-turns h e q) (omega (arith, f, z, steps-turn h e q))
 
   -- behind the last row
-  over : n ≤ i → Answers tree at name (Missing n) steps
+  over : n ≤ i → Answers tree at name (Err n) steps
   over h =
       let e : n ≡ i = omega (arith, g.le) in
       whole tree at name
-      (ap Missing e ∙ sym (child_left_end tree depth name i (omega (arith, g.all))) ∙ g.goes)
+      (ap Err e ∙ sym (child_left_end tree depth name i (omega (arith, g.all))) ∙ g.goes)
       (omega (arith, g.sums, steps_left_end tree depth name i (omega (arith, g.all))))
 
 -- behind the row of the place all of the search is left
@@ -127,47 +126,17 @@ module _ {tree : List ℕ} {at : ℕ} {name : Text} {n depth i₀ steps i k : �
       → steps_by o (k + 1) (steps_left tree depth name (suc i)) ≡ k + 1 → Answers tree at name (child_by o i (child_left tree depth name (suc i))) sum
   halted o f d z = halts v.outer v.lt (child-steps d) f o (child-order d) z
 
-pub count-n-requires : goal.count-n-requires
-count-n-requires c = omega arith
-
-pub depth_at-requires : goal.depth_at-requires
-depth_at-requires c = omega arith
-
-pub overflow_cast-depth : goal.overflow_cast-depth
-overflow_cast-depth c = omega arith
-
-pub overflow_add-depth : goal.overflow_add-depth
-overflow_add-depth c = omega arith
-
-pub overflow_step-i : goal.overflow_step-i
-overflow_step-i c = omega arith
-
 pub children-init : goal.children-init
 children-init c =
     let a = c.args in
     starts a.tree.now a.at a.name.now (omega arith) (omega arith) c.count-n.ensures (omega arith)
-
-pub depth_at-d-requires : goal.depth_at-d-requires
-depth_at-d-requires c = omega arith
-
-pub overflow_cast-d : goal.overflow_cast-d
-overflow_cast-d c = omega arith
-
-pub missing-requires : goal.missing-requires
-missing-requires c = omega arith
 
 pub returns-then-d-depth : goal.returns-then-d-depth
 unfolding child_by steps_by
 returns-then-d-depth c =
     let a = c.args in
     let r = row_at a.tree.now c.children.i in
-    c.missing.ensures ∙ halts c.children.invariant (omega arith) (steps_aside _ a.name.now r (λ e. omega arith)) (omega arith) After (order_above _ a.name.now r (omega arith)) refl
-
-pub overflow_step-i-then-depth-d : goal.overflow_step-i-then-depth-d
-overflow_step-i-then-depth-d c = omega arith
-
-pub children-smaller-then-depth-d : goal.children-smaller-then-depth-d
-children-smaller-then-depth-d c = omega arith
+    halts c.children.invariant (omega arith) (steps_aside _ a.name.now r (λ e. omega arith)) (omega arith) After (order_above _ a.name.now r (omega arith)) refl
 
 pub children-preserved-then-depth-d : goal.children-preserved-then-depth-d
 children-preserved-then-depth-d c =
@@ -178,89 +147,26 @@ children-preserved-then-depth-d c =
 pub bytes-init : goal.bytes-init
 bytes-init c = begins c.children.invariant (omega arith) (record { room = omega arith }) (omega arith)
 
-pub name_byte-a-requires : goal.name_byte-a-requires
-name_byte-a-requires c = omega arith
-
-pub bounds-name-k : goal.bounds-name-k
-bounds-name-k c = omega arith
-
-pub overflow_add-steps : goal.overflow_add-steps
-overflow_add-steps c = omega arith
-
-pub overflow_add-steps-then-a-b : goal.overflow_add-steps-then-a-b
-overflow_add-steps-then-a-b c = omega arith
-
-pub missing-requires-then-b-a : goal.missing-requires-then-b-a
-missing-requires-then-b-a c = omega arith
-
 pub returns-then-b-a : goal.returns-then-b-a
 unfolding child_by steps_by
-returns-then-b-a c = let v = c.bytes.invariant in c.missing-then-b-a.ensures ∙ halted v After refl (stands_after v.compared (nonzero v) (omega arith) (omega arith)) refl
-
-pub overflow_step-i-then-a-b : goal.overflow_step-i-then-a-b
-overflow_step-i-then-a-b c = omega arith
-
-pub children-smaller-then-a-b : goal.children-smaller-then-a-b
-children-smaller-then-a-b c = omega arith
+returns-then-b-a c = let v = c.bytes.invariant in halted v After refl (stands_after v.compared (nonzero v) (omega arith) (omega arith)) refl
 
 pub children-preserved-then-a-b : goal.children-preserved-then-a-b
 children-preserved-then-a-b c = let v = c.bytes.invariant in passed v (stands_before v.compared (nonzero v) (omega arith) (omega arith))
 
-pub overflow_add-steps-then-a-eq0 : goal.overflow_add-steps-then-a-eq0
-overflow_add-steps-then-a-eq0 c = omega arith
-
-pub overflow_add-steps-then-a-eq0-2 : goal.overflow_add-steps-then-a-eq0-2
-overflow_add-steps-then-a-eq0-2 c = omega arith
-
-pub overflow_step-i-then-a-eq0 : goal.overflow_step-i-then-a-eq0
-overflow_step-i-then-a-eq0 c = omega arith
-
-pub children-smaller : goal.children-smaller
-children-smaller c = omega arith
-
 pub children-preserved : goal.children-preserved
 children-preserved c = let v = c.bytes.invariant in passed v (first_ends v.compared (nonzero v) (omega arith) (omega arith))
-
-pub overflow_add-k : goal.overflow_add-k
-overflow_add-k c = omega arith
-
-pub bytes-smaller : goal.bytes-smaller
-bytes-smaller c = omega arith
 
 pub bytes-preserved : goal.bytes-preserved
 bytes-preserved c = more c.bytes.invariant c.name_byte-a.ensures refl (omega arith) (omega arith) c.if-a-eq0.false
 
-pub name_byte-requires : goal.name_byte-requires
-name_byte-requires c = omega arith
-
-pub overflow_add-steps-then-name_byte-eq0 : goal.overflow_add-steps-then-name_byte-eq0
-overflow_add-steps-then-name_byte-eq0 c = omega arith
-
-pub overflow_add-steps-then-name_byte-eq0-2 : goal.overflow_add-steps-then-name_byte-eq0-2
-overflow_add-steps-then-name_byte-eq0-2 c = omega arith
-
-pub found-requires : goal.found-requires
-found-requires c = omega arith
-
 pub returns-then-name_byte-eq0 : goal.returns-then-name_byte-eq0
 unfolding child_by steps_by
-returns-then-name_byte-eq0 c = let v = c.bytes.invariant in c.found.ensures ∙ halted v Same (omega arith) (both_end v.compared (nonzero v) (omega arith) (omega arith)) refl
-
-pub overflow_add-steps-in-children : goal.overflow_add-steps-in-children
-overflow_add-steps-in-children c = omega arith
-
-pub overflow_add-steps-in-children-2 : goal.overflow_add-steps-in-children-2
-overflow_add-steps-in-children-2 c = omega arith
-
-pub missing-requires-in-children : goal.missing-requires-in-children
-missing-requires-in-children c = omega arith
+returns-then-name_byte-eq0 c = let v = c.bytes.invariant in halted v Same (omega arith) (both_end v.compared (nonzero v) (omega arith) (omega arith)) refl
 
 pub returns-in-children : goal.returns-in-children
 unfolding child_by steps_by
-returns-in-children c = let v = c.bytes.invariant in c.missing-in-children.ensures ∙ halted v After (omega arith) (second_ends v.compared (nonzero v) (omega arith) (λ z. omega arith)) refl
-
-pub missing-requires-2 : goal.missing-requires-2
-missing-requires-2 c = omega arith
+returns-in-children c = let v = c.bytes.invariant in halted v After (omega arith) (second_ends v.compared (nonzero v) (omega arith) (λ z. omega arith)) refl
 
 pub returns : goal.returns
-returns c = c.missing-2.ensures ∙ over c.children.invariant (omega arith)
+returns c = over c.children.invariant (omega arith)

@@ -1,7 +1,7 @@
 -- `tree::scan::subtree_end` meets its contract: the scan from where it is now ends where the scan from the next row does.
 use Prim.Native.Nat.{ℕ, ◌≤◌, ◌<◌, ◌+◌}
 use native.Mathlib.Omega.{arith}
-use mathlib.Core.Path.{◌≡◌, refl}
+use mathlib.Core.Path.{◌≡◌, refl, ◌∙◌}
 use mathlib.Core.List.{List}
 use borrow.Author.Tests.{lt-ltb, le-ltb}
 use Rattle.tree.specs.RowScan.{is_deeper, end_of_subtree}
@@ -30,32 +30,14 @@ module _ {tree : List ℕ} {at n depth i : ℕ} (g : Going tree at n depth i) wh
       end_at tree at i g.from depth g.level g.goes stop
 
   -- the end of the rows
-  ends : n ≤ i → i ≡ end_of_subtree (all_rows tree) at
-  ends h = end_at tree at i g.from depth g.level g.goes (scan_end tree (is_deeper depth) i (omega (arith, g.all)))
-
-pub count-n-requires : goal.count-n-requires
-count-n-requires c = omega arith
-
-pub depth_at-depth-requires : goal.depth_at-depth-requires
-depth_at-depth-requires c = omega arith
-
-pub overflow_add-i : goal.overflow_add-i
-overflow_add-i c = omega arith
+  ends : n ≤ i → n ≡ end_of_subtree (all_rows tree) at
+  ends h = let e : n ≡ i = omega (arith, g.le) in e ∙ end_at tree at i g.from depth g.level g.goes (scan_end tree (is_deeper depth) i (omega (arith, g.all)))
 
 pub loop-i-init : goal.loop-i-init
 loop-i-init c = record { le = omega arith; all = c.count-n.ensures; from = omega arith; level = c.depth_at-depth.ensures; goes = refl }
 
-pub depth_at-requires : goal.depth_at-requires
-depth_at-requires c = omega arith
-
 pub returns-then-depth_at-depth : goal.returns-then-depth_at-depth
 returns-then-depth_at-depth c = (stops c.loop-i.invariant (omega arith) (omega arith), omega arith)
-
-pub overflow_add-i-in-loop-i : goal.overflow_add-i-in-loop-i
-overflow_add-i-in-loop-i c = omega arith
-
-pub loop-i-smaller : goal.loop-i-smaller
-loop-i-smaller c = omega arith
 
 pub loop-i-preserved : goal.loop-i-preserved
 loop-i-preserved c = goes_on c.loop-i.invariant (omega arith) (omega arith)
