@@ -1,5 +1,5 @@
 -- Laws of the names of a path text: read one after another to the end, and cut at the last `/` into those of the parent and the last.
-use Rattle.std.specs.Prelude.{◌≡◌, refl, List, [], ◌∷◌, ◌++◌, true, false, ◌&&◌, not, ℕ, zero, suc, ◌+◌, ◌-◌, ◌≤◌, ◌<◌, eqb, leb, ltb, length, take, drop, get_or}
+use Rattle.std.specs.Prelude.{◌≡◌, refl, List, [], ◌∷◌, ◌++◌, true, false, ◌&&◌, not, ℕ, zero, suc, ◌+◌, ◌-◌, ◌≤◌, ◌<◌, eqb, leb, ltb, length, take, drop, get_or, Some, None}
 use Rattle.std.proofs.Common.{sym, ap, ◌∙◌, append_assoc, arith, eq-eqb, ne_eqb, ltb-true, ltb-false, leb-true, leb-false, le-leb, length-append, get_or-append-add}
 use Rattle.std.proofs.Math.Option.{some}
 use Rattle.std.proofs.lemmas.Bool.{not-true}
@@ -12,10 +12,8 @@ use Rattle.syntax.specs.Form.{◌>>◌, check}
 use Rattle.syntax.proofs.FormLaws.{no_answer, both_read, checked, answered}
 use Rattle.syntax.specs.Path.{Name, Path, root, ◌▹◌, EntryPath, parent, last, depth, is_name, most_names, has_names, is_path, extended, names_from_top, path, entry_at, entry_path, names_text, path_text, entry_text}
 use Rattle.syntax.proofs.PathLaws.{name_lacks, path_of_text, path_is_path, entry_at_sound}
-use Rattle.syntax.specs.declared.Names.{Names}
-use Rattle.syntax.specs.declared.NextName.TheVariants
-use Rattle.syntax.specs.Parts.{part, next_name, slash_before, last_slash, names_read, path_names}
-use Rattle.syntax.proofs.PartsLaws.{piece_end_le, joined_pieces}
+use Rattle.syntax.specs.Parts.{part, next_name, behind_name, slash_before, last_slash, names_read, names_from, path_names}
+use Rattle.syntax.proofs.PartsLaws.{joined_pieces}
 use Rattle.syntax.proofs.PathPartsLaws.{names_read_past, names_read_next, names_read_path}
 
 -- ---- the names of a path text
@@ -49,53 +47,31 @@ no_names = refl
 
 -- ---- name by name
 
--- the names of a text from a place on
-unfoldable pub names_from : Text → ℕ → List Name
-names_from t at = names_read t at (length t - at)
-
--- the next name: where it starts and ends, and that those from behind it follow
-pub record Named (t : Text) (at start end : ℕ) (rest : Names) : Type 0 where
-  pub ordered : start ≤ end
-  pub ends : end ≤ length t
-  pub before : at < length t
-  pub onward : end < rest.at
-  pub follow : names_from t at ≡ part t start end ∷ names_from t rest.at
-
 -- from the first on they are those of the text
 pub names_from_first : (t : Text) → names_from t 1 ≡ path_names t
 unfolding names_from path_names
 names_from_first t = names_enough t 1 (length t - 1) (length t) (omega arith) (omega arith)
 
 -- at the end there is none left
-pub names_from_end : (t : Text) (at : ℕ) → next_name t at ≡ TheVariants.End → names_from t at ≡ []
+pub names_from_end : (t : Text) (at : ℕ) → next_name t at ≡ None → names_from t at ≡ []
 unfolding names_from next_name
 names_from_end t at e = case (leb (length t) at)
     (λ l. names_read_past t at (length t - at) (leb-true (length t) at l))
     (λ l. contra {b = true} refl (cc (rw l at e)))
 
--- before it there is one
-pub names_from_next : (t : Text) (at start end : ℕ) (rest : Names) → next_name t at ≡ TheVariants.Name start end rest → Named t at start end rest
-unfolding names_from next_name
-names_from_next t at start end rest e = case (leb (length t) at)
+-- before it there is one, and then those behind it
+pub names_from_next : (t : Text) (at : ℕ) (name : Text) → next_name t at ≡ Some name → names_from t at ≡ name ∷ names_from t (behind_name t at)
+unfolding names_from next_name behind_name
+names_from_next t at name e = case (leb (length t) at)
     (λ l. contra {b = true} refl (cc (rw l at e)))
     (λ l.
     let n : ℕ = at + piece_length 47 (drop at t) in
-    let d : TheVariants.Name at n (record { at = n + 1 }) ≡ TheVariants.Name start end rest = rw l at e in
+    let read : part t at n ≡ name = cc (rw l at e) in
     let less : at < length t = leb-false (length t) at l in
-    let from : at ≡ start = cc in
-    let to : n ≡ end = cc in
-    let on : record { at = n + 1 } ≡ rest = cc in
-    rw (← from, ← to, ← on)
-    (record {
-      ordered = omega arith;
-      ends = piece_end_le 47 t at (omega arith);
-      before = less;
-      onward = omega arith;
-      follow =
-          let q : length t - at ≡ suc (length t - at - 1) = omega arith in
-          rw q (names_read_next t at n (length t - at - 1) less refl
-          ∙ ap (λ (r : List Name). part t at n ∷ r) (names_enough t (n + 1) (length t - at - 1) (length t - (n + 1)) (omega arith) (omega arith)));
-    }))
+    let q : length t - at ≡ suc (length t - at - 1) = omega arith in
+    rw (l, q) (names_read_next t at n (length t - at - 1) less refl
+    ∙ ap (λ (r : List Name). part t at n ∷ r) (names_enough t (n + 1) (length t - at - 1) (length t - (n + 1)) (omega arith) (omega arith))
+    ∙ ap (λ (m : Name). m ∷ names_from t (n + 1)) read))
 
 -- ---- the last `/`
 

@@ -13,7 +13,7 @@ use Rattle.syntax.specs.Form.{◌>>=◌, ◌>>◌, check, is_some}
 use Rattle.syntax.specs.Path.{Name, Path, root, ◌▹◌, rep, is_name, most_names, extended, some_names, names_from_top, path, whole, short, begins_with_slash, typed_path, without_rep, entry_at, entry_path}
 use Rattle.syntax.proofs.PathLaws.{name_length}
 use Rattle.syntax.proofs.FormLaws.{checked, answered}
-use Rattle.syntax.specs.Parts.{part, next_name, names_read, names_of}
+use Rattle.syntax.specs.Parts.{part, next_name, behind_name, names_read, names_of}
 use Rattle.syntax.proofs.PartsLaws.{piece_end_le, pieces_first_from, pieces_only_from, pieces_some, joined_pieces, some_of_one}
 
 -- whether names still to be read, after some, are names of a path
@@ -224,14 +224,14 @@ entry_is_path t h e =
 
 -- behind the end there are none
 pub names_read_past : (t : Text) (at n : ℕ) → length t ≤ at → names_read t at n ≡ []
-unfolding names_read names_of next_name
+unfolding names_read names_of next_name behind_name
 names_read_past t at zero h = refl
 names_read_past t at (suc n) h = rw (le-leb (length t) at h)
 
 -- before it there is one, and then those behind it
 pub names_read_next : (t : Text) (at end n : ℕ) → at < length t → end ≡ at + piece_length 47 (drop at t) →
     names_read t at (suc n) ≡ part t at end ∷ names_read t (end + 1) n
-unfolding names_read names_of next_name
+unfolding names_read names_of next_name behind_name
 names_read_next t at end n h e = rw (lt-leb (length t) at h, e)
 
 -- where a name is to come, the text goes on

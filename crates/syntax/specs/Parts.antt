@@ -1,6 +1,8 @@
 -- What the code's readers answer: parts of a text by their places, fields, numbers and names.
 use Rattle.std.specs.Prelude.{List, [], ◌∷◌, Bool, ◌&&◌, ◌||◌, cond, ℕ, zero, suc, ◌+◌, ◌-◌, ◌≤◌, eqb, leb, length, take, drop, get_or}
 use Rattle.std.proofs.Math.Option.{Option, none, some}
+use Rattle.std.specs.Prelude as code
+use Rattle.std.specs.Prelude.{Some, None}
 use Rattle.buffers.specs.Text.{Text, same_text}
 use Rattle.syntax.specs.declared.Span.{Span}
 use Rattle.syntax.specs.declared.Field.{Field}
@@ -8,8 +10,6 @@ use Rattle.syntax.specs.declared.Class.{Class}
 use Rattle.syntax.specs.declared.Class.TheVariants.{Name, Content, Decimal, Octal}
 use Rattle.syntax.specs.declared.Number.{Number}
 use Rattle.syntax.specs.declared.Number.TheVariants.{Value, Nothing}
-use Rattle.syntax.specs.declared.NextName.{NextName}
-use Rattle.syntax.specs.declared.NextName.TheVariants
 use Rattle.syntax.specs.Pieces.{comma, piece_length}
 use Rattle.syntax.specs.Form.{◌>>◌, check}
 use Rattle.syntax.specs.Number.{digit}
@@ -56,20 +56,26 @@ number_of (Value n) = some n
 number_of Nothing = none
 
 -- the name that starts at a place of a path, or none where the path ends before
-unfoldable pub next_name : Text → ℕ → NextName
-next_name t at =
-    let end = at + piece_length 47 (drop at t) in
-    cond (leb (length t) at) TheVariants.End (TheVariants.Name at end (record { at = end + 1 }))
+unfoldable pub next_name : Text → ℕ → code.Option Text
+next_name t at = cond (leb (length t) at) None (Some (part t at (at + piece_length 47 (drop at t))))
+
+-- the place behind it
+unfoldable pub behind_name : Text → ℕ → ℕ
+behind_name t at = cond (leb (length t) at) at (at + piece_length 47 (drop at t) + 1)
 
 -- the next name with those that are read behind it
-unfoldable pub names_of : Text → (ℕ → List Text) → NextName → List Text
-names_of t behind (TheVariants.Name start end rest) = part t start end ∷ behind rest.at
-names_of t behind TheVariants.End = []
+unfoldable pub names_of : List Text → code.Option Text → List Text
+names_of behind (Some name) = name ∷ behind
+names_of behind None = []
 
 -- the names that are read of a path from a place on, at most so many
 unfoldable pub names_read : Text → ℕ → ℕ → List Text
 names_read t at zero = []
-names_read t at (suc n) = names_of t (λ k. names_read t k n) (next_name t at)
+names_read t at (suc n) = names_of (names_read t (behind_name t at) n) (next_name t at)
+
+-- the names of a text from a place on
+unfoldable pub names_from : Text → ℕ → List Text
+names_from t at = names_read t at (length t - at)
 
 -- the names of a path text in order
 unfoldable pub path_names : Text → List Text

@@ -51,19 +51,9 @@ pub enum Number {
     Nothing,
 }
 
-// How far the names of a path have been read: the next one starts here.
+// The names of a path, and how far they have been read: the next one starts here.
 #[derive(Clone, Copy)]
-pub struct Names {
+pub struct Names<'a> {
+    pub path: &'a [u8],
     pub at: usize,
-}
-
-// The next name of a path with what is left, or none.
-#[derive(Clone, Copy)]
-pub enum NextName {
-    Name {
-        start: usize,
-        end: usize,
-        rest: Names,
-    },
-    End,
 }

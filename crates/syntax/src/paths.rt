@@ -1,12 +1,12 @@
 // Paths: their form, and their names one after another.
-ghost use Rattle.std.specs.Prelude.{◌≡◌, ◌≤◌, length, drop};
+ghost use Rattle.std.specs.Prelude.{◌≡◌, ◌≤◌, length, drop, option_copied};
 ghost use Rattle.syntax.specs.Pieces.{pieces};
 ghost use Rattle.syntax.specs.Form.{is_some};
 ghost use Rattle.syntax.specs.Path.{some_names, path, typed_path, entry_path};
-ghost use Rattle.syntax.specs.Parts.{next_name, last_slash};
+ghost use Rattle.syntax.specs.Parts.{next_name, behind_name, last_slash};
 
 use crate::text::{is_name, piece_end};
-use crate::{MOST_NAMES, Names, NextName};
+use crate::{MOST_NAMES, Names};
 use buffers::same;
 
 // Whether a text from a place on is 1 to 6 names parted by `/`.
@@ -88,27 +88,27 @@ pub fn last_slash(path: &[u8]) -> usize
     0
 }
 
-impl Names {
+impl<'a> Names<'a> {
     // The names of a path that has its form, from the first on.
-    pub fn first() -> Self
-        ensures { result.at ≡ 1 }
+    pub fn of(path: &'a [u8]) -> Names<'a>
+        ensures first { result.at ≡ 1 }
+        ensures path { result.path ≡ path.entry }
     {
-        Names { at: 1 }
+        Names { path, at: 1 }
     }
 
-    // The next name.
-    pub fn next(self, path: &[u8]) -> NextName
-        ensures { result ≡ next_name path.now self.at }
+    // The next name, if any is left.
+    pub fn next(&mut self) -> Option<&'a [u8]>
+        ensures name { option_copied result ≡ next_name self.old.path.now self.old.at }
+        ensures path { self.new.path ≡ self.old.path }
+        ensures rest { self.new.at ≡ behind_name self.old.path.now self.old.at }
     {
-        let at = self.at;
-        if path.len() <= at {
-            return NextName::End;
+        if self.path.len() <= self.at {
+            return None;
         }
-        let end = piece_end(path, at, 47);
-        NextName::Name {
-            start: at,
-            end,
-            rest: Names { at: end + 1 },
-        }
+        let start = self.at;
+        let end = piece_end(self.path, start, b'/');
+        self.at = end + 1;
+        Some(&self.path[start..end])
     }
 }
