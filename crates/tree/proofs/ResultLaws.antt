@@ -2,7 +2,9 @@
 use Rattle.std.specs.Prelude.{◌≡◌, refl, Bool, true, false, ◌&&◌}
 use Rattle.std.proofs.Common.{sym, ap}
 use Rattle.std.proofs.Math.Option.{Option, none, some}
-use Rattle.std.specs.Prelude.{Ok, Err}
+use Rattle.std.specs.Prelude as code
+use Rattle.std.specs.Prelude.{Ok, Err, IsErrAnd}
+use Rattle.std.proofs.lemmas.Result.{err_from_is_err_and}
 use Rattle.buffers.specs.Cases.{contra}
 use Rattle.tree.specs.declared.Cause.{Cause}
 use Rattle.tree.specs.Result.{Result, refused, done, outcome, ◌>>=◌, ◌>>◌, require, present, absent}
@@ -25,6 +27,10 @@ outcome_ok a = refl
 pub outcome_err : {A : Type 0} (why : Cause) → outcome {A = A} (Err why) ≡ refused why
 unfolding outcome
 outcome_err why = refl
+
+-- a refusal that `?` passes on
+pub outcome_passed : {A : Type 0} (r : code.Result A Cause) {why : Cause} → IsErrAnd r (λ k. k ≡ why) → outcome r ≡ refused why
+outcome_passed r {why} p = let q = err_from_is_err_and r p in rw (q.1, q.2) (outcome_err why)
 
 -- ---- what has been done
 

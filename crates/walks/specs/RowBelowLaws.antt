@@ -5,8 +5,8 @@
 --   the three answers by index: children-by-next to child-text-from;
 --   on siblings' rows, and those of a place: first-deeper to names-flatten;
 --   at a place of a tree: at-has-children, at-height, at-child-text.
-use Rattle.std.specs.Prelude.{◌≡◌, refl, List, [], ◌∷◌, ◌++◌, true, false, not, ℕ, suc, ◌+◌, ◌-◌, ◌≤◌, ◌<◌, eqb, ltb}
-use Rattle.std.proofs.Common.{sym, ◌∙◌, arith, add-one, take_at, lt-ltb, le-ltb, le-leb, eq-eqb, ne_eqb}
+use Rattle.std.specs.Prelude.{◌≡◌, refl, List, [], ◌∷◌, ◌++◌, true, false, not, ℕ, suc, ◌+◌, ◌-◌, ◌≤◌, ◌<◌, eqb, ltb, leb, max}
+use Rattle.std.proofs.Common.{sym, ◌∙◌, arith, add-one, take_at, lt-ltb, le-ltb, le-leb, leb-true, leb-false, eq-eqb, ne_eqb}
 use Rattle.std.proofs.Math.Path.{ap}
 use Rattle.std.proofs.Math.ListN.{drop}
 use Rattle.std.proofs.Math.Seq.{drop-cons}
@@ -155,6 +155,12 @@ larger_first a b h =
     let least = larger_least a b a (omega arith) h in
     let bound = larger_bounds a b in
     omega arith
+
+-- it is what the library calls so
+pub larger_is_max : (a b : ℕ) → max a b ≡ larger a b
+larger_is_max a b = case (leb a b)
+    (λ t. let h : a ≤ b = leb-true a b t in omega (arith, larger_second a b h))
+    (λ t. let h : b < a = leb-false a b t in omega (arith, larger_first a b (omega arith)))
 
 -- the greatest depth of rows made of two parts
 deepest_append : (m : ℕ) (xs ys : List (Row Node)) → deepest_in m (xs ++ ys) ≡ deepest_in (deepest_in m xs) ys

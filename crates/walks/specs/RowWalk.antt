@@ -1,26 +1,19 @@
 -- Walks over the rows: name by name from `/`, by what an account may do at the row of each directory.
-use Rattle.std.specs.Prelude.{List, [], ◌∷◌, ℕ, take, drop}
+use Rattle.std.specs.Prelude.{List, [], ◌∷◌, ℕ, take, drop, Ok, Err}
 use Rattle.std.proofs.Math.Option.{Option, none, some}
 use Rattle.buffers.specs.Text.{Text}
 use Rattle.accounts.specs.declared.Account.{Account}
 use Rattle.syntax.specs.Path.{Name}
 use Rattle.syntax.specs.Parts.{last_slash, path_names}
-use Rattle.tree.specs.declared.Child.{Child}
-use Rattle.tree.specs.declared.Child.TheVariants.{Found, Missing}
-use Rattle.walks.specs.declared.Walked.{Walked}
-use Rattle.walks.specs.declared.Walked.TheVariants.{To, Refused}
+pub use Rattle.walks.specs.declared.Spot.{Spot}
 use Rattle.tree.specs.declared.Cause.TheVariants.{Missing, NotDirectory}
 use Rattle.tree.specs.Result.{Result, refused, done, ◌>>=◌, ◌>>◌, present}
 use Rattle.tree.specs.Node.{Node}
 use Rattle.tree.specs.Walk.{by_modes, enter}
 use Rattle.tree.specs.Rows.{Row}
-use Rattle.tree.specs.RowScan.{child_in}
+use Rattle.tree.specs.RowScan.{Child, child_in}
 
 -- the index of a place's row, and that of the directory above it; `/` is above itself
-pub record Spot : Type 0 where
-  pub row : ℕ
-  pub above : ℕ
-
 abbrev pub spot : ℕ → ℕ → Spot
 spot row above = record { row = row; above = above }
 
@@ -37,8 +30,8 @@ enter_in a rs s = enter_first a (drop s.row rs) >> done s
 
 -- the row that a search found
 unfoldable pub found_row : Child → Option ℕ
-found_row (Found i) = some i
-found_row (Missing i) = none
+found_row (Ok i) = some i
+found_row (Err i) = none
 
 -- from a place to its child of a name
 unfoldable pub step_in : Account → List (Row Node) → Spot → Name → Result Spot
@@ -62,8 +55,3 @@ unfoldable pub parent_walk_in : Account → List (Row Node) → Text → Result 
 parent_walk_in a rs s = do
   d ← walk_in a rs (take (last_slash s) s)
   enter_in a rs d
-
--- what the code's answer means
-unfoldable pub outcome : Walked → Result Spot
-outcome (To row above) = done (spot row above)
-outcome (Refused cause) = refused cause

@@ -1,5 +1,5 @@
 -- Laws of walks over the rows, as the code goes them: into a directory, to a child, and along names.
-use Rattle.std.specs.Prelude.{◌≡◌, true, false, ℕ, ◌<◌, length, take, drop}
+use Rattle.std.specs.Prelude.{◌≡◌, true, false, ℕ, ◌<◌, length, take, drop, Ok, Err}
 use Rattle.std.proofs.Math.Path.{refl}
 use Rattle.std.proofs.Common.{sym, ◌∙◌, ap, arith, drop-cons}
 use mathlib.Core.List.{List, [], ◌∷◌}
@@ -12,21 +12,18 @@ use Rattle.syntax.specs.Parts.{last_slash, path_names}
 use Rattle.syntax.proofs.FormLaws.{no_answer, answered}
 use Rattle.tree.specs.declared.Kind.TheVariants.{File, Directory}
 use Rattle.tree.specs.declared.Cause.{Cause}
-use Rattle.tree.specs.declared.Child.{Child}
-use Rattle.tree.specs.declared.Child.TheVariants.{Found, Missing}
-use Rattle.tree.specs.RowScan.{child_in}
+use Rattle.tree.specs.RowScan.{Child, child_in}
 use Rattle.tree.proofs.RowScanLaws.{child_in_bound}
 use Rattle.tree.specs.RowAt.{row_count, row_at, all_rows}
-use Rattle.walks.specs.declared.Walked.{Walked}
-use Rattle.walks.specs.declared.Walked.TheVariants.{To, Refused}
+use Rattle.walks.specs.declared.Spot.{Spot}
 use Rattle.tree.specs.declared.Cause.TheVariants.{Missing, NotDirectory, Access}
-use Rattle.tree.specs.Result.{Result, refused, done, ◌>>=◌, ◌>>◌, require, present}
-use Rattle.tree.proofs.ResultLaws.{not_done, present_some, bind_done, then_done}
+use Rattle.tree.specs.Result.{outcome, refused, done, ◌>>=◌, ◌>>◌, require, present}
+use Rattle.tree.proofs.ResultLaws.{outcome_ok, present_some, bind_done, then_done}
 use Rattle.tree.specs.Node.{is_directory, Node, allows}
 use Rattle.tree.specs.Walk.{by_modes, enter}
 use Rattle.tree.specs.Rows.{Row}
 use Rattle.tree.proofs.RowAtLaws.{length_all_rows, row_in_rows}
-use Rattle.walks.specs.RowWalk.{Spot, spot, top_spot, enter_first, enter_in, step_in, walk_names_in, walk_in, parent_walk_in, outcome, found_row}
+use Rattle.walks.specs.RowWalk.{spot, top_spot, enter_first, enter_in, step_in, walk_names_in, walk_in, parent_walk_in, found_row}
 
 -- ---- into a directory
 
@@ -38,58 +35,46 @@ module _ (a : Account) (b : List ℕ) (at : ℕ) (h : at < row_count b) where
       rw (drop-cons (all_rows b) at (row_at b at) (omega (arith, length_all_rows b)))
       (ap (λ (r : Row Node). enter (by_modes a) r.here) (row_in_rows b at (row_at b at) h))
 
-  module _ (above : ℕ) where
-    -- a file is not entered
-    pub enter_file : (row_at b at).here.kind ≡ File → enter_in a (all_rows b) (spot at above) ≡ refused NotDirectory
-    unfolding enter_in enter by_modes is_directory require ◌>>◌
-    enter_file k = rw (enter_there, k)
+  -- a file is not entered
+  pub enter_file : (row_at b at).here.kind ≡ File → enter_first a (drop at (all_rows b)) ≡ refused NotDirectory
+  unfolding enter by_modes is_directory require ◌>>◌
+  enter_file k = rw (enter_there, k)
 
-    -- nor a directory without x
-    pub enter_shut : (row_at b at).here.kind ≡ Directory → allows a X (row_at b at).here ≡ false → enter_in a (all_rows b) (spot at above) ≡ refused Access
-    unfolding enter_in enter by_modes is_directory require ◌>>◌
-    enter_shut k f = rw (enter_there, k, f)
+  -- nor a directory without x
+  pub enter_shut : (row_at b at).here.kind ≡ Directory → allows a X (row_at b at).here ≡ false → enter_first a (drop at (all_rows b)) ≡ refused Access
+  unfolding enter by_modes is_directory require ◌>>◌
+  enter_shut k f = rw (enter_there, k, f)
 
-    -- one with x is
-    pub enter_open : (row_at b at).here.kind ≡ Directory → allows a X (row_at b at).here ≡ true
-        → enter_in a (all_rows b) (spot at above) ≡ done (spot at above)
-    unfolding enter_in enter by_modes is_directory require ◌>>◌
-    enter_open k f = rw (enter_there, k, f)
+  -- one with x is
+  pub enter_open : (row_at b at).here.kind ≡ Directory → allows a X (row_at b at).here ≡ true → enter_first a (drop at (all_rows b)) ≡ done tt
+  unfolding enter by_modes is_directory require ◌>>◌
+  enter_open k f = rw (enter_there, k, f)
 
 -- ---- to a child
 
 -- what is found as a row was found
-row_found : (c : Child) (i : ℕ) → found_row c ≡ some i → c ≡ Found i
+row_found : (c : Child) (i : ℕ) → found_row c ≡ some i → c ≡ Ok i
 unfolding found_row
-row_found (Found j) i e = ap {B = Child} Found (sym (answered e))
-row_found (Missing j) i e = no_answer e
+row_found (Ok j) i e = ap {B = Child} Ok (sym (answered e))
+row_found (Err j) i e = no_answer e
 
 module _ (a : Account) (rs : List (Row Node)) (s : Spot) where
-  -- what was entered is the place itself
-  entered_in : (d : Spot) → enter_in a rs s ≡ done d → enter_first a (drop s.row rs) ≡ done tt
-  unfolding enter_in
-  entered_in d e = (then_done (enter_first a (drop s.row rs)) (done s) e).0
-
   module _ (n : Name) where
     -- where a directory is not entered, no name is looked up
-    pub step_shut : (c : Cause) → outcome (Refused c) ≡ enter_in a rs s → outcome (Refused c) ≡ step_in a rs s n
-    unfolding outcome enter_in step_in ◌>>◌
-    step_shut c e = go (enter_first a (drop s.row rs)) e
-      where
-        go : (r : Result (Unit {0})) → refused c ≡ (r >> done s)
-            → refused c ≡ (r >> (present (found_row (child_in rs s.row n)) Missing >>= λ i. done (spot i s.row)))
-        go (refused k) q = cc
-        go (done u) q = not_done q
+    pub step_shut : (c : Cause) → enter_first a (drop s.row rs) ≡ refused c → step_in a rs s n ≡ refused c
+    unfolding step_in ◌>>◌
+    step_shut c e = rw e
 
-    module _ (row above : ℕ) (e : outcome (To row above) ≡ enter_in a rs s) where
+    module _ (e : enter_first a (drop s.row rs) ≡ done tt) where
       -- in one that is, the child is found
-      pub step_found : (i : ℕ) → Found i ≡ child_in rs s.row n → outcome (To i s.row) ≡ step_in a rs s n
-      unfolding outcome step_in ◌>>◌ ◌>>=◌ present found_row
-      step_found i f = rw (entered_in (spot row above) (sym e), ← f)
+      pub step_found : (i : ℕ) → child_in rs s.row n ≡ Ok i → step_in a rs s n ≡ done (spot i s.row)
+      unfolding step_in ◌>>◌ ◌>>=◌ present found_row
+      step_found i f = rw (e, f)
 
       -- or missing
-      pub step_missing : (i : ℕ) → Missing i ≡ child_in rs s.row n → refused Missing ≡ step_in a rs s n
-      unfolding outcome step_in ◌>>◌ ◌>>=◌ present found_row
-      step_missing i f = rw (entered_in (spot row above) (sym e), ← f)
+      pub step_missing : (i : ℕ) → child_in rs s.row n ≡ Err i → step_in a rs s n ≡ refused Missing
+      unfolding step_in ◌>>◌ ◌>>=◌ present found_row
+      step_missing i f = rw (e, f)
 
 -- ---- along names
 
@@ -137,8 +122,9 @@ module _ (a : Account) (rs : List (Row Node)) where
   walk_stops s k n ns e = rw e
 
   -- a parent walk goes on into what the walk before the last `/` leads to
-  pub parent_on : (t : Text) (slash : ℕ) (d : Spot) → slash ≡ last_slash t → walk_in a rs (take slash t) ≡ done d → parent_walk_in a rs t ≡ enter_in a rs d
-  unfolding parent_walk_in ◌>>=◌
+  pub parent_on : (t : Text) (slash : ℕ) (d : Spot) → slash ≡ last_slash t → walk_in a rs (take slash t) ≡ done d
+      → parent_walk_in a rs t ≡ (enter_first a (drop d.row rs) >> done d)
+  unfolding parent_walk_in enter_in ◌>>=◌
   parent_on t slash d e w = rw (← e, w)
 
   -- and is refused where that is
@@ -148,17 +134,8 @@ module _ (a : Account) (rs : List (Row Node)) where
 
 -- ---- the code's answer
 
-pub outcome_at : (row above : ℕ) → outcome (To row above) ≡ done (spot row above)
-unfolding outcome
-outcome_at row above = refl
-
-pub outcome_refused : (c : Cause) → outcome (Refused c) ≡ refused c
-unfolding outcome
-outcome_refused c = refl
-
-module _ (a : Account) (b : List ℕ) (t : Text) (h : 0 < row_count b) {r : Walked} (row above : ℕ) (e : r ≡ To row above) where
-  -- a walk that came to a place came to one of the rows
-  pub walk_came : outcome r ≡ walk_in a (all_rows b) t → Within (row_count b) (spot row above)
-  walk_came w =
-      let q = length_all_rows b in
-      rw q at (walk_within a (all_rows b) t (spot row above) (omega arith) (sym w ∙ ap outcome e ∙ outcome_at row above))
+-- a walk that came to a place came to one of the rows
+pub walk_came : (a : Account) (b : List ℕ) (t : Text) → 0 < row_count b → (s : Spot) → outcome (Ok s) ≡ walk_in a (all_rows b) t → Within (row_count b) s
+walk_came a b t h s w =
+    let q = length_all_rows b in
+    rw q at (walk_within a (all_rows b) t s (omega arith) (sym w ∙ outcome_ok s))

@@ -3,7 +3,7 @@
 -- In order:
 --   over the rows of a tree: step-of-tree to parent-walk_of-tree;
 --   from the code's answer: came-to and came-not of any walk, walk-to and walk-not, parent-walk-to and parent-walk-not.
-use Rattle.std.specs.Prelude.{◌≡◌, refl, true, ℕ, take, drop}
+use Rattle.std.specs.Prelude.{◌≡◌, refl, true, ℕ, take, drop, Ok, Err}
 use Rattle.std.proofs.Math.Path.{sym, ap}
 use Rattle.std.proofs.Common.{◌∙◌}
 use mathlib.Core.List.{List, [], ◌∷◌}
@@ -14,10 +14,10 @@ use Rattle.syntax.specs.Path.{Name, Path, root, ◌▹◌, parent, extended, pat
 use Rattle.syntax.specs.Parts.{last_slash, path_names}
 use Rattle.syntax.proofs.ParentLaws.{path_names_of_path, parent_names}
 use Rattle.tree.specs.declared.Cause.{Cause}
-use Rattle.tree.specs.declared.Child.{Child}
 use Rattle.tree.specs.declared.Cause.TheVariants.{Missing}
-use Rattle.tree.specs.Result.{Result, refused, done, ◌>>=◌, ◌>>◌, present}
-use Rattle.tree.proofs.ResultLaws.{by_result, bind_done, refused_before}
+use Rattle.std.specs.Prelude as code
+use Rattle.tree.specs.Result.{Result, outcome, refused, done, ◌>>=◌, ◌>>◌, present}
+use Rattle.tree.proofs.ResultLaws.{outcome_ok, outcome_err, by_result, bind_done, refused_before}
 use Rattle.tree.specs.Forest.{Place, get, place_at}
 use Rattle.tree.specs.Node.{Node}
 use Rattle.tree.specs.Walk.{Judge, by_modes, look, enter, walk, parent_walk}
@@ -25,18 +25,16 @@ use Rattle.tree.proofs.StepLaws.{walk_root, walk_step, parent_walked}
 use Rattle.tree.proofs.UpdateLaws.{walked_at, by_option, place_at_parent}
 use Rattle.tree.specs.WellFormed.{is_tree}
 use Rattle.tree.specs.Rows.{rows}
-use Rattle.tree.specs.RowScan.{child_in}
+use Rattle.tree.specs.RowScan.{Child, child_in}
 use Rattle.tree.specs.RowPlaces.{place_rows, index_of}
 use Rattle.tree.proofs.RowPlacesLaws.{around}
 use Rattle.tree.proofs.RowChangesLaws.{tree_sorted}
 use Rattle.tree.proofs.RowScanLaws.{rows_from_place, child_in_rows, no_child_in_rows}
 use Rattle.tree.specs.RowAt.{all_rows}
-use Rattle.walks.specs.declared.Walked.{Walked}
-use Rattle.walks.specs.declared.Walked.TheVariants.{To, Refused}
+use Rattle.walks.specs.declared.Spot.{Spot}
 use Rattle.tree.specs.TreeBytes.{Encodes}
 use Rattle.tree.proofs.TreeBytesLaws.{encoded_rows}
-use Rattle.walks.specs.RowWalk.{outcome, Spot, spot, top_spot, enter_first, enter_in, step_in, walk_names_in, walk_in, parent_walk_in, found_row}
-use Rattle.walks.specs.RowWalkLaws.{outcome_refused, outcome_at}
+use Rattle.walks.specs.RowWalk.{spot, top_spot, enter_first, enter_in, step_in, walk_names_in, walk_in, parent_walk_in, found_row}
 use Rattle.walks.specs.WalkBytes.{spot_of, Came}
 
 -- a walk that is refused is refused further on
@@ -125,15 +123,15 @@ unfolding parent
 place_above t root {d} e = (d, e)
 place_above t (p ▹ n) {d} e = let i = place_at_parent t p n d e in (i.0, i.1)
 
-module _ {b : List ℕ} {t : Place Node} (tree : Encodes b t) (w : Result (Place Node)) (p : Path) {r : Walked} (same : outcome r ≡ (w >>= λ d. done (spot_of t p))) where
+module _ {b : List ℕ} {t : Place Node} (tree : Encodes b t) (w : Result (Place Node)) (p : Path) {r : code.Result Spot Cause} (same : outcome r ≡ (w >>= λ d. done (spot_of t p))) where
   -- a walk in the tree that leads to the place at p, whatever else it checks
-  pub came_to : ((d : Place Node) → w ≡ done d → place_at t p ≡ some d) → {row above : ℕ} → r ≡ To row above → Came b t p w row above
+  pub came_to : ((d : Place Node) → w ≡ done d → place_at t p ≡ some d) → {s : Spot} → r ≡ Ok s → Came b t p w s.row s.above
   unfolding spot_of
-  came_to leads {row} {above} e =
-      let i = bind_done w (λ d. done (spot_of t p)) (sym same ∙ ap outcome e ∙ outcome_at row above) in
+  came_to leads {s} e =
+      let i = bind_done w (λ d. done (spot_of t p)) (sym same ∙ ap outcome e ∙ outcome_ok s) in
       let there = leads i.0 i.1 in
       let up = place_above t p there in
-      let q : spot_of t p ≡ spot row above = cc i.2 in
+      let q : spot_of t p ≡ s = cc i.2 in
       record {
         place = i.0;
         over = up.0;
@@ -143,8 +141,8 @@ module _ {b : List ℕ} {t : Place Node} (tree : Encodes b t) (w : Result (Place
       }
 
   -- one that is refused
-  pub came_not : {k : Cause} → r ≡ Refused k → w ≡ refused k
-  came_not {k} e = refused_before w (λ d. spot_of t p) (sym same ∙ ap outcome e ∙ outcome_refused k)
+  pub came_not : {k : Cause} → r ≡ Err k → w ≡ refused k
+  came_not {k} e = refused_before w (λ d. spot_of t p) (sym same ∙ ap outcome e ∙ outcome_err k)
 
 module _ {b : List ℕ} {t : Place Node} (tree : Encodes b t) (a : Account) (s : Text) {p : Path} (reads : path s ≡ some p) where
   is_walk : walk_in a (all_rows b) s ≡ (walk (by_modes a) t p >>= λ d. done (spot_of t p))
@@ -153,24 +151,24 @@ module _ {b : List ℕ} {t : Place Node} (tree : Encodes b t) (a : Account) (s :
   is_parent_walk : parent_walk_in a (all_rows b) s ≡ (parent_walk (by_modes a) t p >>= λ d. done (spot_of t (parent p)))
   is_parent_walk = rw (encoded_rows tree) (parent_walk_of_tree a t tree.whole s p reads)
 
-  module _ {r : Walked} where
+  module _ {r : code.Result Spot Cause} where
     -- a walk that came to a row came to the place that the tree's walk leads to
-    pub walk_to : {row above : ℕ} → outcome r ≡ walk_in a (all_rows b) s → r ≡ To row above → Came b t p (walk (by_modes a) t p) row above
+    pub walk_to : {x : Spot} → outcome r ≡ walk_in a (all_rows b) s → r ≡ Ok x → Came b t p (walk (by_modes a) t p) x.row x.above
     walk_to w e = came_to tree (walk (by_modes a) t p) p (w ∙ is_walk) (walked_at t (by_modes a) p) e
 
     -- one that was refused is the tree's refused walk
-    pub walk_not : {k : Cause} → outcome r ≡ walk_in a (all_rows b) s → r ≡ Refused k → walk (by_modes a) t p ≡ refused k
+    pub walk_not : {k : Cause} → outcome r ≡ walk_in a (all_rows b) s → r ≡ Err k → walk (by_modes a) t p ≡ refused k
     walk_not w e = came_not tree (walk (by_modes a) t p) p (w ∙ is_walk) e
 
     -- a parent walk that came to a row came to the directory that the tree's parent walk leads to
-    pub parent_walk_to : {row above : ℕ} → outcome r ≡ parent_walk_in a (all_rows b) s → r ≡ To row above
-        → Came b t (parent p) (parent_walk (by_modes a) t p) row above
+    pub parent_walk_to : {x : Spot} → outcome r ≡ parent_walk_in a (all_rows b) s → r ≡ Ok x
+        → Came b t (parent p) (parent_walk (by_modes a) t p) x.row x.above
     parent_walk_to w e =
         came_to tree (parent_walk (by_modes a) t p) (parent p) (w ∙ is_parent_walk)
         (λ d q. walked_at t (by_modes a) (parent p) d (parent_walked (by_modes a) t p q).0) e
 
     -- one that was refused is the tree's refused parent walk
-    pub parent_walk_not : {k : Cause} → outcome r ≡ parent_walk_in a (all_rows b) s → r ≡ Refused k → parent_walk (by_modes a) t p ≡ refused k
+    pub parent_walk_not : {k : Cause} → outcome r ≡ parent_walk_in a (all_rows b) s → r ≡ Err k → parent_walk (by_modes a) t p ≡ refused k
     parent_walk_not w e = came_not tree (parent_walk (by_modes a) t p) (parent p) (w ∙ is_parent_walk) e
 
 -- where a walk came are the rows of its place

@@ -24,13 +24,11 @@ pub fn readable_at(tree: &[u8], i: usize, account: Account) -> bool
     requires { HasRow tree.now i }
     ensures { result ≡ (by_modes account).readable (row_at tree.now i).here }
 {
-    if !may_at(tree, i, account, Right::R) {
-        return false;
-    }
-    match kind_at(tree, i) {
-        Kind::File => true,
-        Kind::Directory => may_at(tree, i, account, Right::X),
-    }
+    may_at(tree, i, account, Right::R)
+        && match kind_at(tree, i) {
+            Kind::File => true,
+            Kind::Directory => may_at(tree, i, account, Right::X),
+        }
 }
 
 // Whether the account is the owner or root.

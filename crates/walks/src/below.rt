@@ -15,19 +15,13 @@ pub fn has_children(tree: &[u8], at: usize) -> bool
     requires { Used tree.now at }
     ensures { result ≡ has_children_in (all_rows tree.now) at }
 {
-    if count(tree) <= at + 1 {
-        return false;
-    }
-    depth_at(tree, at) < depth_at(tree, at + 1)
+    at + 1 < count(tree) && depth_at(tree, at) < depth_at(tree, at + 1)
 }
 
 pub fn larger_of(a: u8, b: u8) -> u8
     ensures { result ≡ larger a b }
 {
-    if a <= b {
-        return b;
-    }
-    a
+    a.max(b)
 }
 
 // How many levels of rows lie below a row.
@@ -38,14 +32,12 @@ pub fn height_below(tree: &[u8], at: usize) -> usize
     let n = count(tree);
     let depth = depth_at(tree, at);
     let mut most = depth;
-    let mut i = at + 1;
-    while i < n {
+    for i in at + 1..n {
         let d = depth_at(tree, i);
         if d <= depth {
             return (most - depth) as usize;
         }
         most = larger_of(most, d);
-        i += 1;
     }
     (most - depth) as usize
 }
@@ -81,10 +73,7 @@ fn add_child(tree: &[u8], i: usize, depth: usize, answer: &mut [u8], place: usiz
 fn bytes_before(place: usize) -> usize
     ensures { result ≡ place - 1 }
 {
-    if place == 0 {
-        return 0;
-    }
-    place - 1
+    place.saturating_sub(1)
 }
 
 // Writes the names of the children, parted by commas, over the answer, and tells how many bytes they take.
@@ -96,13 +85,11 @@ pub fn child_names(tree: &[u8], at: usize, answer: &mut [u8]) -> usize
     let n = count(tree);
     let depth = depth_at(tree, at) as usize + 1;
     let mut place: usize = 0;
-    let mut i = at + 1;
-    while i < n {
+    for i in at + 1..n {
         if (depth_at(tree, i) as usize) < depth {
             return bytes_before(place);
         }
         place = add_child(tree, i, depth, answer, place);
-        i += 1;
     }
     bytes_before(place)
 }

@@ -8,11 +8,10 @@ mod below;
 pub use access::{may_at, owns_at, readable_at};
 pub use along::{parent_walk, walk};
 pub use below::{child_names, has_children, height_below, larger_of};
-use tree::Cause;
 
-// Where a walk came to: the row of the place and that of the directory above it, or why it was refused.
-#[derive(Clone, Copy)]
-pub enum Walked {
-    To { row: usize, above: usize },
-    Refused(Cause),
+// Where a walk came to: the row of the place and that of the directory above it.
+#[derive(Clone, Copy, PartialEq, Eq, Debug)]
+pub struct Spot {
+    pub row: usize,
+    pub above: usize,
 }

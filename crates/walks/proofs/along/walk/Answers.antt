@@ -1,103 +1,88 @@
 -- `walks::along::walk` meets its contract: the walk along the names left, from where it is now, is the walk along all.
-use Prim.Native.Nat.{ℕ, ◌<◌}
-use native.Mathlib.Omega.{arith}
-use mathlib.Core.Path.{◌≡◌, sym, ap, ◌∙◌}
-use mathlib.Core.List.{List}
-use lib.ListN.{length}
+use Rattle.std.specs.Prelude.{◌≡◌, ℕ, ◌<◌, List, ◌∷◌, Some, None, length}
+use Rattle.std.specs.Borrow.{Bor}
+use Rattle.std.proofs.Common.{arith, sym, ap, ◌∙◌}
 use Rattle.accounts.specs.declared.Account.{Account}
-use Rattle.syntax.specs.declared.Names.{Names}
-use Rattle.syntax.specs.declared.NextName.TheVariants.{End}
-use Rattle.syntax.specs.Parts.{part, next_name}
-use Rattle.syntax.proofs.ParentLaws.{names_from, Named, names_from_first, names_from_end, names_from_next}
+use Rattle.syntax.specs.Path.{Name}
+use Rattle.syntax.specs.Parts.{next_name, behind_name, names_from}
+use Rattle.syntax.proofs.ParentLaws.{names_from_first, names_from_end, names_from_next}
 use Rattle.tree.specs.declared.Cause.{Cause}
 use Rattle.tree.specs.Result.{refused, done}
 use Rattle.tree.specs.RowAt.{all_rows}
+use Rattle.tree.proofs.ResultLaws.{outcome_ok, outcome_err, outcome_passed}
 use Rattle.tree.proofs.RowAtLaws.{length_all_rows}
-use Rattle.walks.specs.RowWalk.{spot, top_spot, step_in, walk_names_in, walk_in, outcome}
-use Rattle.walks.specs.RowWalkLaws.{step_within, walk_none, walk_on, walk_stops, outcome_at, outcome_refused}
+use Rattle.walks.specs.RowWalk.{Spot, spot, top_spot, step_in, walk_names_in, walk_in}
+use Rattle.walks.specs.RowWalkLaws.{step_within, walk_none, walk_on, walk_stops}
 use Rattle.walks.proofs.along.walk.Invariants.{Going}
 use Rattle.walks.proofs.along.walk.Goals as goal
-use Rattle.walks.proofs.along.walk.Goals.{In-Name}
 
 -- from `/` along all names
-begins : (tree : List ℕ) (account : Account) (path : List ℕ) (at : ℕ) → at ≡ 1
-    → walk_names_in account (all_rows tree) (spot 0 0) (names_from path at) ≡ walk_in account (all_rows tree) path
+begins : (tree : List ℕ) (account : Account) (path : List ℕ)
+    → walk_names_in account (all_rows tree) (spot 0 0) (names_from path 1) ≡ walk_in account (all_rows tree) path
 unfolding walk_in top_spot
-begins tree account path at e = rw (e, names_from_first path)
+begins tree account path = rw (names_from_first path)
 
--- a name more leaves fewer
-fewer : {t : List ℕ} {at start end : ℕ} {rest : Names} → Named t at start end rest → length (names_from t rest.at) < length (names_from t at)
-fewer n = omega (arith, ap length n.follow)
+module _ {tree : List ℕ} {account : Account} {path : List ℕ} {at : ℕ} {here : Spot} {text : List ℕ} (g : Going tree account path here text at) where
+  module _ {name : Name} (read : next_name text at ≡ Some name) where
+    -- along the name that was read and those behind it
+    goes_along : walk_names_in account (all_rows tree) here (name ∷ names_from text (behind_name text at)) ≡ walk_in account (all_rows tree) path
+    goes_along = rw (← names_from_next text at name read) g.goes
 
-module _ {tree : List ℕ} {account : Account} {path : List ℕ} {row above at : ℕ} (g : Going tree account path row above at) where
-  module _ {start end : ℕ} {rest : Names} (n : Named path at start end rest) where
     -- a step that is done
-    goes_on : (r a : ℕ) → step_in account (all_rows tree) (spot row above) (part path start end) ≡ done (spot r a) → Going tree account path r a rest.at
-    goes_on r a e =
+    goes_on : (s : Spot) → step_in account (all_rows tree) here name ≡ done s → Going tree account path s text (behind_name text at)
+    goes_on s e =
         let rs = all_rows tree in
         let q = length_all_rows tree in
-        let w = step_within account rs (spot row above) (spot r a) (part path start end) (omega (arith, g.row_in)) e in
+        let w = step_within account rs here s name (omega (arith, g.row_in)) e in
         record {
           row_in = omega (arith, w.row_in);
           above_in = omega (arith, w.above_in);
-          goes =
-              sym (walk_on account rs (spot row above) (spot r a) (part path start end) (names_from path rest.at) e)
-              ∙ ap (walk_names_in account rs (spot row above)) (sym n.follow)
-              ∙ g.goes;
+          goes = sym (walk_on account rs here s name (names_from text (behind_name text at)) e) ∙ goes_along;
         }
 
     -- one that is refused
-    stops : (k : Cause) → step_in account (all_rows tree) (spot row above) (part path start end) ≡ refused k → refused k ≡ walk_in account (all_rows tree) path
-    stops k e =
-        sym (walk_stops account (all_rows tree) (spot row above) k (part path start end) (names_from path rest.at) e)
-        ∙ ap (walk_names_in account (all_rows tree) (spot row above)) (sym n.follow)
-        ∙ g.goes
+    stops : (k : Cause) → step_in account (all_rows tree) here name ≡ refused k → refused k ≡ walk_in account (all_rows tree) path
+    stops k e = sym (walk_stops account (all_rows tree) here k name (names_from text (behind_name text at)) e) ∙ goes_along
 
   -- the end of the names
-  ends : next_name path at ≡ End → done (spot row above) ≡ walk_in account (all_rows tree) path
+  ends : next_name text at ≡ None → done here ≡ walk_in account (all_rows tree) path
   ends e =
-      sym (walk_none account (all_rows tree) (spot row above))
-      ∙ ap (walk_names_in account (all_rows tree) (spot row above)) (sym (names_from_end path at e))
+      sym (walk_none account (all_rows tree) here)
+      ∙ ap (walk_names_in account (all_rows tree) here) (sym (names_from_end text at e))
       ∙ g.goes
 
--- the name that was read
-named : (c : In-Name)
-    → Named c.args.path.now c.loop-start.names.at
-    c.in-Name.start c.in-Name.end c.in-Name.rest
-named c =
-    let s = c.args.path.now in
-    names_from_next s c.loop-start.names.at c.in-Name.start c.in-Name.end c.in-Name.rest (sym c.next.ensures ∙ c.in-Name.is)
+  -- a name more leaves fewer
+  fewer : {name : Name} → next_name text at ≡ Some name → length (names_from text (behind_name text at)) < length (names_from text at)
+  fewer read = omega (arith, ap length (names_from_next text at _ read))
 
-pub loop-start-init : goal.loop-start-init
-loop-start-init c =
+-- the text that a reader holds
+held : {b d : Bor (List ℕ)} → b ≡ d → b.now ≡ d.now
+held e = ap (λ (b : Bor (List ℕ)). b.now) e
+
+pub loop-name-init : goal.loop-name-init
+loop-name-init c =
     let a = c.args in
-    record { row_in = omega arith; above_in = omega arith; goes = begins a.tree.now a.account a.path.now c.first-names.result.at c.first-names.ensures }
+    let names = c.of-names.ensures in
+    let text = held names.path in
+    rw (names.first, text) (record { row_in = omega arith; above_in = omega arith; goes = begins a.tree.now a.account a.path.now })
 
-pub slice_bounds-step-count : goal.slice_bounds-step-count
-slice_bounds-step-count c = (named (goal.at.slice_bounds-step-count c).In-Name).ordered
+pub returns-in_err-spot : goal.returns-in_err-spot
+returns-in_err-spot c =
+    let stepped = sym c.in_err-spot.ensures ∙ outcome_err _ in
+    outcome_passed c.from_residual.result c.from_residual.ensures.1 ∙ stops c.loop-name.invariant (sym c.in-Some.ensures.name) _ stepped
 
-pub slice_bounds-step-start : goal.slice_bounds-step-start
-slice_bounds-step-start c = let n = named (goal.at.slice_bounds-step-start c).In-Name in omega (arith, n.ordered, n.ends)
+pub loop-name-smaller : goal.loop-name-smaller
+loop-name-smaller c =
+    let names = c.in-Some.ensures in
+    let text = held names.path in
+    rw (names.rest, text) (fewer c.loop-name.invariant (sym names.name))
 
-pub slice_bounds-step-end : goal.slice_bounds-step-end
-slice_bounds-step-end c = let n = named (goal.at.slice_bounds-step-end c).In-Name in omega (arith, n.ordered, n.ends)
+pub loop-name-preserved : goal.loop-name-preserved
+loop-name-preserved c =
+    let names = c.in-Some.ensures in
+    let text = held names.path in
+    let stepped = sym c.in_ok-spot.ensures ∙ outcome_ok _ in
+    rw (names.rest, text) (goes_on c.loop-name.invariant (sym names.name) _ stepped)
 
-pub loop-start-smaller : goal.loop-start-smaller
-loop-start-smaller c = fewer (named (goal.at.loop-start-smaller c).In-Name)
-
-pub loop-start-preserved : goal.loop-start-preserved
-unfolding part
-loop-start-preserved c =
-    let stepped = sym c.step.ensures ∙ ap outcome c.in-To.is ∙ outcome_at c.in-To.r c.in-To.a in
-    goes_on c.loop-start.invariant (named (goal.at.loop-start-preserved c).In-Name) c.in-To.r c.in-To.a stepped
-
-pub returns-in-Refused : goal.returns-in-Refused
-unfolding part
-returns-in-Refused c =
-    let stepped = sym c.step.ensures ∙ ap outcome c.in-Refused.is ∙ outcome_refused c.in-Refused.cause in
-    outcome_refused c.in-Refused.cause ∙ stops c.loop-start.invariant (named (goal.at.returns-in-Refused c).In-Name) c.in-Refused.cause stepped
-
-pub returns-in-End : goal.returns-in-End
-returns-in-End c =
-    let l = c.loop-start in
-    outcome_at l.row l.above ∙ ends l.invariant (sym c.next.ensures ∙ c.in-End.is)
+pub returns : goal.returns
+returns c = outcome_ok _ ∙ ends c.loop-name.invariant (sym c.in_default.ensures.name)

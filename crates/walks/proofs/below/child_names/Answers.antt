@@ -56,21 +56,6 @@ module _ {tree : List ℕ} {at : ℕ} {answer₀ : List ℕ} {n depth : ℕ} {an
   ends : n ≤ i → left tree at i ≡ []
   ends h = let k = (row_at tree at).depth in names_end tree k i (suc k) (omega (arith, g.all))
 
-pub count-n-requires : goal.count-n-requires
-count-n-requires c = omega arith
-
-pub depth_at-requires : goal.depth_at-requires
-depth_at-requires c = omega arith
-
-pub overflow_cast-depth : goal.overflow_cast-depth
-overflow_cast-depth c = omega arith
-
-pub overflow_add-depth : goal.overflow_add-depth
-overflow_add-depth c = omega arith
-
-pub overflow_add-i : goal.overflow_add-i
-overflow_add-i c = omega arith
-
 pub loop-i-init : goal.loop-i-init
 loop-i-init c = record {
   le = omega arith;
@@ -84,15 +69,6 @@ loop-i-init c = record {
   goes = refl;
 }
 
-pub depth_at-requires-in-loop-i : goal.depth_at-requires-in-loop-i
-depth_at-requires-in-loop-i c = omega arith
-
-pub overflow_cast-depth_at : goal.overflow_cast-depth_at
-overflow_cast-depth_at c = omega arith
-
-pub bytes_before-requires : goal.bytes_before-requires
-bytes_before-requires c = tt
-
 pub shape_of-answer-then-depth_at-depth : goal.shape_of-answer-then-depth_at-depth
 shape_of-answer-then-depth_at-depth c = c.loop-i.invariant.len
 
@@ -104,12 +80,6 @@ returns-then-depth_at-depth c =
 pub add_child-place-requires : goal.add_child-place-requires
 add_child-place-requires c = let g = c.loop-i.invariant in omega arith
 
-pub overflow_add-i-in-loop-i : goal.overflow_add-i-in-loop-i
-overflow_add-i-in-loop-i c = omega arith
-
-pub loop-i-smaller : goal.loop-i-smaller
-loop-i-smaller c = omega arith
-
 pub loop-i-preserved : goal.loop-i-preserved
 loop-i-preserved c =
     let w = c.add_child-place in
@@ -118,9 +88,6 @@ loop-i-preserved c =
     let a = c.args in
     goes_on g w.new.answer w.result (omega arith) (omega arith) w.auto.answer w.ensures.1
     (w.ensures.0 a.answer.now g.done g.named)
-
-pub bytes_before-requires-2 : goal.bytes_before-requires-2
-bytes_before-requires-2 c = tt
 
 pub shape_of-answer : goal.shape_of-answer
 shape_of-answer c = c.loop-i.invariant.len

@@ -37,49 +37,16 @@ module _ {tree : List ℕ} {at n depth most i : ℕ} (g : Going tree at n depth 
   ends : n ≤ i → most - depth ≡ height_in (all_rows tree) at
   ends h = found (deepest_end tree depth i most (omega (arith, g.all)))
 
-pub count-n-requires : goal.count-n-requires
-count-n-requires c = omega arith
-
-pub depth_at-depth-requires : goal.depth_at-depth-requires
-depth_at-depth-requires c = omega arith
-
-pub overflow_add-i : goal.overflow_add-i
-overflow_add-i c = omega arith
-
 pub loop-i-init : goal.loop-i-init
 loop-i-init c = record { le = omega arith; all = c.count-n.ensures; from = omega arith; level = c.depth_at-depth.ensures; least = omega arith; byte = omega arith; goes = refl }
 
-pub depth_at-d-requires : goal.depth_at-d-requires
-depth_at-d-requires c = omega arith
-
-pub overflow_sub-result : goal.overflow_sub-result
-overflow_sub-result c = omega arith
-
-pub overflow_cast-result : goal.overflow_cast-result
-overflow_cast-result c = omega arith
-
 pub returns-then-d-depth : goal.returns-then-d-depth
 returns-then-d-depth c = (stops c.loop-i.invariant (omega arith) (omega arith), omega arith)
-
-pub larger_of-most-requires : goal.larger_of-most-requires
-larger_of-most-requires c = tt
-
-pub overflow_add-i-in-loop-i : goal.overflow_add-i-in-loop-i
-overflow_add-i-in-loop-i c = omega arith
-
-pub loop-i-smaller : goal.loop-i-smaller
-loop-i-smaller c = omega arith
 
 pub loop-i-preserved : goal.loop-i-preserved
 loop-i-preserved c =
     let d = c.depth_at-d in
     goes_on c.loop-i.invariant c.larger_of-most.result (omega arith) (omega arith) (omega arith) (c.larger_of-most.ensures ∙ ap (larger c.loop-i.most) d.ensures)
-
-pub overflow_sub-result-2 : goal.overflow_sub-result-2
-overflow_sub-result-2 c = omega arith
-
-pub overflow_cast-result-2 : goal.overflow_cast-result-2
-overflow_cast-result-2 c = omega arith
 
 pub returns : goal.returns
 returns c = (ends c.loop-i.invariant (omega arith), omega arith)

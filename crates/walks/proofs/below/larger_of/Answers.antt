@@ -1,11 +1,7 @@
--- `walks::below::larger_of` meets its contract: each return by the order of the two.
-use mathlib.Core.Path.{sym}
-use native.Mathlib.Omega.{arith}
-use Rattle.walks.specs.RowBelowLaws.{larger_first, larger_second}
+-- `walks::below::larger_of` meets its contract: the library's larger of two is ours.
+use Rattle.std.proofs.Common.{◌∙◌}
+use Rattle.walks.specs.RowBelowLaws.{larger_is_max}
 use Rattle.walks.proofs.below.larger_of.Goals as goal
 
-pub returns-then-a-b : goal.returns-then-a-b
-returns-then-a-b c = let a = c.args in sym (larger_second a.a a.b (omega arith))
-
 pub returns : goal.returns
-returns c = let a = c.args in sym (larger_first a.a a.b (omega arith))
+returns c = c.max.ensures ∙ larger_is_max c.args.a c.args.b
