@@ -6,18 +6,12 @@ use Rattle.accounts.specs.declared.Right.TheVariants.{W}
 use Rattle.syntax.specs.Path.{Name, Path, parent, last, depth}
 use Rattle.syntax.specs.Parts.{last_slash}
 use Rattle.tree.specs.declared.Cause.TheVariants.{Access}
-use Rattle.tree.specs.Result.{Result, refused, done, ◌>>=◌, ◌>>◌, require}
+use Rattle.tree.specs.Result.{Result, done, ◌>>=◌, ◌>>◌, require}
 use Rattle.tree.specs.Forest.{Place, size}
 use Rattle.tree.specs.Node.{Node, allows}
 use Rattle.tree.specs.Walk.{unused}
 use Rattle.tree.specs.RowPlaces.{index_of, lesser}
-use Rattle.gaps.specs.declared.Room.{Room}
-use Rattle.gaps.specs.declared.Room.TheVariants
-
-pub record Gap : Type 0 where
-  pub row : ℕ
-  pub at : ℕ
-  pub depth : ℕ
+pub use Rattle.gaps.specs.declared.Gap.{Gap}
 
 abbrev pub gap : ℕ → ℕ → ℕ → Gap
 gap row at depth = record { row = row; at = at; depth = depth }
@@ -29,11 +23,6 @@ gap_of t p d = gap (index_of t (parent p)) (suc (index_of t (parent p) + size (l
 -- in the directory that checks came to
 abbrev pub gap_from : Place Node → Path → Result (Place Node) → Result Gap
 gap_from t p w = w >>= λ d. done (gap_of t p d)
-
--- what the code's answer means
-unfoldable pub gap_told : Room → Result Gap
-gap_told (TheVariants.At row at depth) = done (gap row at depth)
-gap_told (TheVariants.Refused cause) = refused cause
 
 -- the checks in the directory d at the path q: 6 if the name is used, w 5
 unfoldable pub gap_below : Account → Place Node → Path → Name → Place Node → Result Gap

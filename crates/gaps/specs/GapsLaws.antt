@@ -2,7 +2,7 @@
 --
 -- In order: the text of a path; the checks in a directory, and at a path; where a child may stand (Standing) by the code's answer
 -- (room-to, room-not); rows put in (stands-insertable, stands-child, stands-place).
-use Rattle.std.specs.Prelude.{◌≡◌, refl, List, ◌++◌, true, false, length}
+use Rattle.std.specs.Prelude.{◌≡◌, refl, List, ◌++◌, true, false, length, Ok, Err}
 use Rattle.std.proofs.Common.{sym, ◌∙◌, arith, length-drop}
 use Rattle.std.proofs.Math.Path.{ap}
 use Rattle.std.proofs.Math.Option.{some}
@@ -16,11 +16,11 @@ use Rattle.syntax.specs.Parts.{last_slash}
 use Rattle.syntax.proofs.PathLaws.{name_fits, path_is_path, path_depth, last_is_name, parent_depth}
 use Rattle.syntax.proofs.ParentLaws.{last_name}
 use Rattle.tree.specs.declared.Cause.{Cause}
-use Rattle.tree.specs.declared.Child.TheVariants.{Found, Missing}
 use Rattle.tree.specs.declared.Cause.TheVariants.{Access, Exists}
 use Rattle.tree.specs.Layout.{name_width, most_rows}
-use Rattle.tree.specs.Result.{Result, refused, done, ◌>>◌, require}
-use Rattle.tree.proofs.ResultLaws.{bind_done, refused_before, done_then, refused_then, done_bind, refused_bind, require_true, require_false, then_bind}
+use Rattle.std.specs.Prelude as code
+use Rattle.tree.specs.Result.{Result, outcome, refused, done, ◌>>◌, require}
+use Rattle.tree.proofs.ResultLaws.{outcome_ok, outcome_err, bind_done, refused_before, done_then, refused_then, done_bind, refused_bind, require_true, require_false, then_bind}
 use Rattle.tree.specs.Forest.{Place, update, put, leaf, size}
 use Rattle.tree.specs.Node.{Node, allows}
 use Rattle.tree.specs.Walk.{by_modes, unused, parent_walk, room}
@@ -40,9 +40,7 @@ use Rattle.tree.proofs.TreeBytesLaws.{used_row, encoded_count, at_index, at_used
 use Rattle.edits.specs.declared.Fresh.{Fresh}
 use Rattle.edits.specs.Changes.{rows_put, fresh_node, fresh_row}
 use Rattle.edits.specs.EditLaws.{spot_bound, put_law, child_law}
-use Rattle.gaps.specs.declared.Room.{Room}
-use Rattle.gaps.specs.declared.Room.TheVariants
-use Rattle.gaps.specs.Gaps.{Gap, gap, gap_of, gap_from, gap_told, gap_below, behind_slash}
+use Rattle.gaps.specs.Gaps.{Gap, gap, gap_of, gap_from, gap_below, behind_slash}
 
 -- ---- the text of a path
 
@@ -79,11 +77,11 @@ module _ {b : List ℕ} {t : Place Node} {q : Path} {row : ℕ} {d : Place Node}
 
   module _ (account : Account) (n : Name) {j : ℕ} where
     -- a name that is found is used
-    pub gap_used : Found j ≡ child_in (all_rows b) row n → gap_below account t q n d ≡ refused Exists
+    pub gap_used : Ok j ≡ child_in (all_rows b) row n → gap_below account t q n d ≡ refused Exists
     unfolding gap_below
     gap_used f = let c = at_found a n f in rw (is_used n d.below c.1, refused_then)
 
-    module _ (f : Missing j ≡ child_in (all_rows b) row n) where
+    module _ (f : Err j ≡ child_in (all_rows b) row n) where
       -- w is asked where it is missing
       pub gap_shut : allows account W (row_at b row).here ≡ false → gap_below account t q n d ≡ refused Access
       unfolding gap_below
@@ -120,19 +118,9 @@ module _ (account : Account) (t : Place Node) (p : Path) where
         (then_bind (unused (last p) d.below) (right >> done d) (λ c. done (told c))
         ∙ ap (λ r. unused (last p) d.below >> r) (then_bind right (done d) (λ c. done (told c)) ∙ ap (λ r. right >> r) (done_bind d (λ c. done (told c)))))
 
--- a refusal told
-pub told_refused : (k : Cause) → gap_told (TheVariants.Refused k) ≡ refused k
-unfolding gap_told
-told_refused k = refl
-
--- and a gap
-pub told_gap : (row at k : ℕ) → gap_told (TheVariants.At row at k) ≡ done (gap row at k)
-unfolding gap_told
-told_gap row at k = refl
-
--- checks that are refused, told
-pub told_not : (t : Place Node) (p : Path) (w : Result (Place Node)) {k : Cause} → w ≡ refused k → gap_told (TheVariants.Refused k) ≡ gap_from t p w
-told_not t p w {k} e = told_refused k ∙ sym (rw (e, refused_bind))
+-- checks that are refused leave no gap
+pub gap_not : (t : Place Node) (p : Path) (w : Result (Place Node)) {k : Cause} → w ≡ refused k → gap_from t p w ≡ refused k
+gap_not t p w {k} e = rw (e, refused_bind)
 
 -- ---- where a child may stand
 
@@ -160,26 +148,26 @@ module _ {b : List ℕ} {t : Place Node} (tree : Encodes b t) (account : Account
         level = refl;
       }
 
-  module _ {r : Room} (same : gap_told r ≡ gap_from t p (room (by_modes account) t p)) where
+  module _ {r : code.Result Gap Cause} (same : outcome r ≡ gap_from t p (room (by_modes account) t p)) where
     -- the gap that an answer tells
-    told_at : {row at k : ℕ} → r ≡ TheVariants.At row at k → (d : Place Node) × (room (by_modes account) t p ≡ done d) × (gap_of t p d ≡ gap row at k)
-    told_at {row} {at} {k} e =
-        let i = bind_done (room (by_modes account) t p) (λ d. done (gap_of t p d)) (sym same ∙ ap gap_told e ∙ told_gap row at k) in
+    told_at : {g : Gap} → r ≡ Ok g → (d : Place Node) × (room (by_modes account) t p ≡ done d) × (gap_of t p d ≡ g)
+    told_at {g} e =
+        let i = bind_done (room (by_modes account) t p) (λ d. done (gap_of t p d)) (sym same ∙ ap outcome e ∙ outcome_ok g) in
         (i.0, i.1, cc i.2)
 
     -- is where a child may stand
-    pub room_to : {row at k : ℕ} → r ≡ TheVariants.At row at k → Standing b t p account row at k
+    pub room_to : {g : Gap} → r ≡ Ok g → Standing b t p account g.row g.at g.depth
     room_to e = let i = told_at e in rw i.2 at (found_stands i.1)
 
     -- and the gap in the room that was found
-    pub room_gap : {d : Place Node} → room (by_modes account) t p ≡ done d → {row at k : ℕ} → r ≡ TheVariants.At row at k → gap row at k ≡ gap_of t p d
-    room_gap {d} found {row} {at} {k} e =
-        let i : done (gap row at k) ≡ done (gap_of t p d) = sym (ap gap_told e ∙ told_gap row at k) ∙ same ∙ rw (found, done_bind) in
+    pub room_gap : {d : Place Node} → room (by_modes account) t p ≡ done d → {g : Gap} → r ≡ Ok g → g ≡ gap_of t p d
+    room_gap {d} found {g} e =
+        let i : done g ≡ done (gap_of t p d) = sym (ap outcome e ∙ outcome_ok g) ∙ same ∙ rw (found, done_bind) in
         cc
 
     -- one that tells a refusal tells why none may
-    pub room_not : {k : Cause} → r ≡ TheVariants.Refused k → room (by_modes account) t p ≡ refused k
-    room_not {k} e = refused_before (room (by_modes account) t p) (gap_of t p) (sym same ∙ ap gap_told e ∙ told_refused k)
+    pub room_not : {k : Cause} → r ≡ Err k → room (by_modes account) t p ≡ refused k
+    room_not {k} e = refused_before (room (by_modes account) t p) (gap_of t p) (sym same ∙ ap outcome e ∙ outcome_err k)
 
 -- ---- rows put in there
 

@@ -1,16 +1,16 @@
 // Where a new child of a directory stands.
 #![tactic(auto)]
 
-mod gap;
 mod group;
+mod room;
 
-pub use gap::{last_name, room_for};
 pub use group::new_group;
-use tree::Cause;
+pub use room::{last_name, room_for};
 
-// Where a new child may stand: its directory's row, the row it goes in before, and how deep; or why none may.
-#[derive(Clone, Copy)]
-pub enum Room {
-    At { row: usize, at: usize, depth: u8 },
-    Refused(Cause),
+// Where a new child may stand: its directory's row, the row it goes in before, and how deep.
+#[derive(Clone, Copy, PartialEq, Eq, Debug)]
+pub struct Gap {
+    pub row: usize,
+    pub at: usize,
+    pub depth: u8,
 }

@@ -26,7 +26,8 @@ use Rattle.tree.specs.Node.{Node}
 use Rattle.tree.specs.Compute.{compute as compute_tree}
 use Rattle.shell.specs.WholePaths.{whole_command}
 use Rattle.shell.specs.Steps.{run_shell}
-use Rattle.shell.specs.declared.Answer.TheVariants.{Refused, WrongLine}
+use Rattle.std.specs.Prelude.{Err}
+use Rattle.shell.specs.declared.Refusal.TheVariants.{For, WrongLine}
 use Rattle.shell.specs.Replies.{Reply, ok, refusal, reply, after, Told, told, answer_of}
 use Rattle.shell.specs.Compute.{compute as compute_shell}
 
@@ -355,7 +356,7 @@ changing_leaves = refl
 
 -- ---- what an answer tells: beside 0 a text's length, beside 17 the line
 tellings : List Told
-tellings = map told (answer_of (ok none) ∷ answer_of (ok (some (bytes "a,b"))) ∷ Refused Access ∷ WrongLine 4 ∷ [])
+tellings = map told (answer_of (ok none) ∷ answer_of (ok (some (bytes "a,b"))) ∷ Err (For Access) ∷ Err (WrongLine 4) ∷ [])
 
 tellings_are : tellings ≡ record { number = 0; values = [] } ∷ record { number = 0; values = 3 ∷ [] } ∷ record { number = 5; values = [] } ∷ record { number = 17; values = 4 ∷ [] } ∷ []
 unfolding compute tellings told answer_of

@@ -8,8 +8,7 @@ use Rattle.tree.specs.Forest.{Place}
 use Rattle.tree.specs.Node.{Node}
 use Rattle.tree.specs.Encoding.{encode_tree}
 use Rattle.tree.specs.TreeBytes.{Whichever}
-use Rattle.shell.specs.declared.Answer.{Answer}
-use Rattle.shell.specs.Replies.{reply, answer_of, written}
+use Rattle.shell.specs.Replies.{Answer, reply, answer_of, written}
 
 -- the bytes after what the steps come to, where a state's are given: a refusal leaves them
 unfoldable pub bytes_after : {S : Type 0} → (S → List ℕ) → List ℕ → Result (Outcome S) → List ℕ

@@ -1,9 +1,9 @@
 -- Laws of the table: no cause has the number 0, which tells that a call is done; a wrong setup line has 17, and an unsound
 -- store alone 18.
-use Rattle.std.specs.Prelude.{◌≡◌, refl, ℕ, true, false, eqb}
+use Rattle.std.specs.Prelude.{◌≡◌, refl, true, false, eqb}
 use Rattle.buffers.specs.Cases.{contra}
 use Rattle.tree.specs.declared.Cause.{Cause}
-use Rattle.tree.specs.declared.Cause.TheVariants.{NoForm, UnknownCaller, Missing, NotDirectory, Access, Exists, WrongKind, NotEmpty, Reserved, Full, IntoItself, NoSession, NoGrant, Stale, Untagged, RevisionsSpent, WrongSetup, Unsound, TooDeep, ShortAnswer}
+use Rattle.tree.specs.declared.Cause.TheVariants.{NoForm, UnknownCaller, Missing, NotDirectory, Access, Exists, WrongKind, NotEmpty, Reserved, Full, IntoItself, NoSession, NoGrant, Stale, Untagged, RevisionsSpent, Unsound, TooDeep, ShortAnswer}
 use Rattle.tree.specs.Causes.{number, wrong_setup}
 
 -- a wrong setup line
@@ -76,10 +76,6 @@ pub revisions_spent_number : number RevisionsSpent ≡ 16
 unfolding number
 revisions_spent_number = refl
 
-pub wrong_setup_number : (line : ℕ) → number (WrongSetup line) ≡ 17
-unfolding number wrong_setup
-wrong_setup_number line = refl
-
 pub unsound_number : number Unsound ≡ 18
 unfolding number
 unsound_number = refl
@@ -94,7 +90,7 @@ short_answer_number = refl
 
 -- no cause's number is 0
 pub number_not_0 : (why : Cause) → eqb (number why) 0 ≡ false
-unfolding number wrong_setup
+unfolding number
 number_not_0 NoForm = refl
 number_not_0 UnknownCaller = refl
 number_not_0 Missing = refl
@@ -111,14 +107,13 @@ number_not_0 NoGrant = refl
 number_not_0 Stale = refl
 number_not_0 Untagged = refl
 number_not_0 RevisionsSpent = refl
-number_not_0 (WrongSetup line) = refl
 number_not_0 Unsound = refl
 number_not_0 TooDeep = refl
 number_not_0 ShortAnswer = refl
 
 -- and only one is 18
 pub only_unsound_is_18 : (why : Cause) → eqb (number why) 18 ≡ true → why ≡ Unsound
-unfolding number wrong_setup
+unfolding number
 only_unsound_is_18 NoForm e = contra e refl
 only_unsound_is_18 UnknownCaller e = contra e refl
 only_unsound_is_18 Missing e = contra e refl
@@ -135,7 +130,6 @@ only_unsound_is_18 NoGrant e = contra e refl
 only_unsound_is_18 Stale e = contra e refl
 only_unsound_is_18 Untagged e = contra e refl
 only_unsound_is_18 RevisionsSpent e = contra e refl
-only_unsound_is_18 (WrongSetup line) e = contra e refl
 only_unsound_is_18 Unsound e = refl
 only_unsound_is_18 TooDeep e = contra e refl
 only_unsound_is_18 ShortAnswer e = contra e refl

@@ -1,11 +1,7 @@
 -- Document 01's table of causes: the number by which a call is refused.
 use Rattle.std.specs.Prelude.{ℕ}
 use Rattle.tree.specs.declared.Cause.{Cause}
-use Rattle.tree.specs.declared.Cause.TheVariants.{NoForm, UnknownCaller, Missing, NotDirectory, Access, Exists, WrongKind, NotEmpty, Reserved, Full, IntoItself, NoSession, NoGrant, Stale, Untagged, RevisionsSpent, WrongSetup, Unsound, TooDeep, ShortAnswer}
-
--- of a wrong line of the setup
-unfoldable pub wrong_setup : ℕ
-wrong_setup = 17
+use Rattle.tree.specs.declared.Cause.TheVariants.{NoForm, UnknownCaller, Missing, NotDirectory, Access, Exists, WrongKind, NotEmpty, Reserved, Full, IntoItself, NoSession, NoGrant, Stale, Untagged, RevisionsSpent, Unsound, TooDeep, ShortAnswer}
 
 unfoldable pub number : Cause → ℕ
 number NoForm = 1
@@ -24,7 +20,10 @@ number NoGrant = 13
 number Stale = 14
 number Untagged = 15
 number RevisionsSpent = 16
-number (WrongSetup line) = wrong_setup
 number Unsound = 18
 number TooDeep = 19
 number ShortAnswer = 20
+
+-- a wrong setup line, which is answered with its number and has no cause of its own
+unfoldable pub wrong_setup : ℕ
+wrong_setup = 17

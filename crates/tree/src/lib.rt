@@ -47,8 +47,6 @@ pub enum Cause {
     Stale,
     Untagged,
     RevisionsSpent,
-    // The setup's first wrong line, from 1.
-    WrongSetup(usize),
     Unsound,
     TooDeep,
     ShortAnswer,

@@ -1,4 +1,4 @@
--- `gaps::gap::last_name` meets its contract: the last name stands behind the last `/`.
+-- `gaps::room::last_name` meets its contract: the last name stands behind the last `/`.
 use mathlib.Core.Path.{◌≡◌, ap, ◌∙◌}
 use Prim.Native.Nat.{ℕ, suc, ◌+◌, ◌-◌}
 use native.Mathlib.Omega.{arith}
@@ -7,7 +7,7 @@ use lib.Seq.{take_all}
 use Rattle.syntax.specs.Parts.{last_slash}
 use Rattle.syntax.proofs.ParentLaws.{last_slash_less}
 use Rattle.gaps.specs.Gaps.{behind_slash}
-use Rattle.gaps.proofs.gap.last_name.Goals as goal
+use Rattle.gaps.proofs.room.last_name.Goals as goal
 
 pub slice_bounds-result-count : goal.slice_bounds-result-count
 slice_bounds-result-count c = omega (arith, last_slash_less c.args.path.now (omega arith))

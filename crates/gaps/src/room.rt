@@ -3,12 +3,13 @@
 ghost use Rattle.std.specs.Prelude.{◌≡◌, ◌<◌, length};
 ghost use Rattle.tree.specs.Walk.{by_modes, room};
 ghost use Rattle.tree.specs.TreeBytes.{Whole, PathText, Whichever, SomePlace, WhicheverPlace};
-ghost use Rattle.gaps.specs.Gaps.{behind_slash, gap_from, gap_below, gap_told};
+ghost use Rattle.gaps.specs.Gaps.{behind_slash, gap_from, gap_below};
+ghost use Rattle.tree.specs.Result.{outcome};
 
-use crate::Room;
+use crate::Gap;
 use accounts::{Account, Right};
-use tree::{Cause, Child, depth_at, find_child};
-use walks::{Walked, may_at, parent_walk};
+use tree::{Cause, depth_at, find_child};
+use walks::{may_at, parent_walk};
 
 // The last name of a path: what stands behind the last `/` of its text.
 pub fn last_name(path: &[u8]) -> &[u8]
@@ -20,33 +21,31 @@ pub fn last_name(path: &[u8]) -> &[u8]
 }
 
 // In the directory of a row: none where the name is used, and none without w.
-fn room_below(tree: &[u8], account: Account, row: usize, name: &[u8]) -> Room
+fn room_below(tree: &[u8], account: Account, row: usize, name: &[u8]) -> Result<Gap, Cause>
     requires { SomePlace tree.now row }
-    ensures { WhicheverPlace tree.now row (λ t q d. gap_told result ≡ gap_below account t q name.now d) }
+    ensures { WhicheverPlace tree.now row (λ t q d. outcome result ≡ gap_below account t q name.now d) }
 {
     match find_child(tree, row, name) {
-        Child::Found(_) => Room::Refused(Cause::Exists),
-        Child::Missing(at) => {
+        Ok(_) => Err(Cause::Exists),
+        Err(at) => {
             if !may_at(tree, row, account, Right::W) {
-                return Room::Refused(Cause::Access);
+                return Err(Cause::Access);
             }
             let depth = depth_at(tree, row) + 1;
-            Room::At { row, at, depth }
+            Ok(Gap { row, at, depth })
         }
     }
 }
 
 // At a path: none for `/`, and where the walk to its directory is refused.
-pub fn room_for(tree: &[u8], account: Account, path: &[u8]) -> Room
+pub fn room_for(tree: &[u8], account: Account, path: &[u8]) -> Result<Gap, Cause>
     requires whole { Whole tree.now }
     requires path_text { PathText path.now }
-    ensures { Whichever tree.now path.now (λ t p. gap_told result ≡ gap_from t p (room (by_modes account) t p)) }
+    ensures { Whichever tree.now path.now (λ t p. outcome result ≡ gap_from t p (room (by_modes account) t p)) }
 {
     if path.len() == 1 {
-        return Room::Refused(Cause::Exists);
+        return Err(Cause::Exists);
     }
-    match parent_walk(tree, account, path) {
-        Walked::To { row, above: _ } => room_below(tree, account, row, last_name(path)),
-        Walked::Refused(cause) => Room::Refused(cause),
-    }
+    let directory = parent_walk(tree, account, path)?;
+    room_below(tree, account, directory.row, last_name(path))
 }
