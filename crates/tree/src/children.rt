@@ -64,17 +64,17 @@ pub fn search_child(tree: &[u8], at: usize, name: &[u8]) -> Search
         if name_byte(tree, i, k) == 0 {
             return Search {
                 child: Ok(i),
-                steps: steps + k + 1,
+                steps: steps + k + 1, // both end
             };
         }
         return Search {
             child: Err(i),
-            steps: steps + k + 1,
+            steps: steps + k + 1, // the child's goes on
         };
     }
     Search {
         child: Err(n),
-        steps,
+        steps, // the rows are over
     }
 }
 
