@@ -118,6 +118,7 @@ fn copy_children(
     let end = subtree_end(tree, at);
     let mut i = at + 1;
     let mut next = to;
+    // a child is as many rows wide as it has below it, so this goes over no range
     while i < end {
         next = copy_node(tree, i, left - 1, who, out, above, next);
         i = subtree_end(tree, i);
