@@ -15,7 +15,7 @@ pub copy_children-requires : goal.copy_children-requires
 copy_children-requires c =
     let a = c.args in
     let f = c.copy_first in
-    entry_children c.requires.entry_job a.out.now f.new.out a.depth a.name.now c.requires.at_in_bounds c.requires.most_levels_bound c.requires.name_len_bound (f.ensures c.requires.entry_job)
+    entry_children c.requires.entry_job a.out.now f.new.out a.first.depth a.first.name.now c.requires.at_in_bounds c.requires.most_levels_bound c.requires.name_len_bound (f.ensures c.requires.entry_job)
 
 pub shape_of-out : goal.shape_of-out
 shape_of-out c = c.copy_children.auto.out ∙ c.copy_first.auto.out
@@ -27,5 +27,5 @@ returns c = λ j.
     let m = c.copy_children in
     let z = f.new.out in
     let is = f.ensures j in
-    entry_written j a.out.now z a.depth a.name.now c.requires.at_in_bounds c.requires.most_levels_bound c.requires.name_len_bound is
-    (m.ensures (entry_children j a.out.now z a.depth a.name.now c.requires.at_in_bounds c.requires.most_levels_bound c.requires.name_len_bound is))
+    entry_written j a.out.now z a.first.depth a.first.name.now c.requires.at_in_bounds c.requires.most_levels_bound c.requires.name_len_bound is
+    (m.ensures (entry_children j a.out.now z a.first.depth a.first.name.now c.requires.at_in_bounds c.requires.most_levels_bound c.requires.name_len_bound is))
