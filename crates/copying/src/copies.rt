@@ -73,6 +73,7 @@ fn copy_row(tree: &[u8], at: usize, who: Copier, out: &mut [u8], above: usize, t
 }
 
 // Copies a node and all below it that may be read; answers the row behind the last copy. One that may not be read is skipped with all below.
+// Tree, copier and buffer go on one by one: of a struct lent as a whole, each clause would also have to say that tree and copier stay.
 #[cycle(copy_children_copy_node)]
 fn copy_node(
     tree: &[u8],

@@ -1,5 +1,4 @@
 -- `copying::copies::copy_entry` meets its contract: the entry's own row, then its children below it.
-use mathlib.Core.Path.{◌∙◌}
 use Rattle.copying.proofs.CopyEntryLaws.{entry_first, entry_children, entry_written}
 use Rattle.copying.proofs.copies.copy_entry.Goals as goal
 
@@ -16,9 +15,6 @@ copy_children-requires c =
     let a = c.args in
     let f = c.copy_first in
     entry_children c.requires.entry_job a.out.now f.new.out a.first.depth a.first.name.now c.requires.at_in_bounds c.requires.most_levels_bound c.requires.name_len_bound (f.ensures c.requires.entry_job)
-
-pub shape_of-out : goal.shape_of-out
-shape_of-out c = c.copy_children.auto.out ∙ c.copy_first.auto.out
 
 pub returns : goal.returns
 returns c = λ j.
