@@ -1,7 +1,7 @@
 // The command `co` on a tree's bytes. There are no more copies than the entry has rows with all below it: by how many these are, the
 // copies are made in an array for few, some, many, half or all of the rows of a tree.
 ghost use Rattle.std.specs.Prelude.{◌≤◌};
-ghost use Rattle.tree.specs.Layout.{few_rows, some_rows, many_rows, half_rows, most_rows};
+ghost use Rattle.tree.specs.Layout.{row_start, tree_width};
 ghost use Rattle.tree.specs.TreeBytes.{Whole, PathText, EntryPathText};
 ghost use Rattle.copying.specs.CopyRows.{subtree_rows};
 ghost use Rattle.shell.specs.CommandBytes.{FollowsSilently};
@@ -25,76 +25,38 @@ const MANY_WIDTH: usize = FIRST + ROW * MANY_ROWS;
 
 const HALF_WIDTH: usize = FIRST + ROW * HALF_ROWS;
 
-// What is left of the command behind its first checks, by an array for the copies of few rows.
-fn co_few(tree: &mut [u8], who: Copier, site: Site, entry: &[u8], to: &[u8]) -> Answer
+// What is left of the command behind its first checks, by an array of a width for the copies.
+fn co_by_array<const WIDTH: usize>(
+    tree: &mut [u8],
+    who: Copier,
+    site: Site,
+    entry: &[u8],
+    to: &[u8],
+) -> Answer
     requires checkout { Checkout who tree.old entry.now to.now site }
-    requires filed_bound { subtree_rows tree.old site.filed ≤ few_rows }
+    requires filed_in_bounds { row_start (subtree_rows tree.old site.filed) ≤ WIDTH }
+    requires width_bound { WIDTH ≤ tree_width }
     ensures { CheckedOut who tree.old entry.now to.now site result tree.new }
 {
-    let mut out = [0u8; FEW_WIDTH];
+    let mut out = [0u8; WIDTH];
     place_copies(tree, who, site, entry, to, &mut out)
 }
 
-// By one for more rows.
-fn co_some(tree: &mut [u8], who: Copier, site: Site, entry: &[u8], to: &[u8]) -> Answer
-    requires checkout { Checkout who tree.old entry.now to.now site }
-    requires filed_bound { subtree_rows tree.old site.filed ≤ some_rows }
-    ensures { CheckedOut who tree.old entry.now to.now site result tree.new }
-{
-    let mut out = [0u8; SOME_WIDTH];
-    place_copies(tree, who, site, entry, to, &mut out)
-}
-
-// By one for many rows.
-fn co_many(tree: &mut [u8], who: Copier, site: Site, entry: &[u8], to: &[u8]) -> Answer
-    requires checkout { Checkout who tree.old entry.now to.now site }
-    requires filed_bound { subtree_rows tree.old site.filed ≤ many_rows }
-    ensures { CheckedOut who tree.old entry.now to.now site result tree.new }
-{
-    let mut out = [0u8; MANY_WIDTH];
-    place_copies(tree, who, site, entry, to, &mut out)
-}
-
-// By one for half the rows of a tree.
-fn co_half(tree: &mut [u8], who: Copier, site: Site, entry: &[u8], to: &[u8]) -> Answer
-    requires checkout { Checkout who tree.old entry.now to.now site }
-    requires filed_bound { subtree_rows tree.old site.filed ≤ half_rows }
-    ensures { CheckedOut who tree.old entry.now to.now site result tree.new }
-{
-    let mut out = [0u8; HALF_WIDTH];
-    place_copies(tree, who, site, entry, to, &mut out)
-}
-
-// By one for as many rows as there is room for in a tree.
-fn co_all(tree: &mut [u8], who: Copier, site: Site, entry: &[u8], to: &[u8]) -> Answer
-    requires checkout { Checkout who tree.old entry.now to.now site }
-    requires filed_bound { subtree_rows tree.old site.filed ≤ most_rows }
-    ensures { CheckedOut who tree.old entry.now to.now site result tree.new }
-{
-    let mut out = [0u8; TREE];
-    place_copies(tree, who, site, entry, to, &mut out)
-}
-
-// By the smallest that has room for the copies of all rows of the entry.
+// By the smallest that has room for the copies of all rows of the entry: each is cleared first, and to clear one for all the rows of a
+// tree takes longer than to copy few.
 fn co_at(tree: &mut [u8], who: Copier, site: Site, entry: &[u8], to: &[u8]) -> Answer
     requires { Checkout who tree.old entry.now to.now site }
     ensures { CheckedOut who tree.old entry.now to.now site result tree.new }
 {
     let filed = site.filed;
     let n = subtree_end(tree, filed) - filed;
-    if n <= FEW_ROWS {
-        return co_few(tree, who, site, entry, to);
+    match n {
+        ..=FEW_ROWS => co_by_array::<FEW_WIDTH>(tree, who, site, entry, to),
+        ..=SOME_ROWS => co_by_array::<SOME_WIDTH>(tree, who, site, entry, to),
+        ..=MANY_ROWS => co_by_array::<MANY_WIDTH>(tree, who, site, entry, to),
+        ..=HALF_ROWS => co_by_array::<HALF_WIDTH>(tree, who, site, entry, to),
+        _ => co_by_array::<TREE>(tree, who, site, entry, to),
     }
-    if n <= SOME_ROWS {
-        return co_some(tree, who, site, entry, to);
-    }
-    if n <= MANY_ROWS {
-        return co_many(tree, who, site, entry, to);
-    }
-    if n <= HALF_ROWS {
-        return co_half(tree, who, site, entry, to);
-    }
-    co_all(tree, who, site, entry, to)
 }
 
 // `co` of a caller whose session's account is `account`: copies the entry, with all that may be read below it, to the path `to`.

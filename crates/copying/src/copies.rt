@@ -8,7 +8,7 @@ ghost use Rattle.tree.specs.TreeBytes.{HasRow};
 ghost use Rattle.copying.specs.Copying.{copy_mode};
 ghost use Rattle.copying.specs.CopyRows.{deepest, most_levels, HoldsRow, row_put, handed_row, Spelled, child_row, children, alone, Job, JobWritten, Written, EntryJob, subtree_rows, first_row, entry_rows};
 
-use crate::Copier;
+use crate::{Copier, FirstCopy};
 use accounts::{Gid, Uid};
 use buffers::{write_many, write_padded};
 use edits::{Fresh, write_head};
@@ -46,12 +46,11 @@ fn hand_over(tree: &[u8], at: usize, owner: Uid, group: Gid, out: &mut [u8], to:
 {
     copy_bytes(tree, at, out, to);
     let kind = kind_at(tree, at);
-    let mode = copy_mode(kind);
     let node = Fresh {
-        kind: kind,
-        owner: owner,
-        group: group,
-        mode: mode,
+        kind,
+        owner,
+        group,
+        mode: copy_mode(kind),
         revision: 0,
     };
     write_head(out, FIRST + ROW * to, depth, node);
@@ -68,15 +67,13 @@ fn copy_row(tree: &[u8], at: usize, who: Copier, out: &mut [u8], above: usize, t
 {
     let depth = depth_at(out, above) + 1;
     let caller = who.caller;
-    let account = caller.account;
-    let owner = account.uid;
-    let group = caller.primary;
-    hand_over(tree, at, owner, group, out, to, depth);
+    hand_over(tree, at, caller.account.uid, caller.primary, out, to, depth);
     let name = name_at(tree, at);
     set_tag_below(out, to, above, name, revision_at(tree, at));
 }
 
 // Copies a node and all below it that may be read; answers the row behind the last copy. One that may not be read is skipped with all below.
+// Tree, copier and buffer go on one by one: of a struct lent as a whole, each clause would also have to say that tree and copier stay.
 #[cycle(copy_children_copy_node)]
 fn copy_node(
     tree: &[u8],
@@ -90,8 +87,7 @@ fn copy_node(
     requires { Job alone tree.now out.old at above to (suc left) }
     ensures { JobWritten alone who tree.now out.old at above to (suc left) result out.new }
 {
-    let reader = who.reader;
-    if !readable_at(tree, at, reader) {
+    if !readable_at(tree, at, who.reader) {
         return to;
     }
     copy_row(tree, at, who, out, above, to);
@@ -118,6 +114,7 @@ fn copy_children(
     let end = subtree_end(tree, at);
     let mut i = at + 1;
     let mut next = to;
+    // a child is as many rows wide as it has below it, so this goes over no range
     while i < end {
         next = copy_node(tree, i, left - 1, who, out, above, next);
         i = subtree_end(tree, i);
@@ -126,49 +123,35 @@ fn copy_children(
 }
 
 // Writes the copy of an entry's own node as the first row, with its tag.
-fn copy_first(
-    tree: &[u8],
-    at: usize,
-    who: Copier,
-    group: Gid,
-    depth: u8,
-    name: &[u8],
-    path: &[u8],
-    out: &mut [u8],
-)
-    requires entry_job { EntryJob who tree.now at group path.now }
+fn copy_first(tree: &[u8], at: usize, who: Copier, first: FirstCopy<'_>, out: &mut [u8])
+    requires entry_job { EntryJob who tree.now at first.group first.path.now }
     requires has_row { HasRow out.old 0 }
-    requires name_len_bound { length name.now ≤ name_width }
-    ensures { (j : EntryJob who tree.now at group path.now)
-        → out.new ≡ row_put out.old 0 (first_row j depth name.now) }
+    requires name_len_bound { length first.name.now ≤ name_width }
+    ensures { (j : EntryJob who tree.now at first.entry.group first.entry.path.now)
+        → out.new ≡ row_put out.old 0 (first_row j first.entry.depth first.entry.name.now) }
 {
-    let caller = who.caller;
-    let account = caller.account;
-    let owner = account.uid;
-    hand_over(tree, at, owner, group, out, 0, depth);
-    write_padded(out, FIRST + NAME, NAME_WIDTH, name);
-    set_tag(out, 0, path, revision_at(tree, at));
+    let owner = who.caller.account.uid;
+    hand_over(tree, at, owner, first.group, out, 0, first.depth);
+    write_padded(out, FIRST + NAME, NAME_WIDTH, first.name);
+    set_tag(out, 0, first.path, revision_at(tree, at));
 }
 
-// The copies of an entry: the first with the group, the depth and the name that it is to have, tagged with the entry's path.
+// The copies of an entry; answers how many.
 pub fn copy_entry(
     tree: &[u8],
     at: usize,
     who: Copier,
-    group: Gid,
-    depth: u8,
-    name: &[u8],
-    path: &[u8],
+    first: FirstCopy<'_>,
     out: &mut [u8],
 ) -> usize
-    requires entry_job { EntryJob who tree.now at group path.now }
+    requires entry_job { EntryJob who tree.now at first.group first.path.now }
     requires at_in_bounds { row_start (subtree_rows tree.now at) ≤ length out.old }
-    requires most_levels_bound { depth + most_levels ≤ deepest }
-    requires name_len_bound { length name.now ≤ name_width }
-    ensures { (j : EntryJob who tree.now at group path.now)
-        → Written out.old 0 (entry_rows j depth name.now) result out.new }
+    requires most_levels_bound { first.depth + most_levels ≤ deepest }
+    requires name_len_bound { length first.name.now ≤ name_width }
+    ensures { (j : EntryJob who tree.now at first.entry.group first.entry.path.now)
+        → Written out.old 0 (entry_rows j first.entry.depth first.entry.name.now) result out.new }
 {
-    copy_first(tree, at, who, group, depth, name, path, out);
+    copy_first(tree, at, who, first, out);
     // a path has no more names, so there are no more levels below an entry
     copy_children(tree, at, MOST_NAMES, who, out, 0, 1)
 }

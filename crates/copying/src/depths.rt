@@ -4,7 +4,6 @@ ghost use Rattle.tree.specs.Layout.{row_start};
 ghost use Rattle.copying.specs.CopyRows.{deepest_from};
 
 use tree::depth_at;
-use walks::larger_of;
 
 // The greatest depth among the first n rows.
 pub fn deepest_copy(out: &[u8], n: usize) -> u8
@@ -12,10 +11,8 @@ pub fn deepest_copy(out: &[u8], n: usize) -> u8
     ensures { result ≡ deepest_from out.now 0 0 n }
 {
     let mut most: u8 = 0;
-    let mut i: usize = 0;
-    while i < n {
-        most = larger_of(most, depth_at(out, i));
-        i += 1;
+    for i in 0..n {
+        most = most.max(depth_at(out, i));
     }
     most
 }

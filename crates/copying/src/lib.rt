@@ -4,7 +4,7 @@
 mod copies;
 mod depths;
 
-use accounts::{Account, Caller};
+use accounts::{Account, Caller, Gid};
 pub use copies::copy_entry;
 pub use depths::deepest_copy;
 
@@ -13,4 +13,14 @@ pub use depths::deepest_copy;
 pub struct Copier {
     pub reader: Account,
     pub caller: Caller,
+}
+
+// What the copy of an entry's own node has that is not the original's: the group, the depth and the name of the place where it goes, and
+// the tag, which is the entry's path.
+#[derive(Clone, Copy)]
+pub struct FirstCopy<'a> {
+    pub group: Gid,
+    pub depth: u8,
+    pub name: &'a [u8],
+    pub path: &'a [u8],
 }

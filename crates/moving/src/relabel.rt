@@ -6,12 +6,12 @@ ghost use Rattle.moving.specs.Relabel.{shifted, depths_shifted, relabelled};
 use buffers::write_padded;
 use tree::{NAME, NAME_WIDTH, ROW};
 
-// A depth that is counted from a new one instead of an old one. Depths are bytes: with 256 added nothing falls below 0 whatever the
-// bytes are, and the remainder is a byte again. A row of a place is then as far below the new depth as it was below the old one.
+// A depth that is counted from a new one instead of an old one. Depths are bytes and wrap, whatever they are: a row of a place is
+// then as far below the new depth as it was below the old one.
 fn shift(depth: u8, old: u8, new: u8) -> u8
     ensures { result ≡ shifted old new depth }
 {
-    ((depth as u16 + 256 + new as u16 - old as u16) % 256) as u8
+    depth.wrapping_add(new).wrapping_sub(old)
 }
 
 // Counts the depths of n rows from a new one instead of an old one.
@@ -19,11 +19,8 @@ fn shift_depths(rows: &mut [u8], n: usize, old: u8, new: u8)
     requires { row_width * n ≤ length rows.old }
     ensures { rows.new ≡ depths_shifted old new 0 n rows.old }
 {
-    let mut i: usize = 0;
-    while i < n {
-        let d = shift(rows[ROW * i], old, new);
-        rows[ROW * i] = d;
-        i += 1;
+    for i in 0..n {
+        rows[ROW * i] = shift(rows[ROW * i], old, new);
     }
 }
 

@@ -3,7 +3,7 @@
 // arithmetic of its own.
 ghost use Rattle.std.specs.Prelude.{◌≡◌, ◌+◌, ◌*◌, ◌≤◌, ◌<◌, length, drop};
 ghost use Rattle.std.proofs.Math.Seq.{paste};
-ghost use Rattle.tree.specs.Layout.{row_width, row_start, most_rows, few_rows, some_rows, many_rows, half_rows};
+ghost use Rattle.tree.specs.Layout.{row_width, row_start, most_rows};
 ghost use Rattle.tree.specs.RowScan.{end_of_subtree};
 ghost use Rattle.tree.specs.Encoding.{encode_tree};
 ghost use Rattle.tree.specs.RowAt.{row_count, all_rows};
@@ -75,82 +75,30 @@ fn move_by(tree: &mut [u8], at: usize, n: usize, to: &[u8], held: &mut [u8])
     put_held(tree, to, n, held);
 }
 
-// Moves the place at a row, whose rows are n, by an array for few rows.
-fn move_few(tree: &mut [u8], at: usize, n: usize, to: &[u8])
+// Moves the place at a row, whose rows are n, by an array of a width that holds them on the way.
+fn move_by_array<const WIDTH: usize>(tree: &mut [u8], at: usize, n: usize, to: &[u8])
     requires movable { Movable tree.old at to.now }
     requires n_value { at + n ≡ end_of_subtree (all_rows tree.old) at }
-    requires n_le_few_rows { n ≤ few_rows }
+    requires n_in_bounds { row_width * n ≤ WIDTH }
+    requires width_bound { WIDTH ≤ row_width * most_rows }
     ensures { (m : Movable tree.old at to.now) → tree.new ≡ encode_tree (moved m) }
 {
-    let mut held = [0u8; FEW_WIDTH];
+    let mut held = [0u8; WIDTH];
     move_by(tree, at, n, to, &mut held);
 }
 
-// By one for more rows.
-fn move_some(tree: &mut [u8], at: usize, n: usize, to: &[u8])
-    requires movable { Movable tree.old at to.now }
-    requires n_value { at + n ≡ end_of_subtree (all_rows tree.old) at }
-    requires n_le_some_rows { n ≤ some_rows }
-    ensures { (m : Movable tree.old at to.now) → tree.new ≡ encode_tree (moved m) }
-{
-    let mut held = [0u8; SOME_WIDTH];
-    move_by(tree, at, n, to, &mut held);
-}
-
-// By one for many rows.
-fn move_many(tree: &mut [u8], at: usize, n: usize, to: &[u8])
-    requires movable { Movable tree.old at to.now }
-    requires n_value { at + n ≡ end_of_subtree (all_rows tree.old) at }
-    requires n_le_many_rows { n ≤ many_rows }
-    ensures { (m : Movable tree.old at to.now) → tree.new ≡ encode_tree (moved m) }
-{
-    let mut held = [0u8; MANY_WIDTH];
-    move_by(tree, at, n, to, &mut held);
-}
-
-// By one for half the rows of a tree.
-fn move_half(tree: &mut [u8], at: usize, n: usize, to: &[u8])
-    requires movable { Movable tree.old at to.now }
-    requires n_value { at + n ≡ end_of_subtree (all_rows tree.old) at }
-    requires n_le_half_rows { n ≤ half_rows }
-    ensures { (m : Movable tree.old at to.now) → tree.new ≡ encode_tree (moved m) }
-{
-    let mut held = [0u8; HALF_WIDTH];
-    move_by(tree, at, n, to, &mut held);
-}
-
-// By one for as many rows as there is room for in a tree.
-fn move_all(tree: &mut [u8], at: usize, n: usize, to: &[u8])
-    requires movable { Movable tree.old at to.now }
-    requires n_value { at + n ≡ end_of_subtree (all_rows tree.old) at }
-    requires n_le_most_rows { n ≤ most_rows }
-    ensures { (m : Movable tree.old at to.now) → tree.new ≡ encode_tree (moved m) }
-{
-    let mut held = [0u8; ALL_WIDTH];
-    move_by(tree, at, n, to, &mut held);
-}
-
-// Moves the place at a row with all below it to a path where nothing stands.
+// Moves the place at a row with all below it to a path where nothing stands, by the smallest array that holds its rows: each is
+// cleared first, and to clear one for all rows takes longer than to move few.
 pub fn move_place(tree: &mut [u8], at: usize, to: &[u8])
     requires { Movable tree.old at to.now }
     ensures { (m : Movable tree.old at to.now) → tree.new ≡ encode_tree (moved m) }
 {
     let n = subtree_end(tree, at) - at;
-    if n <= FEW_ROWS {
-        move_few(tree, at, n, to);
-        return;
+    match n {
+        ..=FEW_ROWS => move_by_array::<FEW_WIDTH>(tree, at, n, to),
+        ..=SOME_ROWS => move_by_array::<SOME_WIDTH>(tree, at, n, to),
+        ..=MANY_ROWS => move_by_array::<MANY_WIDTH>(tree, at, n, to),
+        ..=HALF_ROWS => move_by_array::<HALF_WIDTH>(tree, at, n, to),
+        _ => move_by_array::<ALL_WIDTH>(tree, at, n, to),
     }
-    if n <= SOME_ROWS {
-        move_some(tree, at, n, to);
-        return;
-    }
-    if n <= MANY_ROWS {
-        move_many(tree, at, n, to);
-        return;
-    }
-    if n <= HALF_ROWS {
-        move_half(tree, at, n, to);
-        return;
-    }
-    move_all(tree, at, n, to);
 }

@@ -9,7 +9,7 @@ ghost use Rattle.copying.specs.CopyRows.{subtree_rows};
 ghost use Rattle.placing.specs.Placing.{Checkout, steps_left, Prepared, CheckedOut, CopiesLaid};
 
 use crate::{Copies, Site};
-use copying::{Copier, copy_entry, deepest_copy};
+use copying::{Copier, FirstCopy, copy_entry, deepest_copy};
 use edits::put_rows;
 use gaps::{last_name, new_group};
 use shell::Answer;
@@ -31,12 +31,13 @@ fn copies_for(
         → Prepared (steps_left j) tree.now out.new site.at result }
     ensures copies_laid { CopiesLaid who tree.now entry.now to.now site out.old out.new }
 {
-    let filed = site.filed;
-    let row = site.row;
-    let depth = site.depth;
-    let caller = who.caller;
-    let group = new_group(tree, row, caller);
-    let n = copy_entry(tree, filed, who, group, depth, last_name(to), entry, out);
+    let first = FirstCopy {
+        group: new_group(tree, site.row, who.caller),
+        depth: site.depth,
+        name: last_name(to),
+        path: entry,
+    };
+    let n = copy_entry(tree, site.filed, who, first, out);
     if deepest_copy(out, n) as usize > MOST_NAMES {
         return Copies::Refused(Cause::TooDeep);
     }

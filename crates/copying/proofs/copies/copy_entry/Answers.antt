@@ -1,5 +1,4 @@
 -- `copying::copies::copy_entry` meets its contract: the entry's own row, then its children below it.
-use mathlib.Core.Path.{◌∙◌}
 use Rattle.copying.proofs.CopyEntryLaws.{entry_first, entry_children, entry_written}
 use Rattle.copying.proofs.copies.copy_entry.Goals as goal
 
@@ -15,10 +14,7 @@ pub copy_children-requires : goal.copy_children-requires
 copy_children-requires c =
     let a = c.args in
     let f = c.copy_first in
-    entry_children c.requires.entry_job a.out.now f.new.out a.depth a.name.now c.requires.at_in_bounds c.requires.most_levels_bound c.requires.name_len_bound (f.ensures c.requires.entry_job)
-
-pub shape_of-out : goal.shape_of-out
-shape_of-out c = c.copy_children.auto.out ∙ c.copy_first.auto.out
+    entry_children c.requires.entry_job a.out.now f.new.out a.first.depth a.first.name.now c.requires.at_in_bounds c.requires.most_levels_bound c.requires.name_len_bound (f.ensures c.requires.entry_job)
 
 pub returns : goal.returns
 returns c = λ j.
@@ -27,5 +23,5 @@ returns c = λ j.
     let m = c.copy_children in
     let z = f.new.out in
     let is = f.ensures j in
-    entry_written j a.out.now z a.depth a.name.now c.requires.at_in_bounds c.requires.most_levels_bound c.requires.name_len_bound is
-    (m.ensures (entry_children j a.out.now z a.depth a.name.now c.requires.at_in_bounds c.requires.most_levels_bound c.requires.name_len_bound is))
+    entry_written j a.out.now z a.first.depth a.first.name.now c.requires.at_in_bounds c.requires.most_levels_bound c.requires.name_len_bound is
+    (m.ensures (entry_children j a.out.now z a.first.depth a.first.name.now c.requires.at_in_bounds c.requires.most_levels_bound c.requires.name_len_bound is))

@@ -30,6 +30,6 @@ pub returns : goal.returns
 unfolding first_row
 returns c = λ j.
     let a = c.args in
-    first_copied a.tree.now a.at (entry_held j) a.out.now 0 c.requires.has_row a.who a.depth a.group c.hand_over.new.out c.hand_over.ensures
-    c.write_padded.new.b c.set_tag.new.tree a.name.now a.path.now c.revision_at.result j.entry c.requires.name_len_bound j.text j.valid c.revision_at.ensures c.write_padded.ensures c.set_tag.ensures
-    ∙ ap (λ (r : Row Node). row_put a.out.now 0 (tagged_row a.who a.depth a.name.now a.group j.entry r.here)) (entry_row j)
+    first_copied a.tree.now a.at (entry_held j) a.out.now 0 c.requires.has_row a.who a.first.depth a.first.group c.hand_over.new.out c.hand_over.ensures
+    c.write_padded.new.b c.set_tag.new.tree a.first.name.now a.first.path.now c.revision_at.result j.entry c.requires.name_len_bound j.text j.valid c.revision_at.ensures c.write_padded.ensures c.set_tag.ensures
+    ∙ ap (λ (r : Row Node). row_put a.out.now 0 (tagged_row a.who a.first.depth a.first.name.now a.first.group j.entry r.here)) (entry_row j)

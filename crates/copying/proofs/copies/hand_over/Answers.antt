@@ -7,5 +7,5 @@ pub returns : goal.returns
 returns c =
     let a = c.args in
     head_copied a.tree.now a.at c.requires.holds_row a.out.now a.to c.requires.has_row c.copy_bytes.new.out c.write_head.new.tree a.depth
-    (record { kind = c.kind_at-kind.result; owner = a.owner; group = a.group; mode = c.copy_mode-mode.result; revision = 0 })
-    c.kind_at-kind.ensures c.copy_mode-mode.ensures refl c.copy_bytes.ensures c.write_head.ensures
+    (record { kind = c.kind_at-kind.result; owner = a.owner; group = a.group; mode = c.copy_mode.result; revision = 0 })
+    c.kind_at-kind.ensures c.copy_mode.ensures refl c.copy_bytes.ensures c.write_head.ensures
