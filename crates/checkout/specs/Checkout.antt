@@ -1,10 +1,12 @@
 -- `co` on a tree's bytes: its steps behind the session, and what is said of the site that its first checks find.
-use Rattle.std.specs.Prelude.{◌≡◌, List, ℕ}
+use Rattle.std.specs.Prelude as code
+use Rattle.std.specs.Prelude.{◌≡◌, List, ℕ, Ok, Err}
 use Rattle.std.proofs.Math.Option.{some}
 use Rattle.buffers.specs.Text.{Text}
 use Rattle.accounts.specs.declared.Account.{Account}
 use Rattle.accounts.specs.declared.Caller.{Caller}
 use Rattle.syntax.specs.Path.{Path, EntryPath, path, entry_location}
+use Rattle.tree.specs.declared.Cause.{Cause}
 use Rattle.tree.specs.declared.Cause.TheVariants.{Access}
 use Rattle.tree.specs.Result.{Result, refused, done, ◌>>=◌, ◌>>◌, require, Outcome}
 use Rattle.tree.specs.Forest.{Place}
@@ -18,8 +20,6 @@ use Rattle.copying.specs.Copying.{copy}
 use Rattle.copying.specs.CopyRows.{read_by}
 use Rattle.placing.specs.declared.Site.{Site}
 use Rattle.placing.specs.Placing.{place_copies, Checkout, steps_left}
-use Rattle.checkout.specs.declared.Sited.{Sited}
-use Rattle.checkout.specs.declared.Sited.TheVariants.{Found, Missed}
 
 -- ---- the steps
 
@@ -59,6 +59,6 @@ pub record SiteFor (w : Copier) (t : Place Node) (e : EntryPath) (d : Path) (b :
   pub left : co_steps w t e d ≡ steps_left job
 
 -- a site that is told is one, and a refusal is that of the steps
-unfoldable pub SiteTold : Copier → Place Node → EntryPath → Path → List ℕ → Text → Text → Sited → Type 0
-SiteTold w t e d b entry to (Found s) = SiteFor w t e d b entry to s
-SiteTold w t e d b entry to (Missed why) = co_steps w t e d ≡ refused why
+unfoldable pub SiteTold : Copier → Place Node → EntryPath → Path → List ℕ → Text → Text → code.Result Site Cause → Type 0
+SiteTold w t e d b entry to (Ok s) = SiteFor w t e d b entry to s
+SiteTold w t e d b entry to (Err why) = co_steps w t e d ≡ refused why

@@ -2,7 +2,9 @@
 --
 -- In order: the account's walk (walk-refused-entry to entry-not); the parts of the command (co-no-room to co-goes-on); the site found and
 -- told (site-found to site-follows).
-use Rattle.std.specs.Prelude.{◌≡◌, List, Bool, true, false, ℕ}
+use Rattle.std.specs.Prelude.{◌≡◌, List, Bool, true, false, ℕ, Ok, Err, IsErrAnd}
+use Rattle.std.proofs.lemmas.Result.{err_from_is_err_and}
+use Rattle.std.specs.Prelude as code
 use Rattle.std.proofs.Common.{sym, ◌∙◌}
 use Rattle.std.proofs.Math.Path.{ap}
 use Rattle.std.proofs.Math.Option.{some}
@@ -12,8 +14,8 @@ use Rattle.syntax.specs.Path.{Path, EntryPath, path, entry_path, entry_location}
 use Rattle.syntax.proofs.PathLaws.{entry_reads}
 use Rattle.tree.specs.declared.Cause.{Cause}
 use Rattle.tree.specs.declared.Cause.TheVariants.{Access}
-use Rattle.tree.specs.Result.{refused, done, ◌>>◌, require}
-use Rattle.tree.proofs.ResultLaws.{bind_done, then_done, done_then, refused_then, done_bind, refused_bind, require_true, require_false}
+use Rattle.tree.specs.Result.{outcome, refused, done, ◌>>◌, require}
+use Rattle.tree.proofs.ResultLaws.{outcome_ok, outcome_err, bind_done, then_done, done_then, refused_then, done_bind, refused_bind, require_true, require_false}
 use Rattle.tree.specs.Forest.{Place, place_at}
 use Rattle.tree.specs.Node.{Node}
 use Rattle.tree.specs.Walk.{by_modes, walk, room}
@@ -21,22 +23,17 @@ use Rattle.tree.proofs.UpdateLaws.{walked_at}
 use Rattle.tree.specs.RowAt.{row_at, all_rows}
 use Rattle.tree.specs.TreeBytes.{HasRow, Encodes}
 use Rattle.tree.proofs.TreeBytesLaws.{used_row, at_used, at_here}
-use Rattle.walks.specs.declared.Walked.{Walked}
-use Rattle.walks.specs.declared.Walked.TheVariants as Walks
-use Rattle.walks.specs.RowWalk.{walk_in, outcome}
-use Rattle.walks.specs.RowWalkLaws.{outcome_refused, outcome_at}
+use Rattle.walks.specs.RowWalk.{Spot, walk_in}
 use Rattle.walks.specs.WalkBytes.{Came}
 use Rattle.walks.specs.WalkBytesLaws.{came_to, came_not, walk_to, walk_not, came_spot}
 use Rattle.gaps.specs.GapsLaws.{Standing}
 use Rattle.copying.specs.declared.Copier.{Copier}
 use Rattle.copying.specs.Copying.{copy}
 use Rattle.copying.specs.CopyRows.{read_by}
-use Rattle.shell.specs.declared.Answer.{Answer}
+use Rattle.shell.specs.Replies.{Answer}
 use Rattle.shell.specs.CommandBytes.{FollowsSilently}
 use Rattle.placing.specs.declared.Site.{Site}
 use Rattle.placing.specs.Placing.{place_copies, Checkout, checkout_copies, CheckedOut}
-use Rattle.checkout.specs.declared.Sited.{Sited}
-use Rattle.checkout.specs.declared.Sited.TheVariants.{Found, Missed}
 use Rattle.checkout.specs.Checkout.{readable_walk, entry_spot, co_steps, SiteFor, SiteTold}
 
 -- ---- one answer after the other
@@ -68,43 +65,43 @@ module _ (a : Account) (t : Place Node) (e : EntryPath) where
       walked_at t (by_modes a) (entry_location e) d (i.1 ∙ ap done q)
 
 -- what the code's walk along an entry's text tells
-module _ {b : List ℕ} {t : Place Node} (tree : Encodes b t) (a : Account) (s : Text) {e : EntryPath} (reads : entry_path s ≡ some e) {r : Walked}
+module _ {b : List ℕ} {t : Place Node} (tree : Encodes b t) (a : Account) (s : Text) {e : EntryPath} (reads : entry_path s ≡ some e) {r : code.Result Spot Cause}
     (w : outcome r ≡ walk_in a (all_rows b) s) where
   -- that it is refused
-  pub entry_told_not : {k : Cause} → r ≡ Walks.Refused k → outcome (Walks.Refused k) ≡ entry_spot a t e
+  pub entry_told_not : {k : Cause} → r ≡ Err k → entry_spot a t e ≡ refused k
   unfolding entry_spot
-  entry_told_not {k} h = rw (walk_refused_entry a t e (walk_not tree a s (entry_reads s e reads) w h), refused_bind) (outcome_refused k)
+  entry_told_not {k} h = rw (walk_refused_entry a t e (walk_not tree a s (entry_reads s e reads) w h), refused_bind)
 
-  module _ {row above : ℕ} (h : r ≡ Walks.To row above) where
-    came : Came b t (entry_location e) (walk (by_modes a) t (entry_location e)) row above
+  module _ {spot : Spot} (h : r ≡ Ok spot) where
+    came : Came b t (entry_location e) (walk (by_modes a) t (entry_location e)) spot.row spot.above
     came = walk_to tree a s (entry_reads s e reads) w h
 
     -- a row of the tree
-    pub entry_told_row : HasRow b row
+    pub entry_told_row : HasRow b spot.row
     entry_told_row = used_row (at_used came.at)
 
-    module _ {v : Bool} (read : v ≡ (by_modes a).readable (row_at b row).here) where
+    module _ {v : Bool} (read : v ≡ (by_modes a).readable (row_at b spot.row).here) where
       at_entry : (by_modes a).readable came.place.here ≡ v
       at_entry = ap (λ (x : Node). (by_modes a).readable x) (sym (at_here came.at)) ∙ sym read
 
       -- of an entry that may not be read
-      pub entry_told_shut : v ≡ false → outcome (Walks.Refused Access) ≡ entry_spot a t e
+      pub entry_told_shut : v ≡ false → entry_spot a t e ≡ refused Access
       unfolding entry_spot
-      entry_told_shut f = rw (entry_unreadable a t e came.walked (at_entry ∙ f), refused_bind) (outcome_refused Access)
+      entry_told_shut f = rw (entry_unreadable a t e came.walked (at_entry ∙ f), refused_bind)
 
       -- and of one that may
-      pub entry_told_open : v ≡ true → outcome (Walks.To row above) ≡ entry_spot a t e
+      pub entry_told_open : v ≡ true → entry_spot a t e ≡ done spot
       unfolding entry_spot
-      entry_told_open f = rw (entry_readable a t e came.walked (at_entry ∙ f), done_bind, ← came_spot came) (outcome_at row above)
+      entry_told_open f = rw (entry_readable a t e came.walked (at_entry ∙ f), done_bind, ← came_spot came)
 
-module _ {b : List ℕ} {t : Place Node} (tree : Encodes b t) (a : Account) (e : EntryPath) {r : Walked} (same : outcome r ≡ entry_spot a t e) where
+module _ {b : List ℕ} {t : Place Node} (tree : Encodes b t) (a : Account) (e : EntryPath) {r : code.Result Spot Cause} (same : outcome r ≡ entry_spot a t e) where
   -- an answer that tells a row came to the entry
-  pub entry_came : {row above : ℕ} → r ≡ Walks.To row above → Came b t (entry_location e) (readable_walk a t e) row above
+  pub entry_came : {spot : Spot} → r ≡ Ok spot → Came b t (entry_location e) (readable_walk a t e) spot.row spot.above
   unfolding entry_spot
   entry_came = came_to tree (readable_walk a t e) (entry_location e) same (readable_leads a t e)
 
   -- one that tells a refusal tells why it did not
-  pub entry_not : {k : Cause} → r ≡ Walks.Refused k → readable_walk a t e ≡ refused k
+  pub entry_not : {k : Cause} → r ≡ Err k → readable_walk a t e ≡ refused k
   unfolding entry_spot
   entry_not = came_not tree (readable_walk a t e) (entry_location e) same
 
@@ -142,22 +139,26 @@ module _ (w : Copier) (entry to : Text) {b : List ℕ} {t : Place Node} {e : Ent
 
 module _ (w : Copier) (t : Place Node) (e : EntryPath) (d : Path) (b : List ℕ) (entry to : Text) where
   -- a site is told
-  pub site_told : {s : Site} → SiteFor w t e d b entry to s → SiteTold w t e d b entry to (Found s)
+  pub site_told : {s : Site} → SiteFor w t e d b entry to s → SiteTold w t e d b entry to (Ok s)
   unfolding SiteTold
   site_told h = h
 
   -- or a refusal
-  pub site_not : {k : Cause} → co_steps w t e d ≡ refused k → SiteTold w t e d b entry to (Missed k)
+  pub site_not : {k : Cause} → co_steps w t e d ≡ refused k → SiteTold w t e d b entry to (Err k)
   unfolding SiteTold
   site_not h = h
 
-  module _ {r : Sited} (p : SiteTold w t e d b entry to r) where
+  -- passed on by `?`
+  pub site_passed : {k : Cause} {r : code.Result Site Cause} → IsErrAnd r (λ j. j ≡ k) → co_steps w t e d ≡ refused k → SiteTold w t e d b entry to r
+  site_passed {r = r} p h = let q = err_from_is_err_and r p in rw (q.1, q.2) (site_not h)
+
+  module _ {r : code.Result Site Cause} (p : SiteTold w t e d b entry to r) where
     -- what was told, then
-    pub site_of : {s : Site} → r ≡ Found s → SiteFor w t e d b entry to s
+    pub site_of : {s : Site} → r ≡ Ok s → SiteFor w t e d b entry to s
     unfolding SiteTold
     site_of q = rw q at p
 
-    pub missed_of : {k : Cause} → r ≡ Missed k → co_steps w t e d ≡ refused k
+    pub missed_of : {k : Cause} → r ≡ Err k → co_steps w t e d ≡ refused k
     unfolding SiteTold
     missed_of q = rw q at p
 

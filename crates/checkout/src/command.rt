@@ -8,7 +8,6 @@ ghost use Rattle.shell.specs.CommandBytes.{FollowsSilently};
 ghost use Rattle.placing.specs.Placing.{Checkout, CheckedOut};
 ghost use Rattle.checkout.specs.Checkout.{copier, co_steps, WhicheverCopy};
 
-use crate::Sited;
 use crate::decision::find_site;
 use accounts::{Account, Caller};
 use copying::Copier;
@@ -71,8 +70,6 @@ pub fn co(tree: &mut [u8], caller: Caller, account: Account, entry: &[u8], to: &
         reader: account,
         caller,
     };
-    match find_site(tree, who, entry, to) {
-        Sited::Found(site) => co_at(tree, who, site, entry, to),
-        Sited::Missed(cause) => Answer::Refused(cause),
-    }
+    let site = find_site(tree, who, entry, to)?;
+    co_at(tree, who, site, entry, to)
 }

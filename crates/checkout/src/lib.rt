@@ -5,12 +5,3 @@ mod command;
 mod decision;
 
 pub use command::co;
-use placing::Site;
-use tree::Cause;
-
-// A site, or why there is none.
-#[derive(Clone, Copy)]
-enum Sited {
-    Found(Site),
-    Missed(Cause),
-}

@@ -33,7 +33,7 @@ use Rattle.copying.proofs.CopyEntryLaws.{entry_job, entry_job_rows, entry_within
 use Rattle.copying.proofs.RowsWrittenLaws.{written_as, written_width, written_pieces}
 use Rattle.copying.proofs.DepthLaws.{deepest_of_place}
 use Rattle.placing.specs.declared.Site.{Site}
-use Rattle.placing.specs.declared.Copies.TheVariants as answers
+use Rattle.std.specs.Prelude.{Ok, Err}
 use Rattle.placing.specs.Placing.{Checkout, checkout_copies, copies_over, steps_left, Prepared}
 use Rattle.placing.proofs.PlacingLaws.{place_too_deep, place_too_many, place_done, prepared_ready, prepared_not}
 
@@ -111,7 +111,7 @@ module _ {w : Copier} {b : List ℕ} {entry to : Text} {site : Site} (j : Checko
         depth_is = is ∙ deepest_of_place site.depth (last j.target) copies copies_written (omega arith) ∙ omega (arith, j.stands.level)
 
         -- the deepest lies too deep
-        pub copies_too_deep : 6 < m → Prepared (steps_left j) b z site.at (answers.Refused TooDeep)
+        pub copies_too_deep : 6 < m → Prepared (steps_left j) b z site.at (Err TooDeep)
         copies_too_deep h = prepared_not b z site.at (place_too_deep w.caller j.top j.target copies (omega (arith, h, depth_is)))
 
         module _ (low : m ≤ 6) (c : ℕ) (counts : c ≡ row_count b) where
@@ -122,7 +122,7 @@ module _ {w : Copier} {b : List ℕ} {entry to : Text} {site : Site} (j : Checko
           count_is = omega (arith, counts, encoded_count j.found.tree, copies_count)
 
           -- there are too many
-          pub copies_too_many : 256 < c + n → Prepared (steps_left j) b z site.at (answers.Refused Full)
+          pub copies_too_many : 256 < c + n → Prepared (steps_left j) b z site.at (Err Full)
           copies_too_many h = prepared_not b z site.at (place_too_many w.caller j.top j.target copies low_enough (omega (arith, h, count_is)))
 
           -- behind the first two bytes stand their rows, and put in they make the tree with them
@@ -141,7 +141,7 @@ module _ {w : Copier} {b : List ℕ} {entry to : Text} {site : Site} (j : Checko
               ∙ rows_law s.above (last d) copies s.roomed.free (rw (← level) width) (omega (arith, count_is, h)) D
 
           -- so they are ready
-          pub copies_ready : c + n ≤ 256 → length z ≡ length o → Prepared (steps_left j) b z site.at (answers.Ready n)
+          pub copies_ready : c + n ≤ 256 → length z ≡ length o → Prepared (steps_left j) b z site.at (Ok n)
           copies_ready h v = prepared_ready b z site.at (record {
             insertable = stands_insertable j.stands n (omega (arith, counts, encoded_count j.found.tree, h));
             room = copies_fit v;

@@ -1,7 +1,8 @@
 -- The copies judged and put in, as the code's answers tell it.
 --
 -- In order: the steps (place-too-deep to place-done); copies that are ready (prepared-ready to ready-follows).
-use Rattle.std.specs.Prelude.{◌≡◌, List}
+use Rattle.std.specs.Prelude.{◌≡◌, List, Ok, Err, None}
+use Rattle.std.specs.Prelude as code
 use Rattle.std.proofs.Common.{◌∙◌, arith}
 use Rattle.std.proofs.Math.Option.{none}
 use Prim.Native.Nat.{ℕ, suc, ◌+◌, ◌≤◌, ◌<◌}
@@ -18,12 +19,9 @@ use Rattle.tree.specs.Node.{Node}
 use Rattle.tree.specs.WellFormed.{nodes}
 use Rattle.tree.proofs.WellFormedLaws.{most_nodes_is}
 use Rattle.edits.specs.Changes.{rows_put}
-use Rattle.shell.specs.declared.Answer.TheVariants.{Done}
 use Rattle.shell.specs.Steps.{fit}
 use Rattle.shell.specs.CommandBytes.{FollowsSilently}
 use Rattle.shell.proofs.CommandBytesLaws.{silence_follows}
-use Rattle.placing.specs.declared.Copies.{Copies}
-use Rattle.placing.specs.declared.Copies.TheVariants as answers
 use Rattle.placing.specs.Placing.{place_copies, ReadyFor, Prepared}
 
 -- ---- the copies judged
@@ -53,26 +51,26 @@ module _ (c : Caller) (t : Place Node) (d : Path) (x : Place Node) where
 
 module _ {steps : Result (Outcome (Place Node))} (b z : List ℕ) (at : ℕ) where
   -- copies are answered
-  pub prepared_ready : {n : ℕ} → ReadyFor steps b z at n → Prepared steps b z at (answers.Ready n)
+  pub prepared_ready : {n : ℕ} → ReadyFor steps b z at n → Prepared steps b z at (Ok n)
   unfolding Prepared
   prepared_ready h = h
 
   -- or a refusal
-  pub prepared_not : {k : Cause} → steps ≡ refused k → Prepared steps b z at (answers.Refused k)
+  pub prepared_not : {k : Cause} → steps ≡ refused k → Prepared steps b z at (Err k)
   unfolding Prepared
   prepared_not h = h
 
-  module _ {r : Copies} (p : Prepared steps b z at r) where
+  module _ {r : code.Result ℕ Cause} (p : Prepared steps b z at r) where
     -- what was answered, then
-    pub ready_of : {n : ℕ} → r ≡ answers.Ready n → ReadyFor steps b z at n
+    pub ready_of : {n : ℕ} → r ≡ Ok n → ReadyFor steps b z at n
     unfolding Prepared
     ready_of e = rw e at p
 
-    pub refused_of : {k : Cause} → r ≡ answers.Refused k → steps ≡ refused k
+    pub refused_of : {k : Cause} → r ≡ Err k → steps ≡ refused k
     unfolding Prepared
     refused_of e = rw e at p
 
 -- copies that are ready, put in, follow the steps
 pub ready_follows : {steps : Result (Outcome (Place Node))} {b z : List ℕ} {at n : ℕ} (b' : List ℕ) → ReadyFor steps b z at n → b' ≡ rows_put b at n (L.drop 2 z)
-    → FollowsSilently steps b Done b'
+    → FollowsSilently steps b (Ok None) b'
 ready_follows {b = b} b' h e = silence_follows b b' h.come (e ∙ h.make)

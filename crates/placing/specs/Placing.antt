@@ -1,5 +1,6 @@
 -- The copies of an entry put in at a site: the steps, what is known when the copies are made, and what is said of them.
-use Rattle.std.specs.Prelude.{◌≡◌, List, ℕ, suc, ◌+◌, ◌≤◌, leb}
+use Rattle.std.specs.Prelude as code
+use Rattle.std.specs.Prelude.{◌≡◌, List, ℕ, suc, ◌+◌, ◌≤◌, leb, Ok, Err}
 use Rattle.std.proofs.Math.Option.{none, some}
 use Rattle.std.proofs.Math.ListN as L
 use Rattle.buffers.specs.Text.{Text}
@@ -7,6 +8,7 @@ use Rattle.buffers.specs.Fields.{all_bytes}
 use Rattle.buffers.specs.Over.{over}
 use Rattle.accounts.specs.declared.Caller.{Caller}
 use Rattle.syntax.specs.Path.{Path, EntryPath, parent, last, depth, path, entry_path, entry_location, most_names}
+use Rattle.tree.specs.declared.Cause.{Cause}
 use Rattle.tree.specs.declared.Cause.TheVariants.{Full, TooDeep}
 use Rattle.tree.specs.Result.{Result, refused, done, ◌>>◌, require, Outcome}
 use Rattle.tree.specs.Layout.{row_start}
@@ -20,12 +22,10 @@ use Rattle.gaps.specs.GapsLaws.{Standing}
 use Rattle.copying.specs.declared.Copier.{Copier}
 use Rattle.copying.specs.Copying.{copy}
 use Rattle.copying.specs.CopyRows.{read_by}
-use Rattle.shell.specs.declared.Answer.{Answer}
+use Rattle.shell.specs.Replies.{Answer}
 use Rattle.shell.specs.Steps.{fit}
 use Rattle.shell.specs.CommandBytes.{FollowsSilently}
 use Rattle.placing.specs.declared.Site.{Site}
-use Rattle.placing.specs.declared.Copies.{Copies}
-use Rattle.placing.specs.declared.Copies.TheVariants.{Ready, Refused}
 
 -- ---- the steps
 
@@ -78,6 +78,6 @@ pub record ReadyFor (steps : Result (Outcome (Place Node))) (b z : List ℕ) (at
   pub make : rows_put b at n (L.drop 2 z) ≡ encode_tree tree
 
 -- copies answered as ready are such rows, and a refusal is that of the steps
-unfoldable pub Prepared : Result (Outcome (Place Node)) → List ℕ → List ℕ → ℕ → Copies → Type 0
-Prepared steps b z at (Ready n) = ReadyFor steps b z at n
-Prepared steps b z at (Refused why) = steps ≡ refused why
+unfoldable pub Prepared : Result (Outcome (Place Node)) → List ℕ → List ℕ → ℕ → code.Result ℕ Cause → Type 0
+Prepared steps b z at (Ok n) = ReadyFor steps b z at n
+Prepared steps b z at (Err why) = steps ≡ refused why

@@ -4,21 +4,13 @@
 mod placement;
 
 pub use placement::place_copies;
-use tree::Cause;
 
 // What is copied and where to: the row of the entry, and the gap for its copies, by the row of their directory, the row before which they
 // go in, and their depth.
-#[derive(Clone, Copy)]
+#[derive(Clone, Copy, PartialEq, Eq, Debug)]
 pub struct Site {
     pub filed: usize,
     pub row: usize,
     pub at: usize,
     pub depth: u8,
-}
-
-// How many copies are ready in a buffer, or why none are made.
-#[derive(Clone, Copy)]
-enum Copies {
-    Ready(usize),
-    Refused(Cause),
 }

@@ -8,7 +8,7 @@ ghost use Rattle.edits.specs.Changes.{rows_put};
 ghost use Rattle.copying.specs.CopyRows.{subtree_rows};
 ghost use Rattle.placing.specs.Placing.{Checkout, steps_left, Prepared, CheckedOut, CopiesLaid};
 
-use crate::{Copies, Site};
+use crate::Site;
 use copying::{Copier, FirstCopy, copy_entry, deepest_copy};
 use edits::put_rows;
 use gaps::{last_name, new_group};
@@ -16,7 +16,7 @@ use shell::Answer;
 use syntax::MOST_NAMES;
 use tree::{Cause, FIRST, MOST_ROWS, count};
 
-// Makes the copies in a buffer: too deep 19, then too many 10.
+// Makes the copies in a buffer, and tells how many: too deep 19, then too many 10.
 fn copies_for(
     tree: &[u8],
     who: Copier,
@@ -24,7 +24,7 @@ fn copies_for(
     entry: &[u8],
     to: &[u8],
     out: &mut [u8],
-) -> Copies
+) -> Result<usize, Cause>
     requires checkout { Checkout who tree.now entry.now to.now site }
     requires filed_in_bounds { row_start (subtree_rows tree.now site.filed) ≤ length out.old }
     ensures prepared { (j : Checkout who tree.now entry.now to.now site)
@@ -39,12 +39,12 @@ fn copies_for(
     };
     let n = copy_entry(tree, site.filed, who, first, out);
     if deepest_copy(out, n) as usize > MOST_NAMES {
-        return Copies::Refused(Cause::TooDeep);
+        return Err(Cause::TooDeep);
     }
     if count(tree) + n > MOST_ROWS {
-        return Copies::Refused(Cause::Full);
+        return Err(Cause::Full);
     }
-    Copies::Ready(n)
+    Ok(n)
 }
 
 // Puts the n rows that stand behind the first two bytes of a buffer in before the row at an index.
@@ -70,12 +70,7 @@ pub fn place_copies(
     ensures checked_out { CheckedOut who tree.old entry.now to.now site result tree.new }
     ensures copies_laid { CopiesLaid who tree.old entry.now to.now site out.old out.new }
 {
-    match copies_for(tree, who, site, entry, to, out) {
-        Copies::Ready(n) => {
-            let at = site.at;
-            put_copies(tree, at, n, out);
-            Answer::Done
-        }
-        Copies::Refused(cause) => Answer::Refused(cause),
-    }
+    let n = copies_for(tree, who, site, entry, to, out)?;
+    put_copies(tree, site.at, n, out);
+    Ok(None)
 }
