@@ -13,7 +13,7 @@ use Rattle.tree.specs.Forest.{Place}
 use Rattle.tree.specs.Node.{Node}
 use Rattle.tree.specs.Walk.{by_modes, walk, room}
 use Rattle.tree.specs.TreeBytes.{WhicheverEntry}
-use Rattle.walks.specs.RowWalk.{Spot}
+use Rattle.walks.specs.declared.Spot.{Spot}
 use Rattle.walks.specs.WalkBytes.{spot_of}
 use Rattle.copying.specs.declared.Copier.{Copier}
 use Rattle.copying.specs.Copying.{copy}

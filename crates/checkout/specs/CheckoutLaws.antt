@@ -15,7 +15,7 @@ use Rattle.syntax.proofs.PathLaws.{entry_reads}
 use Rattle.tree.specs.declared.Cause.{Cause}
 use Rattle.tree.specs.declared.Cause.TheVariants.{Access}
 use Rattle.tree.specs.Result.{outcome, refused, done, ◌>>◌, require}
-use Rattle.tree.proofs.ResultLaws.{outcome_ok, outcome_err, bind_done, then_done, done_then, refused_then, done_bind, refused_bind, require_true, require_false}
+use Rattle.tree.proofs.ResultLaws.{bind_done, then_done, done_then, refused_then, done_bind, refused_bind, require_true, require_false}
 use Rattle.tree.specs.Forest.{Place, place_at}
 use Rattle.tree.specs.Node.{Node}
 use Rattle.tree.specs.Walk.{by_modes, walk, room}
@@ -23,7 +23,8 @@ use Rattle.tree.proofs.UpdateLaws.{walked_at}
 use Rattle.tree.specs.RowAt.{row_at, all_rows}
 use Rattle.tree.specs.TreeBytes.{HasRow, Encodes}
 use Rattle.tree.proofs.TreeBytesLaws.{used_row, at_used, at_here}
-use Rattle.walks.specs.RowWalk.{Spot, walk_in}
+use Rattle.walks.specs.declared.Spot.{Spot}
+use Rattle.walks.specs.RowWalk.{walk_in}
 use Rattle.walks.specs.WalkBytes.{Came}
 use Rattle.walks.specs.WalkBytesLaws.{came_to, came_not, walk_to, walk_not, came_spot}
 use Rattle.gaps.specs.GapsLaws.{Standing}
@@ -149,8 +150,8 @@ module _ (w : Copier) (t : Place Node) (e : EntryPath) (d : Path) (b : List ℕ)
   site_not h = h
 
   -- passed on by `?`
-  pub site_passed : {k : Cause} {r : code.Result Site Cause} → IsErrAnd r (λ j. j ≡ k) → co_steps w t e d ≡ refused k → SiteTold w t e d b entry to r
-  site_passed {r = r} p h = let q = err_from_is_err_and r p in rw (q.1, q.2) (site_not h)
+  pub site_passed : {k : Cause} (r : code.Result Site Cause) → IsErrAnd r (λ j. j ≡ k) → co_steps w t e d ≡ refused k → SiteTold w t e d b entry to r
+  site_passed r p h = let q = err_from_is_err_and r p in rw (q.1, q.2) (site_not h)
 
   module _ {r : code.Result Site Cause} (p : SiteTold w t e d b entry to r) where
     -- what was told, then

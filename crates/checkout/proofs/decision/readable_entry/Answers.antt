@@ -21,10 +21,10 @@ pub returns-then-not-readable_at : goal.returns-then-not-readable_at
 returns-then-not-readable_at c t e tree reads =
     let v = c.readable_at.ensures in
     outcome_err _
-    ∙ sym (entry_told_shut tree c.args.account c.args.entry.now reads c.in_ok-spot.ensures refl v (sym v ∙ answers_false v c.if-not-readable_at.true-raw))
+    ∙ sym (entry_told_shut tree c.args.account c.args.entry.now reads c.in_ok-spot.ensures refl v (v ∙ answers_false v c.if-not-readable_at.true-raw))
 
 pub returns : goal.returns
 returns c t e tree reads =
     let v = c.readable_at.ensures in
     outcome_ok _
-    ∙ sym (entry_told_open tree c.args.account c.args.entry.now reads c.in_ok-spot.ensures refl v (sym v ∙ answers_true v c.if-not-readable_at.false-raw))
+    ∙ sym (entry_told_open tree c.args.account c.args.entry.now reads c.in_ok-spot.ensures refl v (v ∙ answers_true v c.if-not-readable_at.false-raw))
