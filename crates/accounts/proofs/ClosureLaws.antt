@@ -14,7 +14,7 @@ use Rattle.std.proofs.Math.Pow.{pow-lt}
 use Rattle.buffers.specs.Cases.{case, and_both}
 use Rattle.accounts.specs.declared.Role.{Role}
 use Rattle.accounts.specs.declared.Pair.{Pair}
-use Rattle.accounts.specs.declared.Session.TheVariants.{As}
+use Rattle.accounts.specs.Session.{as_role}
 use Rattle.accounts.specs.Groups.{same_gid, member, no_groups, with_group}
 use Rattle.accounts.proofs.GroupsLaws.{member_with}
 use Rattle.accounts.specs.Dominance.{BoundedRole, Listed, first, later, Dominates, self, down, same_role, juniors, any_role, chain, dominates, Falling, falls, all_fall}
@@ -281,6 +281,6 @@ grown_rows_are ps p h e = case (ltb p.junior.0 8)
     sym (none_grown p (rows_of ps) (unfold rows_from in refl) l) ∙ rows_beyond ps p h e l 0 8)
 
 -- a session dominates what its role dominates
-pub session_as : (rows : List ℕ) (s r : Role) → session_dominates (As s) rows r ≡ row_dominates rows s r
+pub session_as : (rows : List ℕ) (s r : Role) → session_dominates (as_role s) rows r ≡ row_dominates rows s r
 unfolding session_dominates
 session_as rows s r = refl

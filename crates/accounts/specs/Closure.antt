@@ -2,12 +2,11 @@
 --
 -- `rows_of` are the rows of a list of pairs. `ClosureLaws` says that one pair more grows them so (`grown_rows_are`), and that a
 -- row tells dominance (`row_dominates_is`) and the service account (`row_account_is`).
-use Rattle.std.specs.Prelude.{List, [], ◌∷◌, map, Bool, false, cond, ℕ, zero, suc, ◌+◌, ◌*◌, ◌/◌, ◌%◌, ◌^◌, eqb, get_or}
+use Rattle.std.specs.Prelude.{List, [], ◌∷◌, map, Bool, false, cond, ℕ, zero, suc, ◌+◌, ◌*◌, ◌/◌, ◌%◌, ◌^◌, eqb, get_or, Some, None}
 use Rattle.std.specs.Int.Bits.{bit_or}
 use Rattle.accounts.specs.declared.Role.{Role}
 use Rattle.accounts.specs.declared.Pair.{Pair}
 use Rattle.accounts.specs.declared.Session.{Session}
-use Rattle.accounts.specs.declared.Session.TheVariants.{Nobody, As}
 use Rattle.accounts.specs.declared.Account.{Account}
 use Rattle.accounts.specs.Dominance.{dominates}
 use Rattle.accounts.specs.Service.{service_uid}
@@ -47,5 +46,7 @@ unfoldable pub row_account : List ℕ → Role → Account
 row_account rows z = record { uid = service_uid z; groups = record { 0 = 16777216 + 65536 * get_or rows z.0 0 } }
 
 unfoldable pub session_dominates : Session → List ℕ → Role → Bool
-session_dominates Nobody rows r = false
-session_dominates (As z) rows r = row_dominates rows z r
+session_dominates s rows r = elim s.0 [
+  | None ↦ false
+  | Some z ↦ row_dominates rows z r
+]

@@ -3,6 +3,7 @@ pub mod Access
 pub mod Caller
 pub mod Dominance
 pub mod Service
+pub mod Session
 pub mod Closure
 pub mod PairBytes
 pub mod Compute

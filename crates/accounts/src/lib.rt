@@ -1,50 +1,51 @@
 // Accounts, groups and roles: numbers that name separate things even when they are equal.
 #![tactic(auto)]
 
-ghost use Rattle.std.specs.Prelude.{◌≡◌, true, false, ◌<◌, ◌^◌};
+ghost use Rattle.std.specs.Prelude.{◌≡◌, true, false, ◌<◌};
 ghost use Rattle.accounts.specs.Groups.{member, no_groups, with_group};
 ghost use Rattle.accounts.specs.Access.{is_root, same_uid, grants, may};
+ghost use Rattle.accounts.specs.Session.{nobody, as_role};
 ghost use Rattle.accounts.specs.Closure.{has_role, own_rows, grown_row, grown_rows, row_dominates, row_account, session_dominates};
 
 // An account: root is 0, persons are 1 to 15, the service account of role r is 16 + r.
-#[derive(Clone, Copy)]
+#[derive(Clone, Copy, PartialEq, Eq, Debug)]
 pub struct Uid(pub u8);
 
 // A group: root's is 0, persons' are 1 to 15, the service group of role r is 16 + r, and 24 holds all service accounts.
-#[derive(Clone, Copy)]
+#[derive(Clone, Copy, PartialEq, Eq, Debug)]
 pub struct Gid(pub u8);
 
 // A role, 0 to 7.
-#[derive(Clone, Copy)]
+#[derive(Clone, Copy, PartialEq, Eq, Debug)]
 pub struct Role(pub u8);
 
 // A set of groups: bit g is set where group g is a member.
-#[derive(Clone, Copy)]
+#[derive(Clone, Copy, PartialEq, Eq, Debug)]
 pub struct Groups(pub u32);
 
 // An account with the groups it is in.
-#[derive(Clone, Copy)]
+#[derive(Clone, Copy, PartialEq, Eq, Debug)]
 pub struct Account {
     pub uid: Uid,
     pub groups: Groups,
 }
 
 // Who calls: an account with its primary group, which is among the account's groups.
-#[derive(Clone, Copy)]
+#[derive(Clone, Copy, PartialEq, Eq, Debug)]
 pub struct Caller {
     pub account: Account,
     pub primary: Gid,
 }
 
 // `r,senior,junior` of the setup: the senior role dominates the junior.
-#[derive(Clone, Copy)]
+#[derive(Clone, Copy, PartialEq, Eq, Debug)]
 pub struct Pair {
     pub senior: Role,
     pub junior: Role,
 }
 
 // What an access test asks for: reading, writing, or search of a directory (x).
-#[derive(Clone, Copy)]
+#[derive(Clone, Copy, PartialEq, Eq, Debug)]
 pub enum Right {
     R,
     W,
@@ -52,32 +53,14 @@ pub enum Right {
 }
 
 // Which roles dominate which: bit r of row s is set where role s dominates role r.
-#[derive(Clone, Copy)]
+#[derive(Clone, Copy, PartialEq, Eq, Debug)]
 pub struct Dominance {
     pub rows: [u8; 8],
 }
 
 // One role or none for an account.
-#[derive(Clone, Copy)]
-pub enum Session {
-    Nobody,
-    As(Role),
-}
-
-const BITS: [u32; 32] = [
-    1, 2, 4, 8, 16, 32, 64, 128, 256, 512, 1024, 2048, 4096, 8192, 16384, 32768, 65536, 131072,
-    262144, 524288, 1048576, 2097152, 4194304, 8388608, 16777216, 33554432, 67108864, 134217728,
-    268435456, 536870912, 1073741824, 2147483648,
-];
-
-// The number whose one bit is that of the group.
-fn bit(g: Gid) -> u32
-    requires { g.0 < 32 }
-    ensures { result ≡ 2 ^ g.0 }
-{
-    let k = g.0 as usize;
-    BITS[k]
-}
+#[derive(Clone, Copy, PartialEq, Eq, Debug)]
+pub struct Session(pub Option<Role>);
 
 impl Groups {
     // The empty set.
@@ -92,7 +75,7 @@ impl Groups {
         requires { g.0 < 32 }
         ensures { result ≡ with_group g self }
     {
-        Groups(self.0 | bit(g))
+        Groups(self.0 | 1 << g.0)
     }
 
     // Whether a group is in the set; none from 32 on is.
@@ -118,7 +101,7 @@ impl Uid {
     pub fn is(self, other: Uid) -> bool
         ensures { result ≡ same_uid self other }
     {
-        self.0 == other.0
+        self == other
     }
 }
 
@@ -141,37 +124,24 @@ impl Account {
     pub fn may(self, right: Right, owner: Uid, group: Gid, mode: u16) -> bool
         ensures { result ≡ may self right owner group mode }
     {
-        let uid = self.uid;
-        let groups = self.groups;
-        if uid.0 == 0 {
+        if self.uid.is_root() {
             return true;
         }
-        if uid.0 == owner.0 {
+        if self.uid == owner {
             return right.in_digit(mode / 64 % 8);
         }
-        if groups.has(group) {
+        if self.groups.has(group) {
             return right.in_digit(mode / 8 % 8);
         }
         right.in_digit(mode % 8)
     }
 }
 
-// A row as a number of 32 bits.
-fn wide(row: u8) -> u32
-    ensures { (result ≡ row) × (result < 256) }
-{
-    row as u32
-}
-
 // Whether a row has a role's bit; none from 8 on has.
 fn has_role(row: u8, role: Role) -> bool
     ensures { result ≡ has_role row role }
 {
-    let k = role.0;
-    if 8 <= k {
-        return false;
-    }
-    row as u32 / bit(Gid(k)) % 2 == 1
+    role.0 < 8 && (row >> role.0) % 2 == 1
 }
 
 // A row that has the senior takes what the junior's row has.
@@ -198,18 +168,12 @@ impl Dominance {
     pub fn with(self, pair: Pair) -> Self
         ensures { result.rows ≡ grown_rows pair self.rows }
     {
-        let senior = pair.senior;
-        let junior = pair.junior;
-        let j = junior.0 as usize;
-        if 8 <= j {
+        let Some(&add) = self.rows.get(pair.junior.0 as usize) else {
             return self;
-        }
+        };
         let mut rows = self.rows;
-        let add = rows[j];
-        let mut i = 0;
-        while i < 8 {
-            rows[i] = grown_row(rows[i], senior, add);
-            i += 1;
+        for row in &mut rows {
+            *row = grown_row(*row, pair.senior, add);
         }
         Dominance { rows }
     }
@@ -218,12 +182,10 @@ impl Dominance {
     pub fn dominates(self, s: Role, r: Role) -> bool
         ensures { result ≡ row_dominates self.rows s r }
     {
-        let k = s.0 as usize;
-        if 8 <= k {
-            return false;
+        match self.rows.get(s.0 as usize) {
+            Some(&row) => has_role(row, r),
+            None => false,
         }
-        let rows = self.rows;
-        has_role(rows[k], r)
     }
 
     // The service account of a role: 16 + z, in group 24 and in the groups of the roles that z dominates.
@@ -231,11 +193,10 @@ impl Dominance {
         requires { z.0 < 8 }
         ensures { result ≡ row_account self.rows z }
     {
-        let k = z.0 as usize;
-        let rows = self.rows;
+        let row = self.rows[z.0 as usize];
         Account {
             uid: Uid(16 + z.0),
-            groups: Groups(16777216 + 65536 * wide(rows[k])),
+            groups: Groups(16777216 + 65536 * u32::from(row)),
         }
     }
 }
@@ -243,25 +204,25 @@ impl Dominance {
 impl Session {
     // A new role replaces the session.
     pub fn log_in(self, role: Role) -> Self
-        ensures { result ≡ Session.As role }
+        ensures { result ≡ as_role role }
     {
-        Session::As(role)
+        Session(Some(role))
     }
 
     // The session becomes none.
     pub fn log_out(self) -> Self
-        ensures { result ≡ Session.Nobody }
+        ensures { result ≡ nobody }
     {
-        Session::Nobody
+        Session(None)
     }
 
     // Whether the session's role dominates a role; without a session none is dominated.
     pub fn dominates(self, d: Dominance, role: Role) -> bool
         ensures { result ≡ session_dominates self d.rows role }
     {
-        match self {
-            Session::Nobody => false,
-            Session::As(z) => d.dominates(z, role),
+        match self.0 {
+            Some(own) => d.dominates(own, role),
+            None => false,
         }
     }
 }

@@ -10,7 +10,7 @@ ghost use Rattle.copying.specs.CopyRows.{deepest, most_levels, HoldsRow, row_put
 
 use crate::{Copier, FirstCopy};
 use accounts::{Gid, Uid};
-use buffers::{write_many, write_padded};
+use buffers::{write, write_padded};
 use edits::{Fresh, write_head};
 use node_fields::{set_tag, set_tag_below};
 use syntax::MOST_NAMES;
@@ -35,7 +35,7 @@ fn copy_bytes(tree: &[u8], at: usize, out: &mut [u8], to: usize)
     requires has_row { HasRow out.old to }
     ensures { out.new ≡ row_put out.old to (row_at tree.now at) }
 {
-    write_many(out, FIRST + ROW * to, &tree[FIRST + ROW * at..], ROW);
+    write(out, FIRST + ROW * to, &tree[FIRST + ROW * at..], ROW);
 }
 
 // Writes the row at `at` as row `to`, at another depth and with its node handed over. The tag is still the original's: each copy gets one of its own.

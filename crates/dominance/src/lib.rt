@@ -16,10 +16,8 @@ pub fn closed(pairs: &[Pair]) -> Dominance
     ensures { result.rows ≡ rows_of pairs.now }
 {
     let mut dominance = Dominance::own();
-    let mut i = 0;
-    while i < pairs.len() {
-        dominance = dominance.with(pairs[i]);
-        i += 1;
+    for pair in pairs {
+        dominance = dominance.with(*pair);
     }
     dominance
 }
@@ -34,18 +32,16 @@ fn pairs_in(bytes: &[u8], n: usize) -> [Pair; 28]
         senior: Role(0),
         junior: Role(0),
     }; 28];
-    let mut k: usize = 0;
-    while k < n {
+    for k in 0..n {
         all[k] = Pair {
             senior: Role(bytes[2 * k]),
             junior: Role(bytes[2 * k + 1]),
         };
-        k += 1;
     }
     all
 }
 
-// Dominance closed from the first n pairs that bytes say. Callers hold no slice of structs, so their proofs need no walk.
+// Dominance closed from the first n pairs that bytes say: the header holds the setup's pairs as bytes.
 pub fn closed_bytes(bytes: &[u8], n: usize) -> Dominance
     requires n_bound { n ≤ 28 }
     requires n_in_bounds { 2 * n ≤ length bytes.now }

@@ -7,7 +7,7 @@ use Rattle.accounts.specs.declared.Caller.{Caller}
 use Rattle.accounts.specs.declared.Uid.{Uid}
 use Rattle.accounts.specs.declared.Role.{Role}
 use Rattle.accounts.specs.declared.Session.{Session}
-use Rattle.accounts.specs.declared.Session.TheVariants.{Nobody as HasNoSession, As as SessionAs}
+use Rattle.accounts.specs.Session.{nobody, as_role}
 use Rattle.accounts.specs.Access.{same_uid}
 use Rattle.accounts.specs.Dominance.{BoundedRole, same_role}
 use Rattle.syntax.specs.Path.{Path, is_path, path_text}
@@ -45,8 +45,8 @@ known Nobody = refused UnknownCaller
 
 -- the code's session that holds one role or none
 unfoldable pub session_held : Option BoundedRole → Session
-session_held none = HasNoSession
-session_held (some z) = SessionAs z.role
+session_held none = nobody
+session_held (some z) = as_role z.role
 
 -- a session without a role, or with one of 0 to 7
 abbrev pub BoundedSession : Session → Type 0

@@ -18,10 +18,7 @@ pub fn session_of(header: &[u8], uid: Uid) -> Session
     ensures { Whose header.now (λ u z. result ≡ session_held (get_or z.sessions uid.0 none)) }
 {
     let b = header[SESSIONS + uid.0 as usize];
-    if b == 0 {
-        return Session::Nobody;
-    }
-    Session::As(Role(b - 1))
+    Session(b.checked_sub(1).map(Role))
 }
 
 // The byte of a session: role + 1, or 0 for none.
@@ -29,9 +26,9 @@ fn byte_of(session: Session) -> u8
     requires { BoundedSession session }
     ensures { (o : Option BoundedRole) → session ≡ session_held o → result ≡ session_byte o }
 {
-    match session {
-        Session::Nobody => 0,
-        Session::As(role) => role.0 + 1,
+    match session.0 {
+        None => 0,
+        Some(role) => role.0 + 1,
     }
 }
 

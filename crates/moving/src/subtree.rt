@@ -13,7 +13,7 @@ ghost use Rattle.moving.specs.Moving.{Vacant, relabelled_for, filled, Movable, m
 
 use crate::relabel::relabel;
 use accounts::{Account, Groups, Uid};
-use buffers::write_many;
+use buffers::write;
 use edits::{put_rows, take_rows};
 use gaps::{last_name, room_for};
 use tree::{FEW_ROWS, FIRST, HALF_ROWS, MANY_ROWS, MOST_ROWS, ROW, SOME_ROWS, subtree_end};
@@ -36,7 +36,7 @@ fn take_held(tree: &mut [u8], at: usize, n: usize, held: &mut [u8])
     ensures tree_after { tree.new ≡ rows_taken tree.old at n }
     ensures held_after { held.new ≡ paste held.old 0 (drop (row_start at) tree.old) (row_width * n) }
 {
-    write_many(held, 0, &tree[FIRST + ROW * at..], ROW * n);
+    write(held, 0, &tree[FIRST + ROW * at..], ROW * n);
     take_rows(tree, at, n);
 }
 

@@ -4,7 +4,7 @@ use Rattle.std.proofs.Math.Option.{none}
 use Rattle.buffers.specs.Text.{Text}
 use Rattle.accounts.specs.declared.Caller.{Caller}
 use Rattle.accounts.specs.declared.Role.{Role}
-use Rattle.accounts.specs.declared.Session.TheVariants.{As}
+use Rattle.accounts.specs.Session.{as_role}
 use Rattle.commands.specs.declared.Command.{Command as Parts}
 use Rattle.commands.specs.declared.ShellCommand.{ShellCommand as ShellParts}
 use Rattle.commands.specs.declared.EntryCommand.{EntryCommand as EntryParts}
@@ -20,7 +20,7 @@ use Rattle.stored_header.specs.Stored.{Stored, bytes_with}
 
 -- the session of a caller is that of a role
 abbrev pub HeldRole : Caller → Role → List ℕ → Type 0
-HeldRole c role b = (s : State) → Stored b s → As role ≡ session_held (get_or s.store.registry.sessions c.account.uid.0 none)
+HeldRole c role b = (s : State) → Stored b s → as_role role ≡ session_held (get_or s.store.registry.sessions c.account.uid.0 none)
 
 -- a caller's command that the parts of a line mean
 module _ (c : Caller) (line : Text) where

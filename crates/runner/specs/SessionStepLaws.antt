@@ -6,7 +6,8 @@ use Rattle.buffers.specs.Cases.{contra}
 use Rattle.accounts.specs.declared.Account.{Account}
 use Rattle.accounts.specs.declared.Caller.{Caller}
 use Rattle.accounts.specs.declared.Role.{Role}
-use Rattle.accounts.specs.declared.Session.TheVariants.{Nobody, As}
+use Rattle.accounts.specs.declared.Session.{Session}
+use Rattle.accounts.specs.Session.{nobody, as_role}
 use Rattle.accounts.specs.Dominance.{BoundedRole}
 use Rattle.accounts.specs.Closure.{rows_of, row_account}
 use Rattle.commands.specs.Command.{EntryAction, add, co, commit, up, del}
@@ -26,15 +27,15 @@ use Rattle.machine.specs.Acting.{Acting}
 use Rattle.stored_header.specs.Stored.{Stored, bytes_with}
 
 -- no session is held where none is, and a role's where it is
-held_none : (o : Option BoundedRole) → Nobody ≡ session_held o → o ≡ none
+held_none : (o : Option BoundedRole) → nobody ≡ session_held o → o ≡ none
 unfolding session_held
 held_none none e = refl
-held_none (some z) e = contra {b = true} refl (cc)
+held_none (some z) e = let h = ap (λ (s : Session). s.0) e in contra {b = true} refl (cc)
 
-pub held_some : (r : Role) (o : Option BoundedRole) → As r ≡ session_held o → (z : BoundedRole) × (o ≡ some z) × (z.role ≡ r)
+pub held_some : (r : Role) (o : Option BoundedRole) → as_role r ≡ session_held o → (z : BoundedRole) × (o ≡ some z) × (z.role ≡ r)
 unfolding session_held
-held_some r none e = contra {b = true} refl (cc)
-held_some r (some z) e = (z, refl, cc)
+held_some r none e = let h = ap (λ (s : Session). s.0) e in contra {b = true} refl (cc)
+held_some r (some z) e = let h = ap (λ (s : Session). s.0) e in (z, refl, cc)
 
 module _ {b : List ℕ} {s : State} (h : Stored b s) (c : Caller) where
   -- the caller's session
@@ -58,12 +59,12 @@ module _ {b : List ℕ} {s : State} (h : Stored b s) (c : Caller) where
   refused_without e (up w) = rw (no_session e) (refused_bind NoSession _)
   refused_without e (del p) = rw (no_session e) (refused_bind NoSession _)
 
-  pub nobody_carries : (k : EntryAction) → Nobody ≡ session_held held
+  pub nobody_carries : (k : EntryAction) → nobody ≡ session_held held
       → CarriesSilently (bytes_with s.setup) (run_entry store s.setup s.store c k) b (Refused NoSession) b
   nobody_carries k e = refusal_follows b (refused_without (held_none held e) k)
 
   -- in one of a role it acts for the account that the rows tell of the role
-  module _ {role : Role} {rows : List ℕ} {account : Account} (kept : As role ≡ session_held held) (same : rows ≡ rows_of s.setup.pairs)
+  module _ {role : Role} {rows : List ℕ} {account : Account} (kept : as_role role ≡ session_held held) (same : rows ≡ rows_of s.setup.pairs)
       (told : account ≡ row_account rows role) where
     abbrev of_role : (z : BoundedRole) × (held ≡ some z) × (z.role ≡ role)
     of_role = held_some role held kept
@@ -77,5 +78,5 @@ module _ {b : List ℕ} {s : State} (h : Stored b s) (c : Caller) where
       served = told ∙ ap (row_account rows) (sym of_role.2) ∙ rows_tell_account s.setup.pairs rows same of_role.0;
     }
 
-    pub acting_as : As role ≡ session_held (some acting.role)
+    pub acting_as : as_role role ≡ session_held (some acting.role)
     acting_as = role_is role of_role.0 of_role.2

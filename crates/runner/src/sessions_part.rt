@@ -30,7 +30,7 @@ fn as_role(
 {
     let dominance = dominance_in(store);
     let account = dominance.account(role);
-    let session = Session::As(role);
+    let session = Session(Some(role));
     entry_command(
         store, caller, account, session, dominance, line, command, answer,
     )
@@ -52,8 +52,8 @@ pub fn in_session(
         store.old answer.old result store.new answer.new }
 {
     let account = caller.account;
-    match session_in(store, account.uid) {
-        Session::Nobody => Answer::Refused(Cause::NoSession),
-        Session::As(role) => as_role(store, caller, role, line, command, answer),
+    match session_in(store, account.uid).0 {
+        None => Answer::Refused(Cause::NoSession),
+        Some(role) => as_role(store, caller, role, line, command, answer),
     }
 }

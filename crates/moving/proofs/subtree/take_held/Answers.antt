@@ -15,5 +15,5 @@ pub returns : goal.returns
 returns c =
     let a = c.args in record {
       tree_after = c.take_rows.ensures;
-      held_after = c.write_many.ensures ∙ ap (λ (s : List ℕ). paste a.held.now 0 s (row_width * a.n)) (from-row-on a.tree.now (row_start a.at));
+      held_after = c.write.ensures ∙ ap (λ (s : List ℕ). paste a.held.now 0 s (row_width * a.n)) (from-row-on a.tree.now (row_start a.at));
     }
