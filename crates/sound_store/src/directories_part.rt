@@ -14,7 +14,7 @@ fn is_directory(header: &[u8], k: usize) -> bool
     ensures { result ≡ is_directory_at header.now k }
 {
     let at = DIRECTORIES + DIRECTORY * k;
-    if header[at] != 47 {
+    if header[at] != b'/' {
         return false;
     }
     if header[at + 1] == 0 {
@@ -33,12 +33,5 @@ pub fn has_directories(header: &[u8]) -> bool
     requires { WideHeader header.now }
     ensures { result ≡ has_directories header.now }
 {
-    let mut k: usize = 0;
-    while k < 16 {
-        if !is_directory(header, k) {
-            return false;
-        }
-        k += 1;
-    }
-    true
+    (0..16).all(|k| is_directory(header, k))
 }

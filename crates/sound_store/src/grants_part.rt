@@ -7,6 +7,9 @@ use crate::accounts_part::is_named;
 use buffers::is_zero;
 use store::{DIRECTORIES, GRANT, GRANTS, PASSWORD, PASSWORD_WIDTH};
 
+// The number of the last role.
+const LAST_ROLE: u8 = 7;
+
 // Whether a grant's password is a name, filled up with zeros.
 fn is_password(header: &[u8], k: usize) -> bool
     requires wide_header { WideHeader header.now }
@@ -29,29 +32,7 @@ fn is_grant(header: &[u8], k: usize) -> bool
     ensures { result ≡ is_grant_at header.now k }
 {
     let at = GRANTS + 1 + GRANT * k;
-    if !is_named(header, header[at]) {
-        return false;
-    }
-    if 7 < header[at + 1] {
-        return false;
-    }
-    is_password(header, k)
-}
-
-// Whether the first n grants are in range.
-fn are_grants(header: &[u8], n: usize) -> bool
-    requires wide_header { WideHeader header.now }
-    requires n_bound { n ≤ 32 }
-    ensures { result ≡ passes_from (is_grant_at header.now) 0 n }
-{
-    let mut k: usize = 0;
-    while k < n {
-        if !is_grant(header, k) {
-            return false;
-        }
-        k += 1;
-    }
-    true
+    is_named(header, header[at]) && header[at + 1] <= LAST_ROLE && is_password(header, k)
 }
 
 // Whether there are at most 32 grants, all in range, and zeros behind them.
@@ -60,11 +41,7 @@ pub fn has_grants(header: &[u8]) -> bool
     ensures { result ≡ has_grants header.now }
 {
     let n = header[GRANTS] as usize;
-    if 32 < n {
-        return false;
-    }
-    if !are_grants(header, n) {
-        return false;
-    }
-    is_zero(header, GRANTS + 1 + GRANT * n, DIRECTORIES)
+    n <= 32
+        && (0..n).all(|k| is_grant(header, k))
+        && is_zero(header, GRANTS + 1 + GRANT * n, DIRECTORIES)
 }

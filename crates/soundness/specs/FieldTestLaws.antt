@@ -34,7 +34,7 @@ alike true = refl
 alike false = refl
 
 -- at most n is below the next number
-below_next : (k n : ℕ) → leb k n ≡ ltb k (suc n)
+pub below_next : (k n : ℕ) → leb k n ≡ ltb k (suc n)
 below_next k n = grind (arith, nat_tests)
 
 -- a text of no bytes is no entry path
