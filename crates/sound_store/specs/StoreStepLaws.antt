@@ -1,5 +1,5 @@
 -- What the code goes by where it tests a header and a store: each test by what it has seen.
-use Rattle.std.specs.Prelude.{◌≡◌, List, ◌∷◌, Bool, true, false, ◌&&◌, eqb}
+use Rattle.std.specs.Prelude.{◌≡◌, List, ◌∷◌, Bool, false, ◌&&◌, eqb}
 use Rattle.std.proofs.Common.{sym, ◌∙◌, drop-cons}
 use Rattle.std.proofs.Math.Path.{ap}
 use Prim.Native.Nat.{ℕ, suc, ◌+◌, ◌-◌, ◌<◌}
@@ -17,17 +17,16 @@ use Rattle.syntax.proofs.PathPartsLaws.{path_empty, path_begins, path_top}
 use Rattle.store.specs.HeaderLayout.{directory_start, directory_width, WideHeader}
 use Rattle.sound_store.specs.HeaderTests.{slot_start, is_slot_at, is_directory_at}
 
--- a field whose text fails a test, and one whose text of n bytes passes it
-module _ (test : Text → Bool) (i w : ℕ) (b : List ℕ) where
-  pub text_fails : test (text_at i w b) ≡ false → (test (text_at i w b) && is_filled i w b) ≡ false
-  text_fails e = rw e
+-- a field whose text fails a test
+text_fails : (test : Text → Bool) (i w : ℕ) (b : List ℕ) → test (text_at i w b) ≡ false → (test (text_at i w b) && is_filled i w b) ≡ false
+text_fails test i w b e = rw e
 
-  pub by_filling : test (text_at i w b) ≡ true → (n : ℕ) → n ≡ length (text_at i w b) →
-      (test (text_at i w b) && is_filled i w b) ≡ zeros_at (i + n) (i + w - (i + n)) b
-  unfolding is_filled
-  by_filling e n l =
-      let q : w - n ≡ i + w - (i + n) = omega arith in
-      rw (e, ← l, q)
+-- zeros behind the n bytes of a field's text fill it up
+pub filled_by : (i w : ℕ) (b : List ℕ) (n : ℕ) → n ≡ length (text_at i w b) → is_filled i w b ≡ zeros_at (i + n) (i + w - (i + n)) b
+unfolding is_filled
+filled_by i w b n l =
+    let q : w - n ≡ i + w - (i + n) = omega arith in
+    rw (← l, q)
 
 -- a field's text begins with its first byte, unless that is zero
 text_opened : (b : List ℕ) (i w : ℕ) → i < length b → (get_or b i 0 ≡ 0 → ⊥) → text_at i (suc w) b ≡ get_or b i 0 ∷ text_at (suc i) w b
@@ -60,7 +59,7 @@ module _ (b : List ℕ) (k : ℕ) (wide : WideHeader b) (h : k < 16) where
       let t = text_at i directory_width b in
       let q = text_opened b i (directory_width - 1) (omega arith) (λ y. omega arith) in
       let l : length t ≡ 1 = ap length q ∙ ap suc (text_stops b (suc i) (directory_width - 2) (omega arith) (rw add-one at z)) in
-      by_filling reads_path i directory_width b (path_top t l (ap (λ (s : Text). get_or s 0 0) q ∙ e)) 1 (sym l)
+      rw (path_top t l (ap (λ (s : Text). get_or s 0 0) q ∙ e)) (filled_by i directory_width b 1 (sym l))
 
 module _ (b : List ℕ) (k : ℕ) where
   -- a slot that is no person's

@@ -3,6 +3,7 @@ ghost use Rattle.std.specs.Prelude.{◌≡◌, ◌<◌};
 ghost use Rattle.store.specs.HeaderLayout.{WideHeader};
 ghost use Rattle.sound_store.specs.HeaderTests.{is_directory_at, has_directories};
 
+use crate::padded::holds_padded;
 use buffers::is_zero;
 use store::{DIRECTORIES, DIRECTORY};
 
@@ -20,12 +21,7 @@ fn is_directory(header: &[u8], k: usize) -> bool
     if header[at + 1] == 0 {
         return is_zero(header, at + 1, at + DIRECTORY);
     }
-    let directory = buffers::text(header, at, DIRECTORY);
-    if !syntax::is_path(directory) {
-        return false;
-    }
-    let n = directory.len();
-    is_zero(header, at + n, at + DIRECTORY)
+    holds_padded(header, at, DIRECTORY, |text| syntax::is_path(text))
 }
 
 // Whether every account's is.

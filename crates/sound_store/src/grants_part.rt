@@ -4,6 +4,7 @@ ghost use Rattle.store.specs.HeaderLayout.{WideHeader};
 ghost use Rattle.sound_store.specs.HeaderTests.{passes_from, is_grant_at, is_password_at, has_grants};
 
 use crate::accounts_part::is_named;
+use crate::padded::holds_padded;
 use buffers::is_zero;
 use store::{DIRECTORIES, GRANT, GRANTS, PASSWORD, PASSWORD_WIDTH};
 
@@ -17,12 +18,7 @@ fn is_password(header: &[u8], k: usize) -> bool
     ensures { result ≡ is_password_at header.now k }
 {
     let at = GRANTS + 1 + GRANT * k + PASSWORD;
-    let password = buffers::text(header, at, PASSWORD_WIDTH);
-    if !syntax::is_name(password) {
-        return false;
-    }
-    let n = password.len();
-    is_zero(header, at + n, at + PASSWORD_WIDTH)
+    holds_padded(header, at, PASSWORD_WIDTH, |text| syntax::is_name(text))
 }
 
 // Whether a grant is root's or a person's, its role in range, and its password a name.

@@ -9,6 +9,7 @@ ghost use Rattle.store.specs.StoreBytes.{is_header, decode};
 mod accounts_part;
 mod directories_part;
 mod grants_part;
+mod padded;
 mod pairs_part;
 
 use accounts_part::{has_sessions, has_slots};
