@@ -24,13 +24,7 @@ fn grant_has(header: &[u8], i: usize, uid: Uid, role: Role, password: &[u8]) -> 
     ensures { result ≡ grant_has (grant_in header.now i) uid role password.now }
 {
     let at = GRANTS + 1 + GRANT * i;
-    if header[at] != uid.0 {
-        return false;
-    }
-    if header[at + 1] != role.0 {
-        return false;
-    }
-    same(password_at(header, i), password)
+    header[at] == uid.0 && header[at + 1] == role.0 && same(password_at(header, i), password)
 }
 
 // Whether a grant of the setup has just these three.
@@ -40,12 +34,10 @@ pub fn is_granted(header: &[u8], uid: Uid, role: Role, password: &[u8]) -> bool
     ensures { GrantTold header.now uid role password.now result }
 {
     let n = header[GRANTS] as usize;
-    let mut i: usize = 0;
-    while i < n {
+    for i in 0..n {
         if grant_has(header, i, uid, role, password) {
             return true;
         }
-        i += 1;
     }
     false
 }

@@ -83,7 +83,7 @@ fn write_tag_path(answer: &mut [u8], at: usize, path: &[u8]) -> usize
     requires at_in_bounds { at + 55 ≤ length answer.old }
     ensures { WroteMost 55 (comma ∷ or_dash path.now) answer.old at answer.new result }
 {
-    if path.len() == 0 {
+    if path.is_empty() {
         return write_behind(answer, at, b',', b"-");
     }
     write_behind(answer, at, b',', path)

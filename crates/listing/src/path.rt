@@ -16,11 +16,9 @@ fn last_rows(tree: &[u8], n: usize) -> [usize; 7]
     ensures { result ≡ last_among tree.now (n + 1) }
 {
     let mut last: [usize; 7] = [0; 7];
-    let mut i: usize = 0;
-    while i <= n {
+    for i in 0..n + 1 {
         let depth = depth_at(tree, i) as usize;
         last[depth] = i;
-        i += 1;
     }
     last
 }
@@ -42,10 +40,8 @@ fn write_names(tree: &[u8], last: [usize; 7], depth: usize, answer: &mut [u8]) -
     ensures { WroteMost 54 (names_text (path_seen (names_told tree.now last) depth)) answer.old 0 answer.new result }
 {
     let mut end: usize = 0;
-    let mut k: usize = 0;
-    while k < depth {
+    for k in 0..depth {
         end = write_name(tree, last[k + 1], answer, end);
-        k += 1;
     }
     end
 }

@@ -7,8 +7,9 @@ ghost use Rattle.store.specs.Initial.{first_directory, first_directories};
 ghost use Rattle.store.specs.InitialRows.{slot_value};
 ghost use Rattle.store.specs.StoreBytes.{directory_bytes};
 
+use accounts::Uid;
 use buffers::write_padded;
-use store::{DIRECTORIES, DIRECTORY, Person};
+use store::{DIRECTORIES, DIRECTORY, Person, home_path};
 
 // Writes the first working directory of an account.
 fn write_directory(header: &mut [u8], k: usize, person: Person)
@@ -22,14 +23,8 @@ fn write_directory(header: &mut [u8], k: usize, person: Person)
         write_padded(header, at, DIRECTORY, b"/");
         return;
     }
-    let uid = k as u8;
-    if uid < 10 {
-        let home = [b'/', b'u', b'0' + uid];
-        write_padded(header, at, DIRECTORY, &home);
-        return;
-    }
-    let home = [b'/', b'u', b'1', b'0' + (uid - 10)];
-    write_padded(header, at, DIRECTORY, &home);
+    let mut home = [0; 4];
+    write_padded(header, at, DIRECTORY, home_path(Uid(k as u8), &mut home));
 }
 
 // Writes those of all accounts, whatever stood there.
@@ -37,10 +32,8 @@ pub fn write_directories(header: &mut [u8], persons: [Person; 16])
     requires { spare_offset ≤ length header.old }
     ensures { header.new ≡ paste header.old directories_offset (all_bytes directory_bytes (first_directories 0 (map slot_value persons))) directories_width }
 {
-    let mut k: usize = 0;
-    while k < 16 {
+    for k in 0..16 {
         let person = persons[k];
         write_directory(header, k, person);
-        k += 1;
     }
 }

@@ -35,10 +35,8 @@ fn slots_in(header: &[u8]) -> [Person; 16]
         primary: Gid(0),
         further: Groups(0),
     }; 16];
-    let mut k: usize = 0;
-    while k < 16 {
+    for k in 0..16 {
         persons[k] = slot_in(header, k);
-        k += 1;
     }
     persons
 }

@@ -1,5 +1,15 @@
--- A test of so many indices: how a loop goes through them, and what it is of values one after another and of tables.
+-- A test of so many indices: of the numbers of a range, of values one after another, and of tables.
 use Rattle.std.specs.Prelude.{◌≡◌, Bool, true, false, ◌&&◌, take, drop}
+use Rattle.std.specs.Fn.{Called}
+use Rattle.std.specs.Iterator.{YieldsThen}
+use Rattle.std.specs.List.{list_all, range_with_len, FoldsTo}
+use Rattle.std.specs.Option.{MatchOption}
+use Rattle.std.specs.Prelude.{Option}
+use Rattle.std.specs.declared.ops.Range.{Range}
+use Rattle.std.proofs.iter.Yields.{nat_range_steps}
+use Rattle.std.proofs.lemmas.Iterator.{YieldsList-from_range}
+use Rattle.std.proofs.lemmas.Iterator.Search.{all_from_yields_List}
+use denote.Param.Members.{Mut}
 use Rattle.std.proofs.Math.Path.{refl, ap, ap₂}
 use Rattle.std.proofs.Common.{sym, ◌∙◌, drop-cons, drop-drop, length-take-le}
 use mathlib.Core.List.{List, ◌∷◌, ◌++◌, append_assoc}
@@ -16,33 +26,19 @@ use Rattle.buffers.specs.TableLaws.{length_all_from}
 use Rattle.soundness.specs.RowTestLaws.{same_part, same_zeros_at}
 use Rattle.sound_store.specs.HeaderTests.{passes_from}
 
--- before the turn of index i what is left to test decides the whole
-pub record Passing (test : ℕ → Bool) (n i : ℕ) : Type 0 where
-  pub le : i ≤ n
-  pub goes : passes_from test i (n - i) ≡ passes_from test 0 n
+-- the numbers of a range all pass a test just if so many indices do
+all_in_range : (test : ℕ → Bool) (i n : ℕ) → list_all test (range_with_len i n) ≡ passes_from test i n
+unfolding passes_from
+all_in_range test i zero = refl
+all_in_range test i (suc n) = rw add-one (ap (λ (b : Bool). test i && b) (all_in_range test (suc i) n))
 
-module _ (test : ℕ → Bool) (n : ℕ) where
-  -- at first all is left
-  pub passing : Passing test n 0
-  passing = let e : n - 0 ≡ n = omega arith in record { le = omega arith; goes = rw e }
-
-  module _ (i : ℕ) (p : Passing test n i) where
-    -- an index that passes leaves it to the others
-    pub passes_on : i < n → test i ≡ true → Passing test n (i + 1)
-    unfolding passes_from
-    passes_on h t =
-        let e : n - i ≡ suc (n - suc i) = omega arith in
-        record { le = omega arith; goes = rw add-one (rw (e, t) at p.goes) }
-
-    -- one that does not decides
-    pub passes_not : i < n → test i ≡ false → false ≡ passes_from test 0 n
-    unfolding passes_from
-    passes_not h t = let e : n - i ≡ suc (n - suc i) = omega arith in rw (e, t) at p.goes
-
-    -- and so does the end
-    pub passes_all : n ≤ i → true ≡ passes_from test 0 n
-    unfolding passes_from
-    passes_all h = let e : n - i ≡ 0 = omega arith in rw e at p.goes
+-- what `all` answered over a range, where each call answered by the test
+pub all_passed : {F : Type 0} {g : Mut F (ℕ × Unit {0}) Bool} (n : ℕ) (test : ℕ → Bool) (u : Range ℕ) (f : F) (r : Bool)
+    → (xs : List ℕ) × (o : Option ℕ) × (j : F) × YieldsThen nat_range_steps (record { start = 0; end = n }) xs o u × FoldsTo (λ p x q. Called g p (x, tt) true q) f xs j
+    × MatchOption o (r ≡ true) (λ x. (r ≡ false) × ((h : F) × Called g j (x, tt) false h))
+    → ((x : ℕ) (b : Bool) (q : F) → Called g f (x, tt) b q → (q ≡ f) × (b ≡ test x))
+    → r ≡ passes_from test 0 n
+all_passed n test u f r ran each = all_from_yields_List test u f r ran (YieldsList-from_range 0 n n refl (omega arith)) each ∙ all_in_range test 0 n
 
 -- two tests of the same indices are one
 both_passed : (a b c d : Bool) → ((a && b) && (c && d)) ≡ ((a && c) && (b && d))

@@ -6,6 +6,9 @@ ghost use Rattle.sound_store.specs.HeaderTests.{is_slot_at, has_slots, has_sessi
 use buffers::is_zero;
 use store::{SESSIONS, SLOT};
 
+// The greatest byte of a session: that of the last role.
+const MOST_SESSION: u8 = 8;
+
 // Whether a slot is zeros, or a person's groups in range.
 fn is_slot(header: &[u8], k: usize) -> bool
     requires wide_header { WideHeader header.now }
@@ -17,10 +20,7 @@ fn is_slot(header: &[u8], k: usize) -> bool
     if primary == 0 {
         return is_zero(header, at + 1, at + SLOT);
     }
-    if 15 < primary {
-        return false;
-    }
-    header[at + 1] % 2 == 0
+    primary <= 15 && header[at + 1] % 2 == 0
 }
 
 // Whether account 0 is no person's, and every slot is in range.
@@ -28,17 +28,7 @@ pub fn has_slots(header: &[u8]) -> bool
     requires { WideHeader header.now }
     ensures { result ≡ has_slots header.now }
 {
-    if header[0] != 0 {
-        return false;
-    }
-    let mut k: usize = 0;
-    while k < 16 {
-        if !is_slot(header, k) {
-            return false;
-        }
-        k += 1;
-    }
-    true
+    header[0] == 0 && (0..16).all(|k| is_slot(header, k))
 }
 
 // Whether every session is of a role or none.
@@ -46,14 +36,7 @@ pub fn has_sessions(header: &[u8]) -> bool
     requires { WideHeader header.now }
     ensures { result ≡ has_sessions header.now }
 {
-    let mut k: usize = 0;
-    while k < 16 {
-        if 8 < header[SESSIONS + k] {
-            return false;
-        }
-        k += 1;
-    }
-    true
+    (0..16).all(|k| header[SESSIONS + k] <= MOST_SESSION)
 }
 
 // Whether a number is root's or a person's.
@@ -61,11 +44,5 @@ pub fn is_named(header: &[u8], uid: u8) -> bool
     requires { WideHeader header.now }
     ensures { result ≡ named_at header.now uid }
 {
-    if uid == 0 {
-        return true;
-    }
-    if 15 < uid {
-        return false;
-    }
-    header[SLOT * uid as usize] != 0
+    uid == 0 || (uid <= 15 && header[SLOT * uid as usize] != 0)
 }

@@ -3,6 +3,7 @@ ghost use Rattle.std.specs.Prelude.{◌≡◌, ◌<◌};
 ghost use Rattle.store.specs.HeaderLayout.{WideHeader};
 ghost use Rattle.sound_store.specs.HeaderTests.{is_directory_at, has_directories};
 
+use crate::padded::holds_padded;
 use buffers::is_zero;
 use store::{DIRECTORIES, DIRECTORY};
 
@@ -14,18 +15,13 @@ fn is_directory(header: &[u8], k: usize) -> bool
     ensures { result ≡ is_directory_at header.now k }
 {
     let at = DIRECTORIES + DIRECTORY * k;
-    if header[at] != 47 {
+    if header[at] != b'/' {
         return false;
     }
     if header[at + 1] == 0 {
         return is_zero(header, at + 1, at + DIRECTORY);
     }
-    let directory = buffers::text(header, at, DIRECTORY);
-    if !syntax::is_path(directory) {
-        return false;
-    }
-    let n = directory.len();
-    is_zero(header, at + n, at + DIRECTORY)
+    holds_padded(header, at, DIRECTORY, |text| syntax::is_path(text))
 }
 
 // Whether every account's is.
@@ -33,12 +29,5 @@ pub fn has_directories(header: &[u8]) -> bool
     requires { WideHeader header.now }
     ensures { result ≡ has_directories header.now }
 {
-    let mut k: usize = 0;
-    while k < 16 {
-        if !is_directory(header, k) {
-            return false;
-        }
-        k += 1;
-    }
-    true
+    (0..16).all(|k| is_directory(header, k))
 }

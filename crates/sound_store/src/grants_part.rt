@@ -4,8 +4,12 @@ ghost use Rattle.store.specs.HeaderLayout.{WideHeader};
 ghost use Rattle.sound_store.specs.HeaderTests.{passes_from, is_grant_at, is_password_at, has_grants};
 
 use crate::accounts_part::is_named;
+use crate::padded::holds_padded;
 use buffers::is_zero;
 use store::{DIRECTORIES, GRANT, GRANTS, PASSWORD, PASSWORD_WIDTH};
+
+// The number of the last role.
+const LAST_ROLE: u8 = 7;
 
 // Whether a grant's password is a name, filled up with zeros.
 fn is_password(header: &[u8], k: usize) -> bool
@@ -14,12 +18,7 @@ fn is_password(header: &[u8], k: usize) -> bool
     ensures { result ≡ is_password_at header.now k }
 {
     let at = GRANTS + 1 + GRANT * k + PASSWORD;
-    let password = buffers::text(header, at, PASSWORD_WIDTH);
-    if !syntax::is_name(password) {
-        return false;
-    }
-    let n = password.len();
-    is_zero(header, at + n, at + PASSWORD_WIDTH)
+    holds_padded(header, at, PASSWORD_WIDTH, |text| syntax::is_name(text))
 }
 
 // Whether a grant is root's or a person's, its role in range, and its password a name.
@@ -29,29 +28,7 @@ fn is_grant(header: &[u8], k: usize) -> bool
     ensures { result ≡ is_grant_at header.now k }
 {
     let at = GRANTS + 1 + GRANT * k;
-    if !is_named(header, header[at]) {
-        return false;
-    }
-    if 7 < header[at + 1] {
-        return false;
-    }
-    is_password(header, k)
-}
-
-// Whether the first n grants are in range.
-fn are_grants(header: &[u8], n: usize) -> bool
-    requires wide_header { WideHeader header.now }
-    requires n_bound { n ≤ 32 }
-    ensures { result ≡ passes_from (is_grant_at header.now) 0 n }
-{
-    let mut k: usize = 0;
-    while k < n {
-        if !is_grant(header, k) {
-            return false;
-        }
-        k += 1;
-    }
-    true
+    is_named(header, header[at]) && header[at + 1] <= LAST_ROLE && is_password(header, k)
 }
 
 // Whether there are at most 32 grants, all in range, and zeros behind them.
@@ -60,11 +37,7 @@ pub fn has_grants(header: &[u8]) -> bool
     ensures { result ≡ has_grants header.now }
 {
     let n = header[GRANTS] as usize;
-    if 32 < n {
-        return false;
-    }
-    if !are_grants(header, n) {
-        return false;
-    }
-    is_zero(header, GRANTS + 1 + GRANT * n, DIRECTORIES)
+    n <= 32
+        && (0..n).all(|k| is_grant(header, k))
+        && is_zero(header, GRANTS + 1 + GRANT * n, DIRECTORIES)
 }

@@ -9,6 +9,7 @@ ghost use Rattle.store.specs.StoreBytes.{is_header, decode};
 mod accounts_part;
 mod directories_part;
 mod grants_part;
+mod padded;
 mod pairs_part;
 
 use accounts_part::{has_sessions, has_slots};
@@ -23,33 +24,17 @@ pub fn holds_header(header: &[u8]) -> bool
     requires { WideHeader header.now }
     ensures { result ≡ is_header header.now }
 {
-    if !has_slots(header) {
-        return false;
-    }
-    if !has_sessions(header) {
-        return false;
-    }
-    if !has_pairs(header) {
-        return false;
-    }
-    if !has_grants(header) {
-        return false;
-    }
-    if !has_directories(header) {
-        return false;
-    }
-    is_zero_in_blocks(header, SPARE, HEADER)
+    has_slots(header)
+        && has_sessions(header)
+        && has_pairs(header)
+        && has_grants(header)
+        && has_directories(header)
+        && is_zero_in_blocks(header, SPARE, HEADER)
 }
 
 // Whether a buffer of any length holds a sound store.
 pub fn holds_store(store: &[u8]) -> bool
     ensures { result ≡ is_some (decode store.now) }
 {
-    if store.len() != STORE {
-        return false;
-    }
-    if !holds_header(&store[..HEADER]) {
-        return false;
-    }
-    holds_tree(&store[HEADER..])
+    store.len() == STORE && holds_header(&store[..HEADER]) && holds_tree(&store[HEADER..])
 }

@@ -15,26 +15,7 @@ fn is_pair(header: &[u8], k: usize) -> bool
     let at = PAIRS + 1 + PAIR * k;
     let senior = header[at];
     let junior = header[at + 1];
-    if junior <= senior {
-        return false;
-    }
-    junior < 8
-}
-
-// Whether the first n pairs are in range.
-fn are_pairs(header: &[u8], n: usize) -> bool
-    requires wide_header { WideHeader header.now }
-    requires n_bound { n ≤ 28 }
-    ensures { result ≡ passes_from (is_pair_at header.now) 0 n }
-{
-    let mut k: usize = 0;
-    while k < n {
-        if !is_pair(header, k) {
-            return false;
-        }
-        k += 1;
-    }
-    true
+    senior < junior && junior < 8
 }
 
 // Whether there are at most 28 pairs, all in range, and zeros behind them.
@@ -43,11 +24,5 @@ pub fn has_pairs(header: &[u8]) -> bool
     ensures { result ≡ has_pairs header.now }
 {
     let n = header[PAIRS] as usize;
-    if 28 < n {
-        return false;
-    }
-    if !are_pairs(header, n) {
-        return false;
-    }
-    is_zero(header, PAIRS + 1 + PAIR * n, GRANTS)
+    n <= 28 && (0..n).all(|k| is_pair(header, k)) && is_zero(header, PAIRS + 1 + PAIR * n, GRANTS)
 }

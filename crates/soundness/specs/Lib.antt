@@ -3,6 +3,7 @@ pub mod OrderLaws
 pub mod SoundLaws
 pub mod Tests
 pub mod RowTestLaws
+pub mod BothLaws
 pub mod NeighbourLaws
 pub mod FilledLaws
 pub mod FieldTestLaws

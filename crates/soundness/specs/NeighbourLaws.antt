@@ -6,7 +6,7 @@ use Rattle.std.proofs.Math.Bool.{true, ◌&&◌, and-true, and-false, and_assoc}
 use Prim.Native.Nat.{ℕ, zero, suc, ◌+◌, ◌-◌, ◌≤◌, ◌<◌}
 use native.Mathlib.Omega.{arith}
 use Rattle.std.proofs.Math.ListN.{get_or}
-use Rattle.buffers.specs.Cases.{and_both}
+use Rattle.buffers.specs.Cases.{case, and_both}
 use Rattle.soundness.specs.Tests.{neighbours_pass}
 
 -- a loop over n places: what is left, with what was seen, is the whole
@@ -44,23 +44,30 @@ module _ (f : ℕ → ℕ → Bool) where
 
   -- n of them in two stretches, that may share some: the first k, and the last j
   module _ (n i : ℕ) (x : List ℕ) where
-    pub first_fails : (k : ℕ) → k ≤ n → neighbours_pass f i k x ≡ false → neighbours_pass f i n x ≡ false
+    first_fails : (k : ℕ) → k ≤ n → neighbours_pass f i k x ≡ false → neighbours_pass f i n x ≡ false
     first_fails k h e =
         let q : n ≡ k + (n - k) = omega arith in
         ap (λ (m : ℕ). neighbours_pass f i m x) q ∙ pass_apart k (n - k) i x ∙ rw e
 
-    pub last_fails : (j : ℕ) → j ≤ n → neighbours_pass f (i + (n - j)) j x ≡ false → neighbours_pass f i n x ≡ false
+    last_fails : (j : ℕ) → j ≤ n → neighbours_pass f (i + (n - j)) j x ≡ false → neighbours_pass f i n x ≡ false
     last_fails j h e =
         let q : n ≡ n - j + j = omega arith in
         ap (λ (m : ℕ). neighbours_pass f i m x) q ∙ pass_apart (n - j) j i x ∙ simp (e, and-false)
 
-    pub both_pass : (k j : ℕ) → k ≤ n → j ≤ n → n ≤ k + j → neighbours_pass f i k x ≡ true → neighbours_pass f (i + (n - j)) j x ≡ true → neighbours_pass f i n x ≡ true
+    both_pass : (k j : ℕ) → k ≤ n → j ≤ n → n ≤ k + j → neighbours_pass f i k x ≡ true → neighbours_pass f (i + (n - j)) j x ≡ true → neighbours_pass f i n x ≡ true
     both_pass k j h l w e g =
         let q : n ≡ n - j + j = omega arith in
         let p : k ≡ n - j + (k - (n - j)) = omega arith in
         let before = neighbours_pass f i (n - j) x in
         let first : before ≡ true = (and_both before (neighbours_pass f (i + (n - j)) (k - (n - j)) x) (sym (pass_apart (n - j) (k - (n - j)) i x) ∙ sym (ap (λ (m : ℕ). neighbours_pass f i m x) p) ∙ e)).0 in
         ap (λ (m : ℕ). neighbours_pass f i m x) q ∙ pass_apart (n - j) j i x ∙ rw (first, g)
+
+    pub in_two : (k j : ℕ) → k ≤ n → j ≤ n → n ≤ k + j → (neighbours_pass f i k x && neighbours_pass f (i + (n - j)) j x) ≡ neighbours_pass f i n x
+    in_two k j h l w = case (neighbours_pass f i k x)
+        (λ t. case (neighbours_pass f (i + (n - j)) j x)
+        (λ u. rw (t, u) (sym (both_pass k j h l w t u)))
+        (λ u. rw (t, u) (sym (last_fails j l u))))
+        (λ t. rw t (sym (first_fails k h t)))
 
   module _ (s : List ℕ) (at n : ℕ) where
     pub begins : PassedUpTo f s at n true 0

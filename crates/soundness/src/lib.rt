@@ -22,13 +22,9 @@ fn is_top_row(tree: &[u8]) -> bool
     requires { Wide tree.now }
     ensures { result ≡ is_top_row (row_at tree.now 0) }
 {
-    if tree::depth_at(tree, 0) != 0 {
-        return false;
-    }
-    if tree::name_at(tree, 0).len() != 0 {
-        return false;
-    }
-    is_directory(tree::kind_at(tree, 0))
+    tree::depth_at(tree, 0) == 0
+        && tree::name_at(tree, 0).is_empty()
+        && is_directory(tree::kind_at(tree, 0))
 }
 
 // Whether a buffer holds a well-formed tree.
@@ -39,20 +35,11 @@ pub fn holds_tree(tree: &[u8]) -> bool
         return false;
     }
     let n = tree::count(tree);
-    if n == 0 {
+    if n == 0 || MOST_ROWS < n {
         return false;
     }
-    if MOST_ROWS < n {
-        return false;
-    }
-    if !is_row(tree, 0) {
-        return false;
-    }
-    if !is_top_row(tree) {
-        return false;
-    }
-    if !in_order(tree, n) {
-        return false;
-    }
-    is_zero_in_blocks(tree, FIRST + ROW * n, TREE)
+    is_row(tree, 0)
+        && is_top_row(tree)
+        && in_order(tree, n)
+        && is_zero_in_blocks(tree, FIRST + ROW * n, TREE)
 }

@@ -21,8 +21,7 @@ fn comes_before(tree: &[u8], i: usize, j: usize) -> bool
 {
     let a = FIRST + ROW * i + NAME;
     let b = FIRST + ROW * j + NAME;
-    let mut k: usize = 0;
-    while k < NAME_WIDTH {
+    for k in 0..NAME_WIDTH {
         let x = tree[a + k];
         let y = tree[b + k];
         if x != y {
@@ -31,7 +30,6 @@ fn comes_before(tree: &[u8], i: usize, j: usize) -> bool
         if x == 0 {
             return false;
         }
-        k += 1;
     }
     false
 }
@@ -47,17 +45,11 @@ fn may_follow(tree: &[u8], i: usize, beside: usize) -> bool
 {
     let depth = tree::depth_at(tree, i);
     let before = tree::depth_at(tree, i - 1);
-    if !has_name(tree, i) {
-        return false;
-    }
-    if depth == 0 {
+    if depth == 0 || !has_name(tree, i) {
         return false;
     }
     if before < depth {
-        if 1 < depth - before {
-            return false;
-        }
-        return is_directory(tree::kind_at(tree, i - 1));
+        return depth - before == 1 && is_directory(tree::kind_at(tree, i - 1));
     }
     comes_before(tree, beside, i)
 }
@@ -70,8 +62,7 @@ pub fn in_order(tree: &[u8], n: usize) -> bool
     ensures { result ≡ rest_in_order tree.now 1 [] (row_at tree.now 0).here.kind }
 {
     let mut last: [usize; 7] = [0; 7];
-    let mut i: usize = 1;
-    while i < n {
+    for i in 1..n {
         if !is_row(tree, i) {
             return false;
         }
@@ -83,7 +74,6 @@ pub fn in_order(tree: &[u8], n: usize) -> bool
             return false;
         }
         last[depth] = i;
-        i += 1;
     }
     true
 }

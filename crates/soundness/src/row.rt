@@ -23,24 +23,23 @@ use tree::{
 // The bytes of the second stretch of a content's field, as many as are tested at once; the first stretch is a multiple of it.
 const AT_ONCE: usize = 16;
 
+// The numbers of the last account and of the last group.
+const LAST_ACCOUNT: u8 = 23;
+
+const LAST_GROUP: u8 = 24;
+
 // Whether a byte says what a node is.
 fn is_kind(b: u8) -> bool
     ensures { result ≡ is_kind_byte b }
 {
-    if b == DIRECTORY {
-        return true;
-    }
-    b == FILE
+    matches!(b, DIRECTORY | FILE)
 }
 
 // Whether a number is a mode.
 fn is_mode(mode: u16) -> bool
     ensures { result ≡ is_mode mode }
 {
-    if mode < 512 {
-        return true;
-    }
-    has_set_gid(mode)
+    mode < 512 || has_set_gid(mode)
 }
 
 // Whether a kind allows a mode and a content, empty or not: set-gid on directories only, content in files only.
@@ -59,19 +58,11 @@ fn has_numbers(tree: &[u8], i: usize) -> bool
     ensures { result ≡ has_numbers (row_bytes_at tree.now i) }
 {
     let at = FIRST + ROW * i;
-    if !is_kind(tree[at + KIND]) {
-        return false;
-    }
-    if 23 < tree[at + OWNER] {
-        return false;
-    }
-    if 24 < tree[at + GROUP] {
-        return false;
-    }
-    if !is_mode(tree::mode_at(tree, i)) {
-        return false;
-    }
-    tree::revision_at(tree, i) <= LAST_REVISION
+    is_kind(tree[at + KIND])
+        && tree[at + OWNER] <= LAST_ACCOUNT
+        && tree[at + GROUP] <= LAST_GROUP
+        && is_mode(tree::mode_at(tree, i))
+        && tree::revision_at(tree, i) <= LAST_REVISION
 }
 
 // Whether zeros fill up a field: behind a zero stands none but a zero.
@@ -81,10 +72,8 @@ fn is_filled(s: &[u8], at: usize, width: usize) -> bool
     ensures { result ≡ is_filled at width s.now }
 {
     let mut all = true;
-    let mut k: usize = 0;
-    while k < width - 1 {
-        all = all & ((s[at + k] != 0) | (s[at + k + 1] == 0));
-        k += 1;
+    for k in 0..width - 1 {
+        all &= (s[at + k] != 0) | (s[at + k + 1] == 0);
     }
     all
 }
@@ -101,7 +90,7 @@ fn name_is_filled(tree: &[u8], i: usize) -> bool
 fn may_name(b: u8) -> bool
     ensures { (next : ℕ) → result ≡ may_name b next }
 {
-    (b == 0) | (((97 <= b) & (b <= 122)) | (((48 <= b) & (b <= 57)) | (b == 95)))
+    (b == 0) | (((b'a' <= b) & (b <= b'z')) | (((b'0' <= b) & (b <= b'9')) | (b == b'_')))
 }
 
 // Whether a row has a name, where zeros fill it up. All bytes of the field are looked at, so that no end has to be found first.
@@ -112,10 +101,8 @@ pub fn has_name(tree: &[u8], i: usize) -> bool
 {
     let at = FIRST + ROW * i + NAME;
     let mut all = true;
-    let mut n: usize = 0;
-    while n < NAME_WIDTH {
-        all = all & may_name(tree[at + n]);
-        n += 1;
+    for n in 0..NAME_WIDTH {
+        all &= may_name(tree[at + n]);
     }
     all & (tree[at] != 0)
 }
@@ -134,17 +121,14 @@ fn has_tag(tree: &[u8], i: usize) -> bool
     if tree[at] == 0 {
         return revision == 0;
     }
-    if !syntax::is_entry_path(tree::tag_path_at(tree, i)) {
-        return false;
-    }
-    revision <= LAST_REVISION
+    syntax::is_entry_path(tree::tag_path_at(tree, i)) && revision <= LAST_REVISION
 }
 
 // Whether a byte may stand before the next in a content filled up: a byte of a content before any, a zero before a zero.
 fn may_stand(b: u8, next: u8) -> bool
     ensures { result ≡ may_stand content_byte b next }
 {
-    ((b == 0) & (next == 0)) | ((32 <= b) & (b <= 126) & (b != 44))
+    ((b == 0) & (next == 0)) | ((b' ' <= b) & (b <= b'~') & (b != b','))
 }
 
 // Whether n bytes from a place may each stand before the next.
@@ -153,10 +137,8 @@ fn all_stand(s: &[u8], at: usize, n: usize) -> bool
     ensures { result ≡ neighbours_pass (may_stand content_byte) at n s.now }
 {
     let mut all = true;
-    let mut i: usize = 0;
-    while i < n {
-        all = all & may_stand(s[at + i], s[at + i + 1]);
-        i += 1;
+    for i in 0..n {
+        all &= may_stand(s[at + i], s[at + i + 1]);
     }
     all
 }
@@ -168,13 +150,9 @@ fn content_stands(s: &[u8], at: usize) -> bool
     ensures { result ≡ content_stands at s.now }
 {
     let last = at + CONTENT_WIDTH - 1;
-    if !all_stand(s, at, CONTENT_WIDTH - AT_ONCE) {
-        return false;
-    }
-    if !all_stand(s, last - AT_ONCE, AT_ONCE) {
-        return false;
-    }
-    may_stand(s[last], 0)
+    all_stand(s, at, CONTENT_WIDTH - AT_ONCE)
+        && all_stand(s, last - AT_ONCE, AT_ONCE)
+        && may_stand(s[last], 0)
 }
 
 // Whether the content is one that the kind allows, zeros fill up its field, and the bytes kept for a merge base are zero.
@@ -183,17 +161,13 @@ fn has_content(tree: &[u8], i: usize) -> bool
     ensures { result ≡ has_content (row_bytes_at tree.now i) }
 {
     let at = FIRST + ROW * i;
-    if !content_stands(tree, at + CONTENT) {
-        return false;
-    }
-    if !fits_kind(
-        tree::kind_at(tree, i),
-        tree::mode_at(tree, i),
-        tree[at + CONTENT] == 0,
-    ) {
-        return false;
-    }
-    is_zero(tree, at + CONTENT + CONTENT_WIDTH, at + ROW)
+    content_stands(tree, at + CONTENT)
+        && fits_kind(
+            tree::kind_at(tree, i),
+            tree::mode_at(tree, i),
+            tree[at + CONTENT] == 0,
+        )
+        && is_zero(tree, at + CONTENT + CONTENT_WIDTH, at + ROW)
 }
 
 // Whether the bytes of a row are those of a node in range.
@@ -201,14 +175,5 @@ pub fn is_row(tree: &[u8], i: usize) -> bool
     requires { HasRow tree.now i }
     ensures { result ≡ is_row (row_bytes_at tree.now i) }
 {
-    if !has_numbers(tree, i) {
-        return false;
-    }
-    if !name_is_filled(tree, i) {
-        return false;
-    }
-    if !has_tag(tree, i) {
-        return false;
-    }
-    has_content(tree, i)
+    has_numbers(tree, i) && name_is_filled(tree, i) && has_tag(tree, i) && has_content(tree, i)
 }

@@ -11,6 +11,7 @@ ghost use Rattle.store.specs.Initial.{directory_of, home_name, homes, topped};
 ghost use Rattle.store.specs.InitialRows.{slot_value, slot_in_range, Opens, OpensAt, NodePut, HomePut, InitialWritten};
 
 use crate::Person;
+use crate::home::home_path;
 use accounts::{Account, Gid, Groups, Uid};
 use edits::{Fresh, plant, put_child};
 use gaps::{last_name, room_for};
@@ -66,13 +67,8 @@ fn put_home(tree: &mut [u8], uid: Uid, person: Person)
     if group.0 == 0 {
         return;
     }
-    if uid.0 < 10 {
-        let path = [b'/', b'u', b'0' + uid.0];
-        put_directory(tree, &path, uid, group, HOME);
-        return;
-    }
-    let path = [b'/', b'u', b'1', b'0' + (uid.0 - 10)];
-    put_directory(tree, &path, uid, group, HOME);
+    let mut path = [0; 4];
+    put_directory(tree, home_path(uid, &mut path), uid, group, HOME);
 }
 
 // Writes the initial tree: `/`, `/rep`, and a home for each person, whatever stood there.
@@ -82,10 +78,8 @@ pub fn write_initial(tree: &mut [u8], persons: [Person; 16])
     ensures { InitialWritten (map slot_value persons) tree.new }
 {
     write_top(tree);
-    let mut k: u8 = 0;
-    while k < 16 {
+    for k in 0..16 {
         let person = persons[k as usize];
         put_home(tree, Uid(k), person);
-        k += 1;
     }
 }

@@ -1,10 +1,12 @@
 // The store: setup, registry and tree as bytes, and the initial tree.
 #![tactic(auto)]
 
+mod home;
 mod initial;
 mod layout;
 
 use accounts::{Gid, Groups};
+pub use home::home_path;
 pub use initial::write_initial;
 pub use layout::{
     DIRECTORIES, DIRECTORY, GRANT, GRANTS, HEADER, PAIR, PAIRS, PASSWORD, PASSWORD_WIDTH, SESSIONS,

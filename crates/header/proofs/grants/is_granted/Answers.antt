@@ -28,12 +28,6 @@ returns-then-grant_has c u z h s e =
     granted_here h a.uid a.role a.password.now s e l.i g.result (omega (arith, grants_counted h)) g.ensures c.if-grant_has.true
     ∙ l.invariant.goes u z h s e
 
-pub overflow_add-i : goal.overflow_add-i
-overflow_add-i c = omega (arith, few_granted c.requires.headed)
-
-pub loop-i-smaller : goal.loop-i-smaller
-loop-i-smaller c = omega arith
-
 pub loop-i-preserved : goal.loop-i-preserved
 loop-i-preserved c =
     let g = c.grant_has in

@@ -14,9 +14,6 @@ loop-i-init c = (omega arith, refl)
 pub depth_at-depth-requires : goal.depth_at-depth-requires
 depth_at-depth-requires c = whole_row c.loop-i.i c.requires.whole (omega arith)
 
-pub overflow_cast-depth : goal.overflow_cast-depth
-overflow_cast-depth c = omega arith
-
 pub offset_bounds-last-depth : goal.offset_bounds-last-depth
 offset_bounds-last-depth c =
     let l = c.loop-i in
@@ -26,12 +23,6 @@ pub bounds-last-depth : goal.bounds-last-depth
 bounds-last-depth c =
     let l = c.loop-i in
     omega (arith, c.depth_at-depth.ensures, encoded_depth c.requires.whole.1 {i = l.i} (omega arith))
-
-pub overflow_add-i : goal.overflow_add-i
-overflow_add-i c = omega arith
-
-pub loop-i-smaller : goal.loop-i-smaller
-loop-i-smaller c = omega arith
 
 pub loop-i-preserved : goal.loop-i-preserved
 loop-i-preserved c =

@@ -29,15 +29,6 @@ loop-k-init c =
     let a = c.args in
     begins a.tree.now a.last a.depth a.answer.now
 
-pub overflow_add-k : goal.overflow_add-k
-overflow_add-k c = omega arith
-
-pub offset_bounds-last-k : goal.offset_bounds-last-k
-offset_bounds-last-k c = omega arith
-
-pub bounds-last-k : goal.bounds-last-k
-bounds-last-k c = omega arith
-
 pub write_name-end-requires : goal.write_name-end-requires
 write_name-end-requires c =
     let g = c.loop-k.invariant in
@@ -45,12 +36,6 @@ write_name-end-requires c =
       has_row = c.requires.told_rows.there (c.loop-k.k + 1) (omega arith);
       at_in_bounds = omega (arith, g.far, g.len);
     }
-
-pub overflow_add-k-in-loop-k : goal.overflow_add-k-in-loop-k
-overflow_add-k-in-loop-k c = omega arith
-
-pub loop-k-smaller : goal.loop-k-smaller
-loop-k-smaller c = omega arith
 
 pub loop-k-preserved : goal.loop-k-preserved
 loop-k-preserved c =

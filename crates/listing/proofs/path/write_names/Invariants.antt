@@ -1,6 +1,6 @@
 use mathlib.Core.Path.{◌≡◌}
 use mathlib.Core.List.{List}
-use Prim.Native.Nat.{ℕ, ◌≤◌, ◌*◌, ◌-◌}
+use Prim.Native.Nat.{ℕ, ◌≤◌, ◌*◌}
 use lib.ListN.{length}
 use Rattle.buffers.specs.Over.{Wrote}
 use Rattle.syntax.specs.Path.{names_text}
@@ -15,6 +15,3 @@ pub record Going (tree last : List ℕ) (depth : ℕ) (answer₀ answer : List �
 
 abbrev pub invariant-loop-k : goal.invariant-loop-k
 invariant-loop-k l = Going l.tree l.last l.depth l.initial.answer l.answer l.end l.k
-
-abbrev pub decreases-loop-k : goal.decreases-loop-k
-decreases-loop-k l = l.depth - l.k

@@ -1,11 +1,13 @@
--- `sound_store::pairs_part::is_pair` meets its contract: each return by the bytes that have been tested.
-use mathlib.Core.Path.{sym}
-use native.Mathlib.Omega.{arith}
-use Rattle.sound_store.specs.StoreStepLaws.{pair_rises, pair_falls}
+-- `sound_store::pairs_part::is_pair` meets its contract: by both bytes.
+use Rattle.std.proofs.Common.{arith}
+use Rattle.std.proofs.lemmas.Bool.Decides.{nat_tests}
+use Rattle.sound_store.specs.HeaderTests.{is_pair_at}
 use Rattle.sound_store.proofs.pairs_part.is_pair.Goals as goal
 
-pub returns-then-junior-senior : goal.returns-then-junior-senior
-returns-then-junior-senior c = let a = c.args in sym (pair_rises a.header.now a.k (omega arith))
+pub returns-then-senior-junior : goal.returns-then-senior-junior
+unfolding is_pair_at
+returns-then-senior-junior c = grind (arith, nat_tests)
 
-pub returns : goal.returns
-returns c = let a = c.args in sym (pair_falls a.header.now a.k (omega arith))
+pub returns-else-senior-junior : goal.returns-else-senior-junior
+unfolding is_pair_at
+returns-else-senior-junior c = grind (arith, nat_tests)

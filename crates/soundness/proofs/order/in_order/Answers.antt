@@ -76,26 +76,11 @@ module _ {b last : List ℕ} {i : ℕ} (g : Going b last i) where
 pub loop-i-init : goal.loop-i-init
 loop-i-init c = begins c.args.tree.now (replicate 7 0) c.requires.tree_value refl
 
-pub is_row-requires : goal.is_row-requires
-is_row-requires c = omega arith
-
 pub returns-then-not-is_row : goal.returns-then-not-is_row
 returns-then-not-is_row c = unsound c.loop-i.invariant (omega arith) (answers_false c.is_row.ensures c.if-not-is_row.true-raw)
 
-pub depth_at-depth-requires : goal.depth_at-depth-requires
-depth_at-depth-requires c = omega arith
-
-pub overflow_cast-depth : goal.overflow_cast-depth
-overflow_cast-depth c = omega arith
-
 pub returns-then-depth-gt-MOST_NAMES : goal.returns-then-depth-gt-MOST_NAMES
 returns-then-depth-gt-MOST_NAMES c = too-deep c.loop-i.invariant (omega arith) (omega arith)
-
-pub offset_bounds-last-depth : goal.offset_bounds-last-depth
-offset_bounds-last-depth c = omega arith
-
-pub bounds-last-depth : goal.bounds-last-depth
-bounds-last-depth c = omega arith
 
 pub may_follow-requires : goal.may_follow-requires
 may_follow-requires c =
@@ -114,18 +99,6 @@ pub returns-then-not-may_follow : goal.returns-then-not-may_follow
 returns-then-not-may_follow c =
     let d = c.depth_at-depth in
     astray c.loop-i.invariant d.result d.ensures (omega arith) c.may_follow.ensures c.if-not-may_follow.true-raw
-
-pub offset_bounds-last-depth-in-loop-i : goal.offset_bounds-last-depth-in-loop-i
-offset_bounds-last-depth-in-loop-i c = omega arith
-
-pub bounds-last-depth-in-loop-i : goal.bounds-last-depth-in-loop-i
-bounds-last-depth-in-loop-i c = omega arith
-
-pub overflow_add-i : goal.overflow_add-i
-overflow_add-i c = omega arith
-
-pub loop-i-smaller : goal.loop-i-smaller
-loop-i-smaller c = omega arith
 
 pub loop-i-preserved : goal.loop-i-preserved
 loop-i-preserved c =

@@ -8,30 +8,6 @@ use Rattle.soundness.proofs.row.all_stand.Goals as goal
 pub loop-i-init : goal.loop-i-init
 loop-i-init c = let a = c.args in begins (may_stand content_byte) a.s.now a.at a.n
 
-pub overflow_add-at : goal.overflow_add-at
-overflow_add-at c = omega arith
-
-pub bounds-s-at : goal.bounds-s-at
-bounds-s-at c = omega arith
-
-pub overflow_add-at-in-loop-i : goal.overflow_add-at-in-loop-i
-overflow_add-at-in-loop-i c = omega arith
-
-pub overflow_add-at-in-loop-i-2 : goal.overflow_add-at-in-loop-i-2
-overflow_add-at-in-loop-i-2 c = omega arith
-
-pub bounds-s-at-in-loop-i : goal.bounds-s-at-in-loop-i
-bounds-s-at-in-loop-i c = omega arith
-
-pub may_stand-all-requires : goal.may_stand-all-requires
-may_stand-all-requires c = tt
-
-pub overflow_add-i : goal.overflow_add-i
-overflow_add-i c = omega arith
-
-pub loop-i-smaller : goal.loop-i-smaller
-loop-i-smaller c = omega arith
-
 pub loop-i-preserved : goal.loop-i-preserved
 loop-i-preserved c =
     let a = c.args in

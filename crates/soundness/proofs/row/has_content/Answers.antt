@@ -1,31 +1,36 @@
--- `soundness::row::has_content` meets its contract: each return by the bytes, the kind, or the zeros behind them.
-use mathlib.Core.Path.{sym, ◌∙◌}
-use mathlib.Core.Bool.{and-false}
+-- `soundness::row::has_content` meets its contract: the bytes, the kind, and the zeros behind them.
+use mathlib.Core.Path.{◌≡◌, refl, sym, ◌∙◌}
+use mathlib.Core.Bool.{◌&&◌}
+use Prim.Native.Nat.{◌+◌}
 use native.Mathlib.Omega.{arith}
-use Rattle.buffers.specs.Cases.{answers_false, answers_true}
+use Rattle.tree.specs.Layout.{row_start, content_offset}
 use Rattle.tree.specs.RowAt.{row_at}
+use Rattle.tree.specs.WellFormed.{fits_kind}
+use Rattle.soundness.specs.Tests.{content_stands}
+use Rattle.soundness.specs.BothLaws.{both, not_both}
 use Rattle.soundness.specs.FieldTestLaws.{content_empty, content_in_row}
 use Rattle.soundness.proofs.row.has_content.Goals as goal
+use Rattle.soundness.proofs.row.has_content.Goals.{Joined-content_stands, then-content_stands, else-content_stands}
 
-pub returns-then-not-content_stands : goal.returns-then-not-content_stands
-returns-then-not-content_stands c =
-    let a = c.args in
-    let e = answers_false c.content_stands.ensures c.if-not-content_stands.true-raw in
-    sym (content_in_row a.tree.now a.i (omega arith) ∙ rw e)
+-- the content itself
+front : (c : Joined-content_stands) → (let t = c.args.tree.now in let n = (row_at t c.args.i).here in
+    c.if-content_stands.value ≡ (content_stands (row_start c.args.i + content_offset) t && fits_kind n.kind n.mode n.content))
+front c =
+    let t = c.args.tree.now in
+    let i = c.args.i in
+    elim c.if-content_stands.branch [
+      | then-content_stands w ↦
+          let f = rw (w.kind_at.ensures, w.mode_at.ensures) at (w.fits_kind.ensures (row_at t i).here.content (content_empty t i)) in
+          both c.content_stands.ensures w.if-content_stands.true (w.value-is ∙ f)
+      | else-content_stands w ↦ not_both _ c.content_stands.ensures w.if-content_stands.false w.value-is
+    ]
 
-pub returns-then-not-fits_kind : goal.returns-then-not-fits_kind
-returns-then-not-fits_kind c =
-    let a = c.args in
-    let t = a.tree.now in
-    let f = answers_false (c.fits_kind.ensures (row_at t a.i).here.content (content_empty t a.i)) c.if-not-fits_kind.true-raw in
-    let e = rw (c.kind_at.ensures, c.mode_at.ensures) at f in
-    sym (content_in_row t a.i (omega arith) ∙ simp (e, and-false))
+pub returns-then-fits_kind : goal.returns-then-fits_kind
+returns-then-fits_kind c =
+    both (front (goal.at.returns-then-fits_kind c).Joined-content_stands) c.if-fits_kind.true c.is_zero.ensures
+    ∙ sym (content_in_row c.args.tree.now c.args.i (omega arith))
 
-pub returns : goal.returns
-returns c =
-    let a = c.args in
-    let t = a.tree.now in
-    let s = answers_true c.content_stands.ensures c.if-not-content_stands.false-raw in
-    let f = answers_true (c.fits_kind.ensures (row_at t a.i).here.content (content_empty t a.i)) c.if-not-fits_kind.false-raw in
-    let e = rw (c.kind_at.ensures, c.mode_at.ensures) at f in
-    c.is_zero.ensures ∙ sym (content_in_row t a.i (omega arith) ∙ rw (s, e))
+pub returns-else-fits_kind : goal.returns-else-fits_kind
+returns-else-fits_kind c =
+    not_both _ (front (goal.at.returns-else-fits_kind c).Joined-content_stands) c.if-fits_kind.false refl
+    ∙ sym (content_in_row c.args.tree.now c.args.i (omega arith))

@@ -12,41 +12,14 @@ use Rattle.soundness.specs.NeighbourLaws.{begins, one_more, ends}
 use Rattle.soundness.specs.FieldTestLaws.{name_in_row}
 use Rattle.soundness.proofs.row.has_name.Goals as goal
 
-pub overflow_mul-at : goal.overflow_mul-at
-overflow_mul-at c = omega arith
-
-pub overflow_add-at : goal.overflow_add-at
-overflow_add-at c = omega arith
-
-pub overflow_add-at-2 : goal.overflow_add-at-2
-overflow_add-at-2 c = omega arith
-
 pub loop-n-init : goal.loop-n-init
 loop-n-init c = let a = c.args in begins may_name a.tree.now (row_start a.i + name_offset) name_width
-
-pub overflow_add-at-in-loop-n : goal.overflow_add-at-in-loop-n
-overflow_add-at-in-loop-n c = omega arith
-
-pub bounds-tree-at : goal.bounds-tree-at
-bounds-tree-at c = omega arith
-
-pub may_name-all-requires : goal.may_name-all-requires
-may_name-all-requires c = tt
-
-pub overflow_add-n : goal.overflow_add-n
-overflow_add-n c = omega arith
-
-pub loop-n-smaller : goal.loop-n-smaller
-loop-n-smaller c = omega arith
 
 pub loop-n-preserved : goal.loop-n-preserved
 loop-n-preserved c =
     let a = c.args in
     let at = row_start a.i + name_offset in
     one_more may_name a.tree.now at name_width c.may_name-all.result c.loop-n.invariant (omega arith) (c.may_name-all.ensures (get_or a.tree.now (at + c.loop-n.n + 1) 0))
-
-pub bounds-tree-at-2 : goal.bounds-tree-at-2
-bounds-tree-at-2 c = omega arith
 
 pub returns : goal.returns
 returns c =

@@ -1,4 +1,3 @@
-use Prim.Native.Nat.{◌-◌}
 use Rattle.tree.specs.Layout.{name_width}
 use Rattle.soundness.specs.Tests.{may_name}
 use Rattle.soundness.specs.NeighbourLaws.{PassedUpTo}
@@ -6,6 +5,3 @@ use Rattle.soundness.proofs.row.has_name.Given as goal
 
 abbrev pub invariant-loop-n : goal.invariant-loop-n
 invariant-loop-n l = PassedUpTo may_name l.tree l.at name_width l.all l.n
-
-abbrev pub decreases-loop-n : goal.decreases-loop-n
-decreases-loop-n l = name_width - l.n

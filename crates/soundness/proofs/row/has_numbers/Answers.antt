@@ -1,38 +1,48 @@
--- `soundness::row::has_numbers` meets its contract: each return by one field of the row.
-use mathlib.Core.Path.{sym, ◌∙◌, ap}
-use native.Mathlib.Omega.{arith}
-use Prim.Native.Nat.{ℕ}
+-- `soundness::row::has_numbers` meets its contract: number by number.
+use mathlib.Core.Path.{◌≡◌, refl, ◌∙◌, ap}
+use mathlib.Core.Bool.{◌&&◌}
+use Prim.Native.Nat.{ℕ, ◌+◌}
 use lib.Dec.{leb}
-use Rattle.buffers.specs.Cases.{answers_false, answers_true}
+use lib.ListN.{get_or}
 use Rattle.syntax.specs.Number.{is_mode}
+use Rattle.tree.specs.Layout.{row_start, kind_offset, owner_offset, group_offset}
+use Rattle.tree.specs.RowAt.{row_at}
 use Rattle.tree.specs.WellFormed.{last_revision}
-use Rattle.soundness.specs.FieldTestLaws.{numbers_kind, numbers_owner, numbers_group, numbers_mode, numbers_revision}
+use Rattle.soundness.specs.Tests.{is_kind_byte}
+use Rattle.soundness.specs.BothLaws.{both, not_both}
+use Rattle.soundness.specs.FieldTestLaws.{numbers_in_row}
 use Rattle.soundness.proofs.row.has_numbers.Goals as goal
+use Rattle.soundness.proofs.row.has_numbers.Goals.{Joined-tree-at-le-LAST_GROUP, then-is_kind, else-is_kind, then-tree-at-le-LAST_ACCOUNT, else-tree-at-le-LAST_ACCOUNT, then-tree-at-le-LAST_GROUP, else-tree-at-le-LAST_GROUP}
 
-pub returns-then-not-is_kind : goal.returns-then-not-is_kind
-returns-then-not-is_kind c =
-    let a = c.args in
-    sym (numbers_kind a.tree.now a.i (answers_false c.is_kind.ensures c.if-not-is_kind.true-raw))
+-- all numbers but the revision
+front : (c : Joined-tree-at-le-LAST_GROUP) → (let t = c.args.tree.now in let at = row_start c.args.i in
+    c.if-tree-at-le-LAST_GROUP.value
+    ≡ (((is_kind_byte (get_or t (at + kind_offset) 0) && leb (get_or t (at + owner_offset) 0) 23) && leb (get_or t (at + group_offset) 0) 24)
+    && is_mode (row_at t c.args.i).here.mode))
+front c =
+    let t = c.args.tree.now in
+    let at = row_start c.args.i in
+    let kind = is_kind_byte (get_or t (at + kind_offset) 0) in
+    let owner = leb (get_or t (at + owner_offset) 0) 23 in
+    let two : c.if-is_kind.value ≡ (kind && owner) = elim c.if-is_kind.branch [
+      | then-is_kind w ↦ both c.is_kind.ensures w.if-is_kind.true w.value-is
+      | else-is_kind w ↦ not_both _ c.is_kind.ensures w.if-is_kind.false w.value-is
+    ] in
+    let three : c.if-tree-at-le-LAST_ACCOUNT.value ≡ ((kind && owner) && leb (get_or t (at + group_offset) 0) 24) = elim c.if-tree-at-le-LAST_ACCOUNT.branch [
+      | then-tree-at-le-LAST_ACCOUNT w ↦ both two w.if-tree-at-le-LAST_ACCOUNT.true w.value-is
+      | else-tree-at-le-LAST_ACCOUNT w ↦ not_both _ two w.if-tree-at-le-LAST_ACCOUNT.false w.value-is
+    ] in
+    elim c.if-tree-at-le-LAST_GROUP.branch [
+      | then-tree-at-le-LAST_GROUP w ↦ both three w.if-tree-at-le-LAST_GROUP.true (w.value-is ∙ w.is_mode.ensures ∙ ap is_mode w.mode_at.ensures)
+      | else-tree-at-le-LAST_GROUP w ↦ not_both _ three w.if-tree-at-le-LAST_GROUP.false w.value-is
+    ]
 
-pub returns-then-tree-at-gt23 : goal.returns-then-tree-at-gt23
-returns-then-tree-at-gt23 c =
-    let a = c.args in
-    sym (numbers_owner a.tree.now a.i (omega arith))
-
-pub returns-then-tree-at-gt24 : goal.returns-then-tree-at-gt24
-returns-then-tree-at-gt24 c =
-    let a = c.args in
-    sym (numbers_group a.tree.now a.i (omega arith))
-
-pub returns-then-not-is_mode : goal.returns-then-not-is_mode
-returns-then-not-is_mode c =
-    let a = c.args in
-    sym (numbers_mode a.tree.now a.i (ap is_mode (sym c.mode_at.ensures) ∙ answers_false c.is_mode.ensures c.if-not-is_mode.true-raw))
-
-pub returns : goal.returns
+pub returns-then-is_mode : goal.returns-then-is_mode
 unfolding last_revision
-returns c =
-    let a = c.args in
-    let kind = answers_true c.is_kind.ensures c.if-not-is_kind.false-raw in
-    let mode = ap is_mode (sym c.mode_at.ensures) ∙ answers_true c.is_mode.ensures c.if-not-is_mode.false-raw in
-    ap (λ (v : ℕ). leb v last_revision) c.revision_at.ensures ∙ sym (numbers_revision a.tree.now a.i kind (omega arith) (omega arith) mode)
+returns-then-is_mode c =
+    both (front (goal.at.returns-then-is_mode c).Joined-tree-at-le-LAST_GROUP) c.if-is_mode.true (ap (λ (v : ℕ). leb v last_revision) c.revision_at.ensures)
+    ∙ numbers_in_row c.args.tree.now c.args.i
+
+pub returns-else-is_mode : goal.returns-else-is_mode
+returns-else-is_mode c =
+    not_both _ (front (goal.at.returns-else-is_mode c).Joined-tree-at-le-LAST_GROUP) c.if-is_mode.false refl ∙ numbers_in_row c.args.tree.now c.args.i

@@ -18,30 +18,6 @@ by_zero b next = case (eqb b 0) (λ e. rw e) (λ e. rw e)
 pub loop-k-init : goal.loop-k-init
 loop-k-init c = let a = c.args in begins (may_stand any_byte) a.s.now a.at (a.width - 1)
 
-pub overflow_sub-width : goal.overflow_sub-width
-overflow_sub-width c = omega arith
-
-pub overflow_add-all : goal.overflow_add-all
-overflow_add-all c = omega arith
-
-pub bounds-s-at : goal.bounds-s-at
-bounds-s-at c = omega arith
-
-pub overflow_add-all-in-loop-k : goal.overflow_add-all-in-loop-k
-overflow_add-all-in-loop-k c = omega arith
-
-pub overflow_add-all-in-loop-k-2 : goal.overflow_add-all-in-loop-k-2
-overflow_add-all-in-loop-k-2 c = omega arith
-
-pub bounds-s-at-in-loop-k : goal.bounds-s-at-in-loop-k
-bounds-s-at-in-loop-k c = omega arith
-
-pub overflow_add-k : goal.overflow_add-k
-overflow_add-k c = omega arith
-
-pub loop-k-smaller : goal.loop-k-smaller
-loop-k-smaller c = omega arith
-
 pub loop-k-preserved : goal.loop-k-preserved
 loop-k-preserved c =
     let a = c.args in

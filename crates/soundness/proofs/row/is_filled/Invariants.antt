@@ -5,6 +5,3 @@ use Rattle.soundness.proofs.row.is_filled.Given as goal
 
 abbrev pub invariant-loop-k : goal.invariant-loop-k
 invariant-loop-k l = PassedUpTo (may_stand any_byte) l.s l.at (l.width - 1) l.all l.k
-
-abbrev pub decreases-loop-k : goal.decreases-loop-k
-decreases-loop-k l = l.width - 1 - l.k

@@ -1,13 +1,14 @@
 -- `soundness::row::is_kind` meets its contract: by the two bytes that say one.
-use borrow.Author.Tests.{eq-eqb, ne_eqb}
+use Rattle.std.proofs.Common.{arith}
+use Rattle.std.proofs.lemmas.Bool.Decides.{nat_tests}
 use Rattle.tree.specs.Encoding.{kind_byte}
 use Rattle.soundness.specs.Tests.{is_kind_byte}
 use Rattle.soundness.proofs.row.is_kind.Goals as goal
 
-pub returns-then-b-eq-DIRECTORY : goal.returns-then-b-eq-DIRECTORY
+pub returns-in-100 : goal.returns-in-100
 unfolding is_kind_byte kind_byte
-returns-then-b-eq-DIRECTORY c = rw (eq-eqb c.args.b 100 c.if-b-eq-DIRECTORY.true)
+returns-in-100 c = grind (arith, nat_tests)
 
-pub returns : goal.returns
+pub returns-in_default : goal.returns-in_default
 unfolding is_kind_byte kind_byte
-returns c = rw (ne_eqb c.args.b 100 c.if-b-eq-DIRECTORY.false)
+returns-in_default c = grind (arith, nat_tests)

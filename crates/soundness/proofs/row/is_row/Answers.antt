@@ -1,37 +1,45 @@
--- `soundness::row::is_row` meets its contract: each return by the fields that have been tested.
-use mathlib.Core.Path.{◌≡◌, sym, ◌∙◌}
-use mathlib.Core.List.{List}
-use Prim.Native.Nat.{ℕ}
+-- `soundness::row::is_row` meets its contract: field by field.
+use mathlib.Core.Path.{◌≡◌, refl, ◌∙◌}
+use mathlib.Core.Bool.{◌&&◌, and_assoc}
 use native.Mathlib.Omega.{arith}
-use Rattle.buffers.specs.Cases.{answers_false, answers_true}
+use Rattle.tree.specs.Layout.{name_offset, name_width}
 use Rattle.tree.specs.RowAt.{row_bytes_at}
+use Rattle.buffers.specs.Fields.{is_filled}
 use Rattle.soundness.specs.Sound.{is_row}
-use Rattle.soundness.specs.Tests.{row_test}
-use Rattle.soundness.specs.FieldTestLaws.{fields_are_row, test_numbers, test_name, test_tag, test_content}
+use Rattle.soundness.specs.Tests.{has_numbers, has_tag, has_content, row_test}
+use Rattle.soundness.specs.BothLaws.{both, not_both}
+use Rattle.soundness.specs.FieldTestLaws.{fields_are_row}
 use Rattle.soundness.proofs.row.is_row.Goals as goal
-use Rattle.soundness.proofs.row.is_row.Goals.{After-shared_slice_known-1}
+use Rattle.soundness.proofs.row.is_row.Goals.{Joined-name_is_filled, then-has_numbers, else-has_numbers, then-name_is_filled, else-name_is_filled}
 
-abbrev bytes_of : (c : After-shared_slice_known-1) → List ℕ
-bytes_of k = row_bytes_at k.before.args.tree.now k.before.args.i
+-- all fields but the content
+front : (c : Joined-name_is_filled) → (let x = row_bytes_at c.args.tree.now c.args.i in
+    c.if-name_is_filled.value ≡ ((has_numbers x && is_filled name_offset name_width x) && has_tag x))
+front c =
+    let x = row_bytes_at c.args.tree.now c.args.i in
+    let two : c.if-has_numbers.value ≡ (has_numbers x && is_filled name_offset name_width x) = elim c.if-has_numbers.branch [
+      | then-has_numbers w ↦ both c.has_numbers.ensures w.if-has_numbers.true (w.value-is ∙ w.name_is_filled.ensures)
+      | else-has_numbers w ↦ not_both _ c.has_numbers.ensures w.if-has_numbers.false w.value-is
+    ] in
+    elim c.if-name_is_filled.branch [
+      | then-name_is_filled w ↦ both two w.if-name_is_filled.true (w.value-is ∙ w.has_tag.ensures)
+      | else-name_is_filled w ↦ not_both _ two w.if-name_is_filled.false w.value-is
+    ]
 
-whole : (c : After-shared_slice_known-1) → row_test (bytes_of c) ≡ is_row (bytes_of c)
-whole c = fields_are_row c.args.tree.now c.args.i (omega arith) (λ j. omega (arith, c.shared_slice_known-1.given j))
+whole : (c : Joined-name_is_filled) → (let x = row_bytes_at c.args.tree.now c.args.i in
+    (((has_numbers x && is_filled name_offset name_width x) && has_tag x) && has_content x) ≡ is_row x)
+unfolding row_test
+whole c =
+    let x = row_bytes_at c.args.tree.now c.args.i in
+    and_assoc (has_numbers x && is_filled name_offset name_width x) (has_tag x) (has_content x)
+    ∙ fields_are_row c.args.tree.now c.args.i (omega arith) (λ j. omega (arith, c.type_inv.tree j))
 
-pub returns-then-not-has_numbers : goal.returns-then-not-has_numbers
-returns-then-not-has_numbers c =
-    sym (test_numbers (bytes_of (goal.at.returns-then-not-has_numbers c).After-shared_slice_known-1) (answers_false c.has_numbers.ensures c.if-not-has_numbers.true-raw)) ∙ whole (goal.at.returns-then-not-has_numbers c).After-shared_slice_known-1
+pub returns-then-has_tag : goal.returns-then-has_tag
+returns-then-has_tag c =
+    let j = (goal.at.returns-then-has_tag c).Joined-name_is_filled in
+    both (front j) c.if-has_tag.true c.has_content.ensures ∙ whole j
 
-pub returns-then-not-name_is_filled : goal.returns-then-not-name_is_filled
-returns-then-not-name_is_filled c =
-    sym (test_name (bytes_of (goal.at.returns-then-not-name_is_filled c).After-shared_slice_known-1) (answers_false c.name_is_filled.ensures c.if-not-name_is_filled.true-raw)) ∙ whole (goal.at.returns-then-not-name_is_filled c).After-shared_slice_known-1
-
-pub returns-then-not-has_tag : goal.returns-then-not-has_tag
-returns-then-not-has_tag c =
-    sym (test_tag (bytes_of (goal.at.returns-then-not-has_tag c).After-shared_slice_known-1) (answers_false c.has_tag.ensures c.if-not-has_tag.true-raw)) ∙ whole (goal.at.returns-then-not-has_tag c).After-shared_slice_known-1
-
-pub returns : goal.returns
-returns c =
-    let numbers = answers_true c.has_numbers.ensures c.if-not-has_numbers.false-raw in
-    let name = answers_true c.name_is_filled.ensures c.if-not-name_is_filled.false-raw in
-    let tag = answers_true c.has_tag.ensures c.if-not-has_tag.false-raw in
-    c.has_content.ensures ∙ sym (test_content (bytes_of (goal.at.returns c).After-shared_slice_known-1) numbers name tag) ∙ whole (goal.at.returns c).After-shared_slice_known-1
+pub returns-else-has_tag : goal.returns-else-has_tag
+returns-else-has_tag c =
+    let j = (goal.at.returns-else-has_tag c).Joined-name_is_filled in
+    not_both _ (front j) c.if-has_tag.false refl ∙ whole j

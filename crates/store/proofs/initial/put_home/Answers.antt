@@ -1,11 +1,11 @@
--- `store::initial::put_home` meets its contract: no home, or a directory at the path whose digits are the account's.
+-- `store::initial::put_home` meets its contract: no home, or a directory at the path of the account's.
 use mathlib.Core.Path.{sym, ◌∙◌, ap}
 use native.Mathlib.Omega.{arith}
 use Rattle.tree.specs.Forest.{Forest}
 use Rattle.tree.specs.Node.{Node}
 use Rattle.tree.specs.Encoding.{encode_tree}
 use Rattle.store.specs.Initial.{home_name, topped}
-use Rattle.store.proofs.InitialRowsLaws.{opens_at, short_path, long_path, no_home, home_put}
+use Rattle.store.proofs.InitialRowsLaws.{opens_at, no_home, home_put}
 use Rattle.store.proofs.initial.put_home.Goals as goal
 
 pub returns-then-group-eq0 : goal.returns-then-group-eq0
@@ -15,20 +15,10 @@ returns-then-group-eq0 c f h =
 
 pub put_directory-requires : goal.put_directory-requires
 put_directory-requires c =
-    (home_name c.args.uid, topped c.requires.opens.0, opens_at _ (short_path c.args.uid (omega arith)) c.requires.opens.1)
-
-pub returns-then-uid-lt10 : goal.returns-then-uid-lt10
-returns-then-uid-lt10 c f h =
-    let a = c.args in
-    c.put_directory.ensures (home_name a.uid) (topped f) (opens_at _ (short_path a.uid (omega arith)) h)
-    ∙ ap encode_tree (home_put a.uid a.person f (λ z. omega arith))
-
-pub put_directory-requires-2 : goal.put_directory-requires-2
-put_directory-requires-2 c =
-    (home_name c.args.uid, topped c.requires.opens.0, opens_at _ (long_path c.args.uid (omega arith) (omega arith)) c.requires.opens.1)
+    (home_name c.args.uid, topped c.requires.opens.0, opens_at _ c.home_path.ensures.path c.requires.opens.1)
 
 pub returns : goal.returns
 returns c f h =
     let a = c.args in
-    c.put_directory-2.ensures (home_name a.uid) (topped f) (opens_at _ (long_path a.uid (omega arith) (omega arith)) h)
+    c.put_directory.ensures (home_name a.uid) (topped f) (opens_at _ c.home_path.ensures.path h)
     ∙ ap encode_tree (home_put a.uid a.person f (λ z. omega arith))

@@ -23,9 +23,6 @@ put_home-requires c =
       opens = (homes (with_persons (map slot_value c.args.persons)) l.k, turn_opens c.args.persons c.requires.persons_value l.tree l.k h l.invariant.encoded);
     }
 
-pub loop-k-smaller : goal.loop-k-smaller
-loop-k-smaller c = omega arith
-
 pub loop-k-preserved : goal.loop-k-preserved
 loop-k-preserved c =
     let p = c.put_home in

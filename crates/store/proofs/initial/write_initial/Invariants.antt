@@ -1,6 +1,6 @@
 use mathlib.Core.Path.{◌≡◌}
 use mathlib.Core.List.{List, map}
-use Prim.Native.Nat.{ℕ, ◌-◌, ◌≤◌}
+use Prim.Native.Nat.{ℕ, ◌≤◌}
 use Rattle.tree.specs.Encoding.{encode_tree}
 use Rattle.tree.specs.TreeBytes.{Wide}
 use Rattle.store.specs.declared.Person.{Person as Slot}
@@ -17,6 +17,3 @@ pub record Turned (persons : List Slot) (b : List ℕ) (k : ℕ) : Type 0 where
 
 abbrev pub invariant-loop-k : goal.invariant-loop-k
 invariant-loop-k l = Turned l.persons l.tree l.k
-
-abbrev pub decreases-loop-k : goal.decreases-loop-k
-decreases-loop-k l = 16 - l.k
