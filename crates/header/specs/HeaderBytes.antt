@@ -1,4 +1,6 @@
 -- What it is that bytes are a store's header, what the code reads and writes there, and what the two commands on it promise.
+use Rattle.std.specs.Prelude as code
+use Rattle.std.specs.Prelude.{Some, None}
 use Rattle.std.specs.Prelude.{◌≡◌, List, Bool, true, ◌&&◌, ℕ, ◌+◌, get_or}
 use Rattle.std.proofs.Math.Option.{Option, none, some}
 use Rattle.buffers.specs.Text.{Text, same_text}
@@ -14,15 +16,13 @@ use Rattle.syntax.specs.Path.{Path, is_path, path_text}
 use Rattle.setup.specs.Setup.{Grant, Setup, is_setup}
 use Rattle.tree.specs.declared.Cause.TheVariants.{UnknownCaller}
 use Rattle.tree.specs.Result.{Result, refused, done, ◌>>=◌, Outcome}
-use Rattle.shell.specs.declared.Answer.{Answer}
+use Rattle.shell.specs.Replies.{Answer}
 use Rattle.shell.specs.CommandBytes.{CarriesSilently}
 use Rattle.store.specs.HeaderLayout.{password_offset, password_width, grant_start}
 use Rattle.store.specs.State.{Registry, set_session, set_directory, is_registry}
 use Rattle.store.specs.StoreBytes.{header_bytes}
 use Rattle.store.specs.Callers.{granted}
 use Rattle.store.specs.Logins.{logged_in, logged_out}
-use Rattle.header.specs.declared.Known.{Known}
-use Rattle.header.specs.declared.Known.TheVariants.{As, Nobody}
 
 -- the bytes of the header of a setup in range and a well-formed registry
 pub record Heads (b : List ℕ) (u : Setup) (z : Registry) : Type 0 where
@@ -39,9 +39,9 @@ abbrev pub Whose : List ℕ → (Setup → Registry → Type 0) → Type 0
 Whose b P = (u : Setup) (z : Registry) → Heads b u z → P u z
 
 -- who an answer of the code says that calls
-unfoldable pub known : Known → Result Caller
-known (As c) = done c
-known Nobody = refused UnknownCaller
+unfoldable pub known : code.Option Caller → Result Caller
+known (Some c) = done c
+known None = refused UnknownCaller
 
 -- the code's session that holds one role or none
 unfoldable pub session_held : Option BoundedRole → Session

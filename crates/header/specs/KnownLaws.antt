@@ -18,7 +18,7 @@ use Rattle.store.specs.HeaderLayout.{slot_width}
 use Rattle.store.specs.State.{Registry}
 use Rattle.store.proofs.PersonLaws.{person_in_range}
 use Rattle.store.specs.Callers.{person_caller, known_caller, caller}
-use Rattle.header.specs.declared.Known.TheVariants.{As, Nobody}
+use Rattle.std.specs.Prelude.{Some, None}
 use Rattle.header.specs.HeaderBytes.{Heads, known}
 use Rattle.header.specs.HeaderBytesLaws.{filled_slot}
 
@@ -28,18 +28,18 @@ calls_as v groups primary = record { account = record { uid = v; groups = groups
 
 module _ (u : Setup) (v : Uid) where
   -- root is in group 0 alone
-  pub root_known : (g : Groups) → v.0 ≡ 0 → g ≡ with_group (record { 0 = 0 }) no_groups → known (As (calls_as v g (record { 0 = 0 }))) ≡ caller u v
+  pub root_known : (g : Groups) → v.0 ≡ 0 → g ≡ with_group (record { 0 = 0 }) no_groups → known (Some (calls_as v g (record { 0 = 0 }))) ≡ caller u v
   unfolding known caller
   root_known g e q = rw (is_root_is v, eq-eqb v.0 0 e, root_caller_is) (λ i. done (calls_as (record { 0 = e i }) (q i) (record { 0 = 0 })))
 
   -- who is no person is nobody
-  pub nobody_known : (v.0 ≡ 0 → ⊥) → person u v ≡ none → known Nobody ≡ caller u v
+  pub nobody_known : (v.0 ≡ 0 → ⊥) → person u v ≡ none → known None ≡ caller u v
   unfolding known caller known_caller
   nobody_known n e = rw (is_root_is v, ne_eqb v.0 0 n, e, present_none {A = Person} UnknownCaller, refused_bind UnknownCaller (λ w. done (person_caller v w)))
 
   -- a person is in the primary and the further groups
   pub person_known : (p : Person) (g : Groups) → (v.0 ≡ 0 → ⊥) → person u v ≡ some p → g ≡ with_group p.primary p.further
-      → known (As (calls_as v g p.primary)) ≡ caller u v
+      → known (Some (calls_as v g p.primary)) ≡ caller u v
   unfolding known caller known_caller person_caller
   person_known p g n e q =
       rw (is_root_is v, ne_eqb v.0 0 n, e, present_of p UnknownCaller, done_bind p (λ w. done (person_caller v w)))

@@ -8,16 +8,8 @@ mod grants;
 mod roles;
 mod sessions;
 
-use accounts::Caller;
 pub use callers::caller_of;
 pub use directories::{directory_of, set_directory};
 pub use grants::is_granted;
 pub use roles::dominance_of;
 pub use sessions::{login, logout, session_of, set_session};
-
-// Who an account number is: a caller, or nobody that the setup names.
-#[derive(Clone, Copy)]
-pub enum Known {
-    As(Caller),
-    Nobody,
-}
