@@ -1,5 +1,5 @@
-// One attribute of a place changed, if the caller may: the checks over the tree, then a change that cannot fail. The four are written
-// out, since one function over a change handed to it would be no shorter: beside the checks each is its own change, for its own steps.
+// One attribute of a place changed, if the caller may: the checks over the tree, then a change that cannot fail. Each writes its three
+// lines out: a function that took the change would ask for that change's law, and leave to each its deed, its change and its steps.
 ghost use Rattle.std.specs.Prelude.{◌≤◌, length};
 ghost use Rattle.tree.specs.Layout.{content_width};
 ghost use Rattle.tree.specs.TreeBytes.{Whole, PathText};

@@ -6,14 +6,14 @@ use Rattle.accounts.specs.declared.Right.TheVariants.{W}
 use Rattle.syntax.specs.Path.{Path, parent, last, depth, same_path, lies_below, reserved, most_names}
 use Rattle.tree.specs.declared.Kind.{Kind}
 use Rattle.tree.specs.declared.Cause.TheVariants.{Access, Exists, WrongKind, Reserved, IntoItself, TooDeep}
-use Rattle.tree.specs.Result.{Result, refused, done, ◌>>=◌, ◌>>◌, require}
+use Rattle.tree.specs.Result.{Result, done, ◌>>=◌, ◌>>◌, require}
 use Rattle.tree.specs.Forest.{Place, height}
 use Rattle.tree.specs.Node.{is_directory, Node, allows}
 use Rattle.tree.specs.Walk.{by_modes, sought, walk, parent_walk}
 use Rattle.tree.specs.RowPlaces.{index_of}
 use Rattle.shell.specs.Steps.{may_replace}
 use Rattle.nodes.specs.declared.Move.{Move}
-use Rattle.nodes.specs.declared.Move.TheVariants.{Into, Onto, Itself, Refused}
+use Rattle.nodes.specs.declared.Move.TheVariants.{Into, Onto, Itself}
 
 -- the place that is moved, and what stands where it goes
 unfoldable pub may_move : Account → Place Node → Path → Path → Result (Place Node × Option (Place Node))
@@ -36,11 +36,6 @@ may_move a t p q = do
 unfoldable pub move_to : Place Node → Path → Path → Option (Place Node) → Move
 move_to t p q none = Into (index_of t p)
 move_to t p q (some g) = cond (same_path p q) Itself (Onto (index_of t p) (index_of t q))
-
--- what checks come to
-unfoldable pub judged : Result Move → Move
-judged (refused why) = Refused why
-judged (done m) = m
 
 -- the answer to the checks of `mv`
 abbrev pub move_from : Place Node → Path → Path → Result (Place Node × Option (Place Node)) → Result Move

@@ -1,6 +1,7 @@
 -- The checks of `mv`: the steps are these and then the change, what each comes to, what holds where all have passed, and what the
 -- code's answer tells of them.
-use Rattle.std.specs.Prelude.{◌≡◌, List, Bool, true, false, ◌&&◌, ◌||◌, not, cond, ℕ, ◌+◌, ◌≤◌, ◌<◌, eqb, leb, length}
+use Rattle.std.specs.Prelude.{◌≡◌, List, Bool, true, false, ◌&&◌, ◌||◌, not, cond, ℕ, ◌+◌, ◌≤◌, ◌<◌, eqb, leb, length, Ok, Err}
+use Rattle.std.specs.Prelude as code
 use Rattle.std.proofs.Math.Path.{refl, sym, ap}
 use Rattle.std.proofs.Common.{◌∙◌, arith}
 use Rattle.std.proofs.Math.Option.{Option, none, some}
@@ -15,17 +16,15 @@ use Rattle.syntax.proofs.PathLaws.{not_reserved, parent_depth, parent_and_last}
 use Rattle.syntax.proofs.PathTextLaws.{top_by_length, below_by_length, within_by_text}
 use Rattle.syntax.proofs.WithinLaws.{same_path_refl, lies, lies_top, lies_within, apart_below}
 use Rattle.tree.specs.declared.Kind.{Kind}
-use Rattle.tree.specs.declared.Kind.TheVariants.{File, Directory}
 use Rattle.tree.specs.declared.Cause.{Cause}
 use Rattle.tree.specs.declared.Cause.TheVariants.{Access, Exists, WrongKind, Reserved, IntoItself, TooDeep}
-use Rattle.tree.specs.Result.{Result, refused, done, ◌>>=◌, ◌>>◌, require}
-use Rattle.tree.proofs.ResultLaws.{done_then, refused_then, done_bind, refused_bind, require_true, require_false, then_then, then_bind, bind_bind, both_checked}
+use Rattle.tree.specs.Result.{Result, outcome, refused, done, ◌>>=◌, ◌>>◌, require}
+use Rattle.tree.proofs.ResultLaws.{outcome_ok, outcome_err, refused_before, not_done, done_then, refused_then, done_bind, refused_bind, require_true, require_false, then_then, then_bind, bind_bind, both_checked}
 use Rattle.tree.specs.Outcomes.{gives, Ensures}
 use Rattle.tree.proofs.GivesLaws.{any_outcome, done_with, then_check, then_guard, then_do}
 use Rattle.tree.specs.Forest.{Place, get, place_at, height}
 use Rattle.tree.specs.Node.{is_directory, Node, allows}
 use Rattle.tree.specs.Walk.{by_modes, walk, parent_walk}
-use Rattle.tree.proofs.JudgeLaws.{file_is_none, directory_is_one}
 use Rattle.tree.proofs.StepLaws.{sought_is, was_sought, parent_walked}
 use Rattle.tree.proofs.RoomLaws.{walked_above}
 use Rattle.tree.proofs.PlaceLaws.{empty_height}
@@ -44,9 +43,10 @@ use Rattle.walks.specs.WalkBytes.{Came}
 use Rattle.shell.specs.Steps.{may_replace, moved, run_mv}
 use Rattle.shell.proofs.ReplacingLaws.{no_same}
 use Rattle.nodes.specs.declared.Move.{Move}
-use Rattle.nodes.specs.declared.Move.TheVariants.{Into, Onto, Itself, Refused}
+use Rattle.nodes.specs.declared.Move.TheVariants.{Into, Onto, Itself}
 use Rattle.nodes.specs.NodeChecks.{text_within}
-use Rattle.nodes.specs.MoveChecks.{may_move, move_to, judged, move_from, row_onto, row_into}
+use Rattle.nodes.specs.NodeChecksLaws.{refusal_told, passing_told}
+use Rattle.nodes.specs.MoveChecks.{may_move, move_to, move_from, row_onto, row_into}
 
 -- ---- what the texts of two paths tell of them
 
@@ -200,131 +200,118 @@ module _ (a : Account) (t : Place Node) (p q : Path) where
   pub moving_passed : {d : Place Node} {o : Option (Place Node)} → may_move a t p q ≡ done (d, o) → Moves a t p q d o
   moving_passed e = done_with moving_ensures e
 
--- ---- what the code's answer tells
-
--- checks that are refused
-pub judged_refused : {w : Result Move} {k : Cause} → w ≡ refused k → Refused k ≡ judged w
-unfolding judged
-judged_refused e = rw e
-
--- and checks that have passed
-judged_done : {w : Result Move} {m : Move} → w ≡ done m → m ≡ judged w
-unfolding judged
-judged_done e = rw e
-
 -- ---- the checks at rows
 
 module _ (kind there : Kind) (writable same : Bool) (row target : ℕ) where
-  abbrev onto_answer : Move
-  onto_answer = judged (row_onto kind there writable same row target)
+  abbrev onto_answer : Result Move
+  onto_answer = row_onto kind there writable same row target
 
   -- 6
-  pub onto_directory : there ≡ Directory → Refused Exists ≡ onto_answer
+  pub onto_directory : is_directory there ≡ true → outcome (Err Exists) ≡ onto_answer
   unfolding row_onto
-  onto_directory e = judged_refused (rw (e, directory_is_one, require_false, refused_then))
+  onto_directory e = refusal_told (rw (e, require_false, refused_then))
 
-  module _ (onto_file : there ≡ File) where
+  module _ (onto_file : is_directory there ≡ false) where
     -- 7
-    pub onto_by_directory : kind ≡ Directory → Refused WrongKind ≡ onto_answer
+    pub onto_by_directory : is_directory kind ≡ true → outcome (Err WrongKind) ≡ onto_answer
     unfolding row_onto
-    onto_by_directory e = judged_refused (simp (onto_file, file_is_none, e, directory_is_one, require_true, done_then, require_false, refused_then))
+    onto_by_directory e = refusal_told (simp (onto_file, e, require_true, done_then, require_false, refused_then))
 
-    module _ (file : kind ≡ File) where
+    module _ (file : is_directory kind ≡ false) where
       -- 5
-      pub onto_shut : writable ≡ false → Refused Access ≡ onto_answer
+      pub onto_shut : writable ≡ false → outcome (Err Access) ≡ onto_answer
       unfolding row_onto
-      onto_shut e = judged_refused (simp (onto_file, file, file_is_none, e, require_true, done_then, require_false, refused_then))
+      onto_shut e = refusal_told (simp (onto_file, file, e, require_true, done_then, require_false, refused_then))
 
       -- none of these
-      pub onto_done : writable ≡ true → cond same Itself (Onto row target) ≡ onto_answer
+      pub onto_done : writable ≡ true → outcome (Ok (cond same Itself (Onto row target))) ≡ onto_answer
       unfolding row_onto
-      onto_done e = judged_done (simp (onto_file, file, file_is_none, e, require_true, done_then))
+      onto_done e = passing_told (simp (onto_file, file, e, require_true, done_then))
 
 module _ (writable inside : Bool) (deep row : ℕ) where
-  abbrev into_answer : Move
-  into_answer = judged (row_into writable inside deep row)
+  abbrev into_answer : Result Move
+  into_answer = row_into writable inside deep row
 
   -- 5
-  pub into_shut : writable ≡ false → Refused Access ≡ into_answer
+  pub into_shut : writable ≡ false → outcome (Err Access) ≡ into_answer
   unfolding row_into
-  into_shut e = judged_refused (rw (e, require_false, refused_then))
+  into_shut e = refusal_told (rw (e, require_false, refused_then))
 
   module _ (may : writable ≡ true) where
     -- 11
-    pub into_within : inside ≡ true → Refused IntoItself ≡ into_answer
+    pub into_within : inside ≡ true → outcome (Err IntoItself) ≡ into_answer
     unfolding row_into
-    into_within e = judged_refused (rw (may, require_true, done_then, e, require_false, refused_then))
+    into_within e = refusal_told (rw (may, require_true, done_then, e, require_false, refused_then))
 
     module _ (outside : inside ≡ false) where
       -- 19
-      pub into_deep : 6 < deep → Refused TooDeep ≡ into_answer
+      pub into_deep : 6 < deep → outcome (Err TooDeep) ≡ into_answer
       unfolding row_into most_names
-      into_deep i = judged_refused (rw (may, require_true, done_then, outside, require_true, done_then, lt-leb deep 6 i, require_false, refused_then))
+      into_deep i = refusal_told (rw (may, require_true, done_then, outside, require_true, done_then, lt-leb deep 6 i, require_false, refused_then))
 
       -- none of these
-      pub into_done : deep ≤ 6 → Into row ≡ into_answer
+      pub into_done : deep ≤ 6 → outcome (Ok (Into row)) ≡ into_answer
       unfolding row_into most_names
-      into_done i = judged_done (rw (may, require_true, done_then, outside, require_true, done_then, le-leb deep 6 i, require_true, done_then))
+      into_done i = passing_told (rw (may, require_true, done_then, outside, require_true, done_then, le-leb deep 6 i, require_true, done_then))
 
 -- ---- the checks of `mv`
 
 module _ (t : Place Node) (p q : Path) where
   -- the answer to the checks of `mv`
-  pub answer_refused : {w : Result (Place Node × Option (Place Node))} {k : Cause} → w ≡ refused k → Refused k ≡ judged (move_from t p q w)
-  answer_refused e = judged_refused (rw (e, refused_bind))
+  pub answer_refused : {w : Result (Place Node × Option (Place Node))} {k : Cause} → w ≡ refused k → outcome (Err k) ≡ move_from t p q w
+  answer_refused e = refusal_told (rw (e, refused_bind))
 
-  answer_done : (d : Place Node) (o : Option (Place Node)) → judged (move_from t p q (done (d, o))) ≡ move_to t p q o
-  answer_done d o = sym (judged_done (rw done_bind))
-
-  abbrev pub Told : Move → Result (Place Node × Option (Place Node)) → Type 0
-  Told m w = m ≡ judged (move_from t p q w)
+  abbrev pub Told : code.Result Move Cause → Result (Place Node × Option (Place Node)) → Type 0
+  Told r w = outcome r ≡ move_from t p q w
 
   -- by the answer they are refused
-  pub told_refused : (w : Result (Place Node × Option (Place Node))) {k : Cause} → Told (Refused k) w → w ≡ refused k
-  unfolding move_to
-  told_refused (refused why) {k} e = let i : Refused k ≡ Refused why = e ∙ sym (answer_refused refl) in cc
-  told_refused (done (d, none)) {k} e = let i : Refused k ≡ Into (index_of t p) = e ∙ answer_done d none in contra {b = true} refl (cc)
-  told_refused (done (d, some g)) {k} e = case (same_path p q)
-      (λ s. let i : Refused k ≡ Itself = e ∙ answer_done d (some g) ∙ rw s in contra {b = true} refl (cc))
-      (λ s. let i : Refused k ≡ Onto (index_of t p) (index_of t q) = e ∙ answer_done d (some g) ∙ rw s in contra {b = true} refl (cc))
+  pub told_refused : (w : Result (Place Node × Option (Place Node))) {k : Cause} → Told (Err k) w → w ≡ refused k
+  told_refused w {k} e = refused_before w (λ m. move_to t p q m.1) (sym e ∙ outcome_err k)
 
-  -- or passed, and nothing stands there
-  told_into : (w : Result (Place Node × Option (Place Node))) {row : ℕ} → Told (Into row) w → (d : Place Node) × (w ≡ done (d, none)) × (row ≡ index_of t p)
+  -- or they are not
+  not_told : {P : Type 0} (m : Move) (why : Cause) → Told (Ok m) (refused why) → P
+  not_told {P} m why e = not_done (sym (refused_bind why (λ x. done (move_to t p q x.1))) ∙ sym e ∙ outcome_ok m)
+
+  told_done : (d : Place Node) (o : Option (Place Node)) (m : Move) → Told (Ok m) (done (d, o)) → m ≡ move_to t p q o
+  told_done d o m e = let i : done m ≡ done (move_to t p q o) = sym (outcome_ok m) ∙ e ∙ rw done_bind in cc
+
+  -- and then nothing stands there
+  told_into : (w : Result (Place Node × Option (Place Node))) {row : ℕ} → Told (Ok (Into row)) w → (d : Place Node) × (w ≡ done (d, none)) × (row ≡ index_of t p)
   unfolding move_to
-  told_into (refused why) {row} e = let i : Into row ≡ Refused why = e ∙ sym (answer_refused refl) in contra {b = true} refl (cc)
-  told_into (done (d, none)) {row} e = let i : Into row ≡ Into (index_of t p) = e ∙ answer_done d none in (d, refl, cc)
+  told_into (refused why) e = not_told _ why e
+  told_into (done (d, none)) {row} e = let i : Into row ≡ Into (index_of t p) = told_done d none _ e in (d, refl, cc)
   told_into (done (d, some g)) {row} e = case (same_path p q)
-      (λ s. let i : Into row ≡ Itself = e ∙ answer_done d (some g) ∙ rw s in contra {b = true} refl (cc))
-      (λ s. let i : Into row ≡ Onto (index_of t p) (index_of t q) = e ∙ answer_done d (some g) ∙ rw s in contra {b = true} refl (cc))
+      (λ s. let i : Into row ≡ Itself = told_done d (some g) _ e ∙ rw s in contra {b = true} refl (cc))
+      (λ s. let i : Into row ≡ Onto (index_of t p) (index_of t q) = told_done d (some g) _ e ∙ rw s in contra {b = true} refl (cc))
 
   -- or another file stands there
-  told_onto : (w : Result (Place Node × Option (Place Node))) {row target : ℕ} → Told (Onto row target) w
+  told_onto : (w : Result (Place Node × Option (Place Node))) {row target : ℕ} → Told (Ok (Onto row target)) w
       → (d : Place Node) × (g : Place Node) × (w ≡ done (d, some g)) × (same_path p q ≡ false) × ((row ≡ index_of t p) × (target ≡ index_of t q))
   unfolding move_to
-  told_onto (refused why) {row} {target} e = let i : Onto row target ≡ Refused why = e ∙ sym (answer_refused refl) in contra {b = true} refl (cc)
-  told_onto (done (d, none)) {row} {target} e = let i : Onto row target ≡ Into (index_of t p) = e ∙ answer_done d none in contra {b = true} refl (cc)
+  told_onto (refused why) e = not_told _ why e
+  told_onto (done (d, none)) {row} {target} e = let i : Onto row target ≡ Into (index_of t p) = told_done d none _ e in contra {b = true} refl (cc)
   told_onto (done (d, some g)) {row} {target} e = case (same_path p q)
-      (λ s. let i : Onto row target ≡ Itself = e ∙ answer_done d (some g) ∙ rw s in contra {b = true} refl (cc))
-      (λ s. let i : Onto row target ≡ Onto (index_of t p) (index_of t q) = e ∙ answer_done d (some g) ∙ rw s in (d, g, refl, s, (cc, cc)))
+      (λ s. let i : Onto row target ≡ Itself = told_done d (some g) _ e ∙ rw s in contra {b = true} refl (cc))
+      (λ s. let i : Onto row target ≡ Onto (index_of t p) (index_of t q) = told_done d (some g) _ e ∙ rw s in (d, g, refl, s, (cc, cc)))
 
   -- or the file itself
-  pub told_itself : (w : Result (Place Node × Option (Place Node))) → Told Itself w → (d : Place Node) × (g : Place Node) × (w ≡ done (d, some g)) × (same_path p q ≡ true)
+  pub told_itself : (w : Result (Place Node × Option (Place Node))) → Told (Ok Itself) w → (d : Place Node) × (g : Place Node) × (w ≡ done (d, some g)) × (same_path p q ≡ true)
   unfolding move_to
-  told_itself (refused why) e = let i : Itself ≡ Refused why = e ∙ sym (answer_refused refl) in contra {b = true} refl (cc)
-  told_itself (done (d, none)) e = let i : Itself ≡ Into (index_of t p) = e ∙ answer_done d none in contra {b = true} refl (cc)
+  told_itself (refused why) e = not_told _ why e
+  told_itself (done (d, none)) e = let i : Itself ≡ Into (index_of t p) = told_done d none _ e in contra {b = true} refl (cc)
   told_itself (done (d, some g)) e = case (same_path p q)
       (λ s. (d, g, refl, s))
-      (λ s. let i : Itself ≡ Onto (index_of t p) (index_of t q) = e ∙ answer_done d (some g) ∙ rw s in contra {b = true} refl (cc))
+      (λ s. let i : Itself ≡ Onto (index_of t p) (index_of t q) = told_done d (some g) _ e ∙ rw s in contra {b = true} refl (cc))
 
 -- and the rows in the answer are those of the places
 module _ {b : List ℕ} {t : Place Node} (tree : Encodes b t) (a : Account) (p q : Path) where
-  pub found_into : {row : ℕ} → Told t p q (Into row) (may_move a t p q) → (d : Place Node) × (may_move a t p q ≡ done (d, none)) × At b t p row d
+  pub found_into : {row : ℕ} → Told t p q (Ok (Into row)) (may_move a t p q) → (d : Place Node) × (may_move a t p q ≡ done (d, none)) × At b t p row d
   found_into e =
       let i = told_into t p q (may_move a t p q) e in
       let m = moving_passed a t p q i.1 in
       (i.0, i.1, record { tree = tree; there = walked_at t (by_modes a) p i.0 m.led; row = i.2 })
 
-  pub found_onto : {row target : ℕ} → Told t p q (Onto row target) (may_move a t p q)
+  pub found_onto : {row target : ℕ} → Told t p q (Ok (Onto row target)) (may_move a t p q)
       → (d : Place Node) × (g : Place Node) × (may_move a t p q ≡ done (d, some g)) × (same_path p q ≡ false) × (At b t p row d × At b t q target g)
   found_onto e =
       let i = told_onto t p q (may_move a t p q) e in

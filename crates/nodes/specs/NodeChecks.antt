@@ -10,17 +10,18 @@ use Rattle.syntax.specs.Path.{Path, path, parent, reserved}
 use Rattle.syntax.specs.Parts.{text_goes_on_from}
 use Rattle.tree.specs.declared.Kind.{Kind}
 use Rattle.tree.specs.declared.Cause.TheVariants.{Access, WrongKind, NotEmpty, Reserved, Full}
-use Rattle.tree.specs.Result.{Result, done, ◌>>=◌, ◌>>◌, require, Outcome}
+use Rattle.std.specs.Prelude as code
+use Rattle.tree.specs.declared.Cause.{Cause}
+use Rattle.tree.specs.Result.{Result, outcome, done, ◌>>=◌, ◌>>◌, require, Outcome}
 use Rattle.tree.specs.Forest.{Place, is_empty}
 use Rattle.tree.specs.Node.{same_kind, Node, allows}
 use Rattle.tree.specs.Walk.{by_modes, walk, room}
 use Rattle.tree.specs.WellFormed.{most_nodes, nodes}
 use Rattle.tree.specs.RowAt.{row_at, all_rows}
 use Rattle.tree.specs.TreeBytes.{Encodes}
-use Rattle.walks.specs.declared.Walked.{Walked}
+use Rattle.walks.specs.declared.Spot.{Spot}
 use Rattle.walks.specs.RowBelow.{has_children_in}
-use Rattle.walks.specs.RowWalk.{Spot, spot, outcome}
-use Rattle.shell.specs.declared.Answer.{Answer}
+use Rattle.shell.specs.Replies.{Answer}
 use Rattle.shell.specs.CommandBytes.{FollowsSilently}
 
 -- for whatever tree the bytes are, and whatever paths the texts read as
@@ -74,6 +75,6 @@ row_removal a kind n above full there = do
   done there
 
 -- whether the node of a row may be removed
-abbrev pub JudgedRemoval : List ℕ → Account → Kind → ℕ → ℕ → Walked → Type 0
-JudgedRemoval b a kind row above r =
-    outcome r ≡ row_removal a kind (row_at b row).here (row_at b above).here (has_children_in (all_rows b) row) (spot row above)
+abbrev pub JudgedRemoval : List ℕ → Account → Kind → Spot → code.Result Spot Cause → Type 0
+JudgedRemoval b a kind s r =
+    outcome r ≡ row_removal a kind (row_at b s.row).here (row_at b s.above).here (has_children_in (all_rows b) s.row) s

@@ -1,6 +1,7 @@
 -- The checks of the commands that make and remove nodes: the steps are these and then the change, what each comes to, and what
 -- holds where all have passed.
-use Rattle.std.specs.Prelude.{◌≡◌, List, Bool, true, false, ℕ, ◌+◌, ◌≤◌, ◌<◌}
+use Rattle.std.specs.Prelude.{◌≡◌, List, Bool, true, false, ℕ, ◌+◌, ◌≤◌, ◌<◌, Ok, Err}
+use Rattle.std.specs.Prelude as code
 use Rattle.std.proofs.Common.{sym, ◌∙◌, ap, add-zero, arith}
 use Rattle.std.proofs.Math.Option.{none, some}
 use Rattle.std.proofs.Math.Bool.{not-not}
@@ -15,8 +16,8 @@ use Rattle.syntax.proofs.PathTextLaws.{reserved_by_text}
 use Rattle.tree.specs.declared.Kind.{Kind}
 use Rattle.tree.specs.declared.Cause.{Cause}
 use Rattle.tree.specs.declared.Cause.TheVariants.{Access, WrongKind, NotEmpty, Reserved, Full}
-use Rattle.tree.specs.Result.{Result, refused, done, ◌>>=◌}
-use Rattle.tree.proofs.ResultLaws.{bind_done, refused_before, done_then, refused_then, done_bind, refused_bind, require_true, require_false, then_bind, bind_bind}
+use Rattle.tree.specs.Result.{Result, outcome, refused, done, ◌>>=◌}
+use Rattle.tree.proofs.ResultLaws.{outcome_ok, outcome_err, bind_done, refused_before, done_then, refused_then, done_bind, refused_bind, require_true, require_false, then_bind, bind_bind}
 use Rattle.tree.specs.Outcomes.{gives, Ensures}
 use Rattle.tree.proofs.GivesLaws.{done_with, then_check, then_do}
 use Rattle.tree.specs.Forest.{Place, is_empty, update, put, drop, leaf}
@@ -29,18 +30,15 @@ use Rattle.tree.proofs.WellFormedLaws.{most_nodes_is}
 use Rattle.tree.specs.RowAt.{row_at, all_rows}
 use Rattle.tree.specs.TreeBytes.{Encodes}
 use Rattle.tree.proofs.TreeBytesLaws.{at_here}
-use Rattle.walks.specs.declared.Walked.{Walked}
-use Rattle.walks.specs.declared.Walked.TheVariants.{To, Refused}
+use Rattle.walks.specs.declared.Spot.{Spot}
 use Rattle.walks.specs.RowBelow.{has_children_in}
 use Rattle.walks.specs.RowBelowLaws.{at_has_children}
-use Rattle.walks.specs.RowWalk.{Spot, spot, outcome}
-use Rattle.walks.specs.RowWalkLaws.{outcome_at, outcome_refused}
+use Rattle.walks.specs.RowWalk.{spot}
 use Rattle.walks.specs.WalkBytes.{Came, spot_from}
 use Rattle.walks.specs.WalkBytesLaws.{came_to, came_spot}
-use Rattle.gaps.specs.declared.Room.{Room}
-use Rattle.gaps.specs.declared.Room.TheVariants
-use Rattle.gaps.specs.Gaps.{gap_of, gap_from, gap_told}
-use Rattle.gaps.specs.GapsLaws.{told_refused, told_gap, Standing, room_to}
+use Rattle.gaps.specs.declared.Gap.{Gap}
+use Rattle.gaps.specs.Gaps.{gap_of, gap_from}
+use Rattle.gaps.specs.GapsLaws.{Standing, room_to}
 use Rattle.shell.specs.Steps.{fit, run_create, run_rm}
 use Rattle.nodes.specs.NodeChecks.{text_reserved, may_create, may_remove, row_removal}
 
@@ -176,32 +174,32 @@ module _ (a : Account) (kind : Kind) (n above : Node) (full : Bool) (there : Spo
 -- ---- what the code tells
 
 -- a refusal
-pub refusal_told : {w : Result Spot} {k : Cause} → w ≡ refused k → outcome (Refused k) ≡ w
-refusal_told {k = k} e = outcome_refused k ∙ sym e
+pub refusal_told : {A : Type 0} {w : Result A} {k : Cause} → w ≡ refused k → outcome (Err k) ≡ w
+refusal_told {k = k} e = outcome_err k ∙ sym e
 
 -- and at the place that a path leads to
-pub refusal_told_at : (t : Place Node) (p : Path) (w : Result (Place Node)) {k : Cause} → w ≡ refused k → outcome (Refused k) ≡ spot_from t p w
-refusal_told_at t p w {k} e = outcome_refused k ∙ sym (rw (e, refused_bind))
+pub refusal_told_at : (t : Place Node) (p : Path) (w : Result (Place Node)) {k : Cause} → w ≡ refused k → outcome (Err k) ≡ spot_from t p w
+refusal_told_at t p w e = refusal_told (rw (e, refused_bind))
 
 -- checks that have passed
-pub spot_told : (row above : ℕ) {w : Result Spot} → w ≡ done (spot row above) → outcome (To row above) ≡ w
-spot_told row above e = outcome_at row above ∙ sym e
+pub passing_told : {A : Type 0} {w : Result A} {x : A} → w ≡ done x → outcome (Ok x) ≡ w
+passing_told {x = x} e = outcome_ok x ∙ sym e
 
 module _ {b : List ℕ} {t : Place Node} (tree : Encodes b t) (a : Account) where
   -- where the code found what may be removed
-  pub removing_came : (kind : Kind) (p : Path) {r : Walked} → outcome r ≡ spot_from t p (may_remove a t kind p) → {row above : ℕ} → r ≡ To row above
-      → Came b t p (may_remove a t kind p) row above
+  pub removing_came : (kind : Kind) (p : Path) {r : code.Result Spot Cause} → outcome r ≡ spot_from t p (may_remove a t kind p) → {s : Spot} → r ≡ Ok s
+      → Came b t p (may_remove a t kind p) s.row s.above
   removing_came kind p same e = came_to tree (may_remove a t kind p) p same (λ d w. walked_at t (by_modes a) p d (removing_passed a t kind p w).1.0) e
 
   -- where a node may be made, by the code's answer
-  module _ (p : Path) {r : Room} (same : gap_told r ≡ gap_from t p (may_create a t p)) where
-    pub making_stands : {row at k : ℕ} → r ≡ TheVariants.At row at k → (g : Standing b t p a row at k) × ((may_create a t p ≡ done g.directory) × (nodes t + 1 ≤ 256))
-    making_stands {row} {at} {k} e =
-        let i = bind_done (may_create a t p) (λ d. done (gap_of t p d)) (sym same ∙ ap gap_told e ∙ told_gap row at k) in
+  module _ (p : Path) {r : code.Result Gap Cause} (same : outcome r ≡ gap_from t p (may_create a t p)) where
+    pub making_stands : {g : Gap} → r ≡ Ok g → (s : Standing b t p a g.row g.at g.depth) × ((may_create a t p ≡ done s.directory) × (nodes t + 1 ≤ 256))
+    making_stands {g} e =
+        let i = bind_done (may_create a t p) (λ d. done (gap_of t p d)) (sym same ∙ ap outcome e ∙ outcome_ok g) in
         let z = making_passed a t p i.1 in
-        let g = room_to tree a p (same ∙ ap (gap_from t p) (i.1 ∙ sym z.0)) e in
-        (g, (i.1 ∙ sym z.0 ∙ g.found, z.1))
+        let s = room_to tree a p (same ∙ ap (gap_from t p) (i.1 ∙ sym z.0)) e in
+        (s, (i.1 ∙ sym z.0 ∙ s.found, z.1))
 
     -- or why none may
-    pub making_not : {k : Cause} → r ≡ TheVariants.Refused k → may_create a t p ≡ refused k
-    making_not {k} e = refused_before (may_create a t p) (gap_of t p) (sym same ∙ ap gap_told e ∙ told_refused k)
+    pub making_not : {k : Cause} → r ≡ Err k → may_create a t p ≡ refused k
+    making_not {k} e = refused_before (may_create a t p) (gap_of t p) (sym same ∙ ap outcome e ∙ outcome_err k)

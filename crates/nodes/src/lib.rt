@@ -9,14 +9,11 @@ mod removing;
 pub use making::create;
 pub use moves::mv;
 pub use removing::rm;
-use tree::Cause;
 
-// What a move comes to: a row goes where nothing stands, or over the file of another row; a file onto itself stays; or why it
-// may not be made.
-#[derive(Clone, Copy)]
+// What a move comes to: a row goes where nothing stands, or over the file of another row; a file onto itself stays.
+#[derive(Clone, Copy, PartialEq, Eq, Debug)]
 enum Move {
     Into { row: usize },
     Onto { row: usize, target: usize },
     Itself,
-    Refused(Cause),
 }

@@ -8,7 +8,7 @@ use Rattle.commands.specs.Meaning.{ShellMeant}
 use Rattle.tree.specs.Forest.{Place}
 use Rattle.tree.specs.Node.{Node}
 use Rattle.tree.specs.TreeBytes.{Encodes}
-use Rattle.shell.specs.declared.Answer.{Answer}
+use Rattle.shell.specs.Replies.{Answer}
 use Rattle.shell.specs.Steps.{run_shell}
 use Rattle.shell.specs.CommandBytes.{Follows}
 

@@ -11,7 +11,7 @@ use Rattle.commands.specs.Command.{ShellAction, write, is_shell_command}
 use Rattle.tree.specs.Forest.{Place}
 use Rattle.tree.specs.Node.{Node}
 use Rattle.tree.specs.Layout.{content_width}
-use Rattle.shell.specs.declared.Answer.{Answer}
+use Rattle.shell.specs.Replies.{Answer}
 use Rattle.shell.specs.Steps.{run_shell}
 use Rattle.shell.specs.CommandBytes.{Follows}
 

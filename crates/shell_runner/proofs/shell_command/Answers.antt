@@ -1,5 +1,4 @@
 -- `shell_runner::shell_command` meets its contract: each case is the command that its parts mean.
-use mathlib.Core.Path.{refl}
 use native.Mathlib.Omega.{arith}
 use Rattle.commands.specs.Meaning.{ShellMeans}
 use Rattle.shell.specs.Steps.{run_shell}
@@ -241,66 +240,3 @@ returns-in-Chown c t k e m =
     let i = means_as ShellMeans c.in-Chown.is m.means in
     let q = part_read _ c.part-in-Chown.ensures i.1 in
     same_shell a.caller t i.2 (c.chown.ensures t i.0 e q a.answer.now)
-
-pub enum_known-command : goal.enum_known-command
-enum_known-command c = c.in-Create.in-Create-own.keys1
-
-pub enum_known-command-in-Mkdir-1 : goal.enum_known-command-in-Mkdir-1
-enum_known-command-in-Mkdir-1 c = c.in-Mkdir.in-Mkdir-own.keys2
-
-pub enum_known-command-in-Read-1 : goal.enum_known-command-in-Read-1
-enum_known-command-in-Read-1 c = c.in-Read.in-Read-own.keys3
-
-pub enum_known-command-in-Write-1 : goal.enum_known-command-in-Write-1
-enum_known-command-in-Write-1 c = c.in-Write.in-Write-own.keys4
-
-pub enum_known-command-in-Rm-1 : goal.enum_known-command-in-Rm-1
-enum_known-command-in-Rm-1 c = c.in-Rm.in-Rm-own.keys5
-
-pub enum_known-command-in-Rmdir-1 : goal.enum_known-command-in-Rmdir-1
-enum_known-command-in-Rmdir-1 c = c.in-Rmdir.in-Rmdir-own.keys6
-
-pub enum_known-command-in-Mv-1 : goal.enum_known-command-in-Mv-1
-enum_known-command-in-Mv-1 c = c.in-Mv.in-Mv-own.keys7
-
-pub enum_known-command-in-Chmod-1 : goal.enum_known-command-in-Chmod-1
-enum_known-command-in-Chmod-1 c = c.in-Chmod.in-Chmod-own.keys8
-
-pub enum_known-command-in-Chgrp-1 : goal.enum_known-command-in-Chgrp-1
-enum_known-command-in-Chgrp-1 c = c.in-Chgrp.in-Chgrp-own.keys9
-
-pub enum_known-command-in-Chown-1 : goal.enum_known-command-in-Chown-1
-enum_known-command-in-Chown-1 c = c.in-Chown.in-Chown-own.keys10
-
-pub shape_of-tree-in-Create : goal.shape_of-tree-in-Create
-shape_of-tree-in-Create c = c.create.auto.tree
-
-pub shape_of-tree-in-Mkdir : goal.shape_of-tree-in-Mkdir
-shape_of-tree-in-Mkdir c = c.create-in-Mkdir.auto.tree
-
-pub shape_of-tree-in-Read : goal.shape_of-tree-in-Read
-shape_of-tree-in-Read c = refl
-
-pub shape_of-answer : goal.shape_of-answer
-shape_of-answer c = c.read.auto.answer
-
-pub shape_of-tree-in-Write : goal.shape_of-tree-in-Write
-shape_of-tree-in-Write c = c.write.auto.tree
-
-pub shape_of-tree-in-Rm : goal.shape_of-tree-in-Rm
-shape_of-tree-in-Rm c = c.rm.auto.tree
-
-pub shape_of-tree-in-Rmdir : goal.shape_of-tree-in-Rmdir
-shape_of-tree-in-Rmdir c = c.rm-in-Rmdir.auto.tree
-
-pub shape_of-tree-in-Mv : goal.shape_of-tree-in-Mv
-shape_of-tree-in-Mv c = c.mv.auto.tree
-
-pub shape_of-tree-in-Chmod : goal.shape_of-tree-in-Chmod
-shape_of-tree-in-Chmod c = c.chmod.auto.tree
-
-pub shape_of-tree-in-Chgrp : goal.shape_of-tree-in-Chgrp
-shape_of-tree-in-Chgrp c = c.chgrp.auto.tree
-
-pub shape_of-tree-in-Chown : goal.shape_of-tree-in-Chown
-shape_of-tree-in-Chown c = c.chown.auto.tree

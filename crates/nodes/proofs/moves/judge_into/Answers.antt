@@ -1,22 +1,20 @@
 -- `nodes::moves::judge_into` meets its contract: one law of the checks for each return.
-use mathlib.Core.Path.{refl}
-use native.Mathlib.Omega.{arith}
-use Rattle.buffers.specs.Cases.{answers_false, answers_true}
+use Rattle.std.proofs.Common.{arith}
 use Rattle.nodes.specs.MoveChecksLaws.{into_shut, into_within, into_deep, into_done}
 use Rattle.nodes.proofs.moves.judge_into.Goals as goal
 
 pub returns-then-not-writable : goal.returns-then-not-writable
-returns-then-not-writable c = into_shut _ _ _ _ (answers_false refl c.if-not-writable.true-raw)
+returns-then-not-writable c = into_shut _ _ _ _ c.if-not-writable.true
 
 pub returns-then-inside : goal.returns-then-inside
-returns-then-inside c = into_within _ _ _ _ (answers_true refl c.if-not-writable.false-raw) c.if-inside.true
+returns-then-inside c = into_within _ _ _ _ c.if-not-writable.false c.if-inside.true
 
 pub returns-then-depth_at-height_below-gt-MOST_NAMES : goal.returns-then-depth_at-height_below-gt-MOST_NAMES
 returns-then-depth_at-height_below-gt-MOST_NAMES c =
-    into_deep _ _ _ _ (answers_true refl c.if-not-writable.false-raw) c.if-inside.false
+    into_deep _ _ _ _ c.if-not-writable.false c.if-inside.false
     (omega (arith, c.if-depth_at-height_below-gt-MOST_NAMES.true, c.depth_at.ensures, c.height_below.ensures.0))
 
 pub returns : goal.returns
 returns c =
-    into_done _ _ _ _ (answers_true refl c.if-not-writable.false-raw) c.if-inside.false
+    into_done _ _ _ _ c.if-not-writable.false c.if-inside.false
     (omega (arith, c.if-depth_at-height_below-gt-MOST_NAMES.false, c.depth_at.ensures, c.height_below.ensures.0))

@@ -1,24 +1,17 @@
--- `nodes::paths::begins` meets its contract: a shorter text does not begin with a longer one.
-use mathlib.Core.Path.{sym}
-use native.Mathlib.Omega.{arith}
-use lib.ListN.{length, take, length-take}
-use lib.Seq.{length-take-le}
-use Rattle.buffers.specs.TextLaws.{same_length}
+-- `nodes::paths::begins` meets its contract: the first bytes are compared one by one.
+use Rattle.std.proofs.Common.{List, [], ◌∷◌, ℕ, ◌≡◌, refl, ◌∙◌, nat_eq, take, length}
+use lib.Pointwise.{pointwise}
+use Rattle.buffers.specs.Text.{same_text}
+use Rattle.buffers.specs.Cases.{eqb_flip}
 use Rattle.nodes.proofs.paths.begins.Goals as goal
 
-pub returns-then-text-front : goal.returns-then-text-front
-returns-then-text-front c =
-    let a = c.args in
-    let n = length a.front.now in
-    sym (same_length (take n a.text.now) a.front.now (λ e. omega (arith, length-take n a.text.now)))
-
-pub slice_bounds-same-end : goal.slice_bounds-same-end
-slice_bounds-same-end c =
-    let a = c.args in
-    sym (length-take-le (length a.front.now) a.text.now (omega arith))
-
-pub same-requires : goal.same-requires
-same-requires c = tt
+-- two texts are compared in either order
+compared : (s t : List ℕ) → pointwise nat_eq s t ≡ same_text t s
+unfolding same_text
+compared [] [] = refl
+compared [] (b ∷ t) = refl
+compared (a ∷ s) [] = refl
+compared (a ∷ s) (b ∷ t) = rw (eqb_flip a b, compared s t)
 
 pub returns : goal.returns
-returns c = c.same.ensures
+returns c = c.starts_with.ensures.value ∙ compared c.args.front.now (take (length c.args.front.now) c.args.text.now)
