@@ -1,11 +1,11 @@
 -- Whatever is to be done next stays in the window: its places, and the bytes that a call is made with.
-use Rattle.std.specs.Prelude.{◌≡◌, [], ◌∷◌, ◌++◌, Bool, true, false, cond, ℕ, suc, ◌+◌, ◌-◌, ◌≤◌, ◌<◌, ltb, length, take}
+use Rattle.std.specs.Prelude.{◌≡◌, [], ◌∷◌, ◌++◌, Bool, true, false, cond, ℕ, suc, ◌+◌, ◌-◌, ◌≤◌, ◌<◌, ltb, length, take, Err}
 use Rattle.std.proofs.Math.Path.{refl, ap}
 use Rattle.std.proofs.Common.{sym, ◌∙◌, arith, length-take-le}
 use Rattle.buffers.specs.Text.{Text}
 use Rattle.syntax.specs.Pieces.{newline}
 use Rattle.tree.proofs.CausesLaws.{wrong_setup_is}
-use Rattle.shell.specs.declared.Answer.TheVariants.{WrongLine}
+use Rattle.shell.specs.declared.Refusal.TheVariants.{WrongLine}
 use Rattle.shell.specs.Replies.{told}
 use Rattle.calls.specs.Program.{call_line}
 use Rattle.agenda.specs.declared.NextLine.{NextLine}
@@ -63,7 +63,7 @@ module _ (t : Text) (at : Place) where
 -- ---- what is printed
 
 -- the reply of a wrong line is the refusal of the setup
-pub wrong_line_told : (n : ℕ) (answer : Text) → refusal n ≡ call_line (told (WrongLine n)) answer ++ (newline ∷ [])
+pub wrong_line_told : (n : ℕ) (answer : Text) → refusal n ≡ call_line (told (Err (WrongLine n))) answer ++ (newline ∷ [])
 unfolding refusal call_line told
 wrong_line_told n answer = rw wrong_setup_is
 

@@ -1,5 +1,5 @@
 -- The program prints `program` of its input, however many bytes each read gives.
-use Rattle.std.specs.Prelude.{◌≡◌, Bool, true, false, not, eqb, length, take, drop}
+use Rattle.std.specs.Prelude.{◌≡◌, Bool, true, false, not, eqb, length, take, drop, Ok, None}
 use Rattle.std.proofs.Math.Path.{refl, sym, ap, ap₂}
 use Rattle.std.proofs.Common.{◌∙◌, subst, length-append, length-drop, drop_of_length-le, length-take-le}
 use mathlib.Core.List.{List, [], ◌∷◌, ◌++◌, append_assoc, append-nil}
@@ -17,7 +17,6 @@ use Rattle.setup.specs.Setup.{Setup as Whole, Reading, no_setup, wrong_line, is_
 use Rattle.setup.proofs.SetupLaws.{nothing}
 use Rattle.setup.specs.SetupStep.{LineAnswer, leads_on, ends_it, is_wrong, setup_step}
 use Rattle.setup.proofs.SetupStepLaws.{step_keeps}
-use Rattle.shell.specs.declared.Answer.TheVariants.{Done}
 use Rattle.shell.specs.Replies.{told}
 use Rattle.store.specs.State.{state_of}
 use Rattle.store.specs.Initial.{initial_store}
@@ -140,7 +139,7 @@ module _ (f : Talk → Text) (m : ℕ) (others : Prints f m) (s : Talk) (h : Tal
     by_answer : (a : LineAnswer) → setup_step line so ≡ a → line_turned f s e lines a ≡ program_from s.answer lines so (line ∷ behind)
     unfolding line_turned due due_in busy later lines_due
     by_answer (leads_on d) z =
-        let then = after_call s (setup_from s.at (suc e) d.kind (suc lines)) (record { tells = told Done; store = headed d.so_far s.store; answer = s.answer }) in
+        let then = after_call s (setup_from s.at (suc e) d.kind (suc lines)) (record { tells = told (Ok None); store = headed d.so_far s.store; answer = s.answer }) in
         let good = step_keeps line so d z in_range in
         let back = headed_holds d.so_far s.store good in
         let t : Talking then = record {
@@ -154,7 +153,7 @@ module _ (f : Talk → Text) (m : ℕ) (others : Prints f m) (s : Talk) (h : Tal
         ∙ sym (leads_the_program_on s.answer line behind lines so d more_behind z)
     by_answer ends_it z =
         let u = setup_of s.store in
-        let then = after_call s (lines_from s.at (suc e)) (record { tells = told Done; store = encode (state_of u (initial_store u)); answer = s.answer }) in
+        let then = after_call s (lines_from s.at (suc e)) (record { tells = told (Ok None); store = encode (state_of u (initial_store u)); answer = s.answer }) in
         let t : Talking then = record {
           held = record { wide = h.held.wide; ordered = omega (arith, in_text.1); within = h.held.within };
           over = h.over;

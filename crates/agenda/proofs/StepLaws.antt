@@ -1,5 +1,5 @@
 -- What a step was, from what it came to.
-use Rattle.std.specs.Prelude.{◌≡◌, refl, Bool, true, false, ℕ, ℤ, pos, negsuc}
+use Rattle.std.specs.Prelude.{◌≡◌, refl, Bool, true, false, ℕ, Option, Some, None}
 use Rattle.buffers.specs.Cases.{contra}
 use Rattle.agenda.specs.declared.Place.{Place}
 use Rattle.agenda.specs.declared.Step.TheVariants.{On, Ended}
@@ -20,13 +20,13 @@ print_goes true true then k e = (cc e, refl)
 print_goes true false then k e = contra {b = true} refl (cc e)
 
 -- no read ends the program
-pub read_not_ended : (at : Place) (got : ℤ) → Ended ≡ read_step at got → ⊥
+pub read_not_ended : (at : Place) (got : Option ℕ) → Ended ≡ read_step at got → ⊥
 unfolding read_step
-read_not_ended at (pos n) e = contra {b = true} refl (cc e)
-read_not_ended at (negsuc n) e = contra {b = true} refl (cc e)
+read_not_ended at (Some n) e = contra {b = true} refl (cc e)
+read_not_ended at None e = contra {b = true} refl (cc e)
 
--- one that goes on counts bytes
-pub read_goes : (at k : Place) (got : ℤ) → On k ≡ read_step at got → (n : ℕ) × (got ≡ pos n) × (k ≡ read_place at n)
+-- one that goes on gave bytes
+pub read_goes : (at k : Place) (got : Option ℕ) → On k ≡ read_step at got → (n : ℕ) × (got ≡ Some n) × (k ≡ read_place at n)
 unfolding read_step
-read_goes at k (pos n) e = (n, refl, cc e)
-read_goes at k (negsuc n) e = contra {b = true} refl (cc e)
+read_goes at k (Some n) e = (n, refl, cc e)
+read_goes at k None e = contra {b = true} refl (cc e)

@@ -1,11 +1,11 @@
 -- What the program does next: by the phase it is in, the bytes of its window, and its place in them. What is printed for each call,
 -- and whether the program goes on behind it.
-use Rattle.std.specs.Prelude.{◌≡◌, List, [], ◌∷◌, ◌++◌, Bool, true, false, cond, not, ℕ, suc, ◌+◌, ◌-◌, ◌≤◌, ◌<◌, eqb, ltb, ℤ, pos, negsuc, length, take}
+use Rattle.std.specs.Prelude.{◌≡◌, List, [], ◌∷◌, ◌++◌, Bool, true, false, cond, not, ℕ, suc, ◌+◌, ◌-◌, ◌≤◌, ◌<◌, eqb, ltb, length, take, Option, Some, None, Err}
 use Rattle.buffers.specs.Text.{Text, same_text}
 use Rattle.syntax.specs.Pieces.{bytes, newline}
 use Rattle.tree.specs.declared.Cause.TheVariants.{Missing}
 use Rattle.tree.specs.Causes.{number}
-use Rattle.shell.specs.declared.Answer.TheVariants.{WrongLine}
+use Rattle.shell.specs.declared.Refusal.TheVariants.{WrongLine}
 use Rattle.shell.specs.Replies.{Told, told}
 use Rattle.calls.specs.Program.{text_told, refused_line, call_line}
 use Rattle.agenda.specs.declared.NextLine.{NextLine}
@@ -136,7 +136,7 @@ next_of t at = by_phase t at at.phase
 
 -- of a setup the number of its first wrong line
 unfoldable pub refusal : ℕ → Text
-refusal n = refused_line (told (WrongLine n)) ++ (newline ∷ [])
+refusal n = refused_line (told (Err (WrongLine n))) ++ (newline ∷ [])
 
 -- of the listing a line that is there
 unfoldable pub list_report : Told → List ℕ → Text
@@ -153,15 +153,15 @@ goes_on (call.List n) t = not (eqb (number Missing) t.number)
 
 -- ---- what a turn comes to
 
--- a number that `read` answered counts no more bytes than the window has room for behind those that are left
-abbrev pub ReadFits : Place → ℤ → Type 0
-ReadFits at (pos n) = (at.to - at.from) + n ≤ 65536
-ReadFits at (negsuc n) = Unit {0}
+-- a read gave no more bytes than the window has room for behind those that are left
+abbrev pub ReadFits : Place → Option ℕ → Type 0
+ReadFits at (Some n) = (at.to - at.from) + n ≤ 65536
+ReadFits at None = Unit {0}
 
--- a negative one is a failure, any other counts the bytes that were read
-unfoldable pub read_step : Place → ℤ → Step
-read_step at (pos n) = step.On (read_place at n)
-read_step at (negsuc n) = step.Failed
+-- one that gave none failed
+unfoldable pub read_step : Place → Option ℕ → Step
+read_step at (Some n) = step.On (read_place at n)
+read_step at None = step.Failed
 
 -- a report that was not printed is a failure; behind one that was, the program goes on from a place if there is more to do
 unfoldable pub print_step : Bool → Bool → Place → Step

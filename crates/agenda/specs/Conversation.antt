@@ -1,11 +1,10 @@
 -- The program turn by turn: it asks what is to be done next, makes the call and prints what is printed for it, or reads.
 --
 -- However many bytes each read gives, the program prints `program` of the whole input: `talk_is_program` in ConversationLaws.
-use Rattle.std.specs.Prelude.{List, [], ◌++◌, false, cond, ℕ, zero, suc, ◌-◌, length, take, drop}
+use Rattle.std.specs.Prelude.{List, [], ◌++◌, false, cond, ℕ, zero, suc, ◌-◌, length, take, drop, Ok, None}
 use Rattle.buffers.specs.Text.{Text}
 use Rattle.syntax.specs.Parts.{part}
 use Rattle.setup.specs.SetupStep.{LineAnswer, leads_on, ends_it, is_wrong, setup_step}
-use Rattle.shell.specs.declared.Answer.TheVariants.{Done}
 use Rattle.shell.specs.Replies.{told}
 use Rattle.store.specs.State.{state_of}
 use Rattle.store.specs.Initial.{initial_store}
@@ -74,10 +73,10 @@ after_call s at c =
 -- a setup line that ends at a byte: one that leads on stands in the header, `end` makes the store, a wrong one ends the program
 unfoldable pub line_turned : (Talk → Text) → Talk → ℕ → ℕ → LineAnswer → Text
 line_turned others s e lines (leads_on d) =
-    others (after_call s (setup_from s.at (suc e) d.kind (suc lines)) (record { tells = told Done; store = headed d.so_far s.store; answer = s.answer }))
+    others (after_call s (setup_from s.at (suc e) d.kind (suc lines)) (record { tells = told (Ok None); store = headed d.so_far s.store; answer = s.answer }))
 line_turned others s e lines ends_it =
     let u = setup_of s.store in
-    others (after_call s (lines_from s.at (suc e)) (record { tells = told Done; store = encode (state_of u (initial_store u)); answer = s.answer }))
+    others (after_call s (lines_from s.at (suc e)) (record { tells = told (Ok None); store = encode (state_of u (initial_store u)); answer = s.answer }))
 line_turned others s e lines is_wrong = refusal (suc lines)
 
 -- what a turn prints, and then those behind it

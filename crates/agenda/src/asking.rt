@@ -6,6 +6,7 @@ use crate::Asked;
 use buffers::same;
 
 // What the program is asked for: by how many arguments it was started with, its own name among them, and the first behind that.
+#[tactic(auto, unfolding(crate::specs::Agenda::asked_by, syntax::specs::Pieces::bytes))]
 pub fn asked_by(count: usize, first: &[u8]) -> Asked
     ensures { result ≡ asked_by count first.now }
 {

@@ -11,10 +11,9 @@ pub fn lines_from(at: Place, from: usize) -> Place
 {
     Place {
         from,
-        to: at.to,
-        ended: at.ended,
         passing: false,
         phase: Phase::Lines,
+        ..at
     }
 }
 
@@ -23,58 +22,55 @@ pub fn listed_from(at: Place, n: usize) -> Place
     ensures { result ≡ listed_from at n }
 {
     Place {
-        from: at.from,
-        to: at.to,
-        ended: at.ended,
         passing: false,
         phase: Phase::Listing(n),
+        ..at
     }
 }
 
 // The line up to its end is run, unless it has been answered, and what is left follows.
+#[tactic(auto, unfolding(crate::specs::Agenda::taken))]
 fn taken(at: Place, end: usize, rest: Place) -> Next
     ensures { result ≡ taken at end rest }
 {
     if at.passing {
         return Next::On(rest);
     }
-    let from = at.from;
     Next::Call {
-        call: Call::Run { from, end },
+        call: Call::Run { from: at.from, end },
         then: rest,
     }
 }
 
 // What to do with a line whose end has not been read. One that fills the window is too long for any form, as its first bytes are: these
 // are run, and the others passed over.
+#[tactic(auto, unfolding(crate::specs::Agenda::unended))]
 fn unended(window: &[u8], at: Place) -> Next
     requires { PlaceHeld at (length window.now) }
     ensures { result ≡ unended (length window.now) at }
 {
-    let to = at.to;
-    if to - at.from < window.len() {
+    if at.to - at.from < window.len() {
         return Next::Read;
     }
     let rest = Place {
-        from: to,
-        to,
+        from: at.to,
+        to: at.to,
         ended: false,
         passing: true,
         phase: Phase::Lines,
     };
-    taken(at, to, rest)
+    taken(at, at.to, rest)
 }
 
 // What to do in the command lines.
+#[tactic(auto, unfolding(crate::specs::Agenda::line_next, crate::specs::Agenda::found_line))]
 pub fn line_next(window: &[u8], at: Place) -> Next
     requires { PlaceHeld at (length window.now) }
     ensures { result ≡ line_next window.now at }
 {
-    let from = at.from;
-    let to = at.to;
-    match next_line(&window[..to], from, at.ended) {
+    match next_line(&window[..at.to], at.from, at.ended) {
         NextLine::Line { end } => taken(at, end, lines_from(at, end + 1)),
-        NextLine::Last => taken(at, to, lines_from(at, to)),
+        NextLine::Last => taken(at, at.to, lines_from(at, at.to)),
         NextLine::More => unended(window, at),
         NextLine::Nothing => Next::On(listed_from(at, 0)),
     }

@@ -7,6 +7,7 @@ use crate::lines_ahead::{line_next, listed_from};
 use crate::{Call, Next, NextLine, Phase, Place, Step};
 
 // What to do with a setup line whose end has not been read: no good line fills the window.
+#[tactic(auto, unfolding(crate::specs::Agenda::open_line))]
 fn open_line(window: &[u8], at: Place, lines: usize) -> Next
     requires { PlaceHeld at (length window.now) }
     ensures { result ≡ open_line (length window.now) at lines }
@@ -18,13 +19,12 @@ fn open_line(window: &[u8], at: Place, lines: usize) -> Next
 }
 
 // What to do in the setup.
+#[tactic(auto, unfolding(crate::specs::Agenda::setup_next, crate::specs::Agenda::found_setup_line))]
 fn setup_next(window: &[u8], at: Place, kind: u8, lines: usize) -> Next
     requires { PlaceHeld at (length window.now) }
     ensures { result ≡ setup_next window.now at kind lines }
 {
-    let from = at.from;
-    let to = at.to;
-    match next_line(&window[..to], from, at.ended) {
+    match next_line(&window[..at.to], at.from, at.ended) {
         NextLine::Line { end } => Next::Line { end, kind, lines },
         NextLine::Last => Next::Wrong { lines },
         NextLine::More => open_line(window, at, lines),
@@ -33,6 +33,7 @@ fn setup_next(window: &[u8], at: Place, kind: u8, lines: usize) -> Next
 }
 
 // What to do at a line of the listing: each of at most 256 nodes has one, and one call more says that there is none.
+#[tactic(auto, unfolding(crate::specs::Agenda::list_next))]
 fn list_next(at: Place, n: usize) -> Next
     ensures { result ≡ list_next at n }
 {
@@ -46,12 +47,12 @@ fn list_next(at: Place, n: usize) -> Next
 }
 
 // What the program does next.
+#[tactic(auto, unfolding(crate::specs::Agenda::next_of, crate::specs::Agenda::by_phase))]
 pub fn next(window: &[u8], at: Place) -> Next
     requires { PlaceHeld at (length window.now) }
     ensures { result ≡ next_of window.now at }
 {
-    let phase = at.phase;
-    match phase {
+    match at.phase {
         Phase::Setup { kind, lines } => setup_next(window, at, kind, lines),
         Phase::Lines => line_next(window, at),
         Phase::Listing(n) => list_next(at, n),
@@ -64,10 +65,9 @@ pub fn setup_from(at: Place, from: usize, kind: u8, lines: usize) -> Place
 {
     Place {
         from,
-        to: at.to,
-        ended: at.ended,
         passing: false,
         phase: Phase::Setup { kind, lines },
+        ..at
     }
 }
 
@@ -77,24 +77,23 @@ fn after_read(at: Place, got: usize) -> Place
     requires got_bound { (at.to - at.from) + got ≤ 65536 }
     ensures { result ≡ read_place at got }
 {
-    let phase = at.phase;
     Place {
         from: 0,
         to: at.to - at.from + got,
         ended: got == 0,
-        passing: at.passing,
-        phase,
+        ..at
     }
 }
 
-// What the number that `read` answered comes to.
-pub fn read_step(at: Place, got: isize) -> Step
+// What a read comes to: it gave so many bytes, or none as it failed.
+#[tactic(auto, unfolding(crate::specs::Agenda::read_step))]
+pub fn read_step(at: Place, got: Option<usize>) -> Step
     requires from_le_to { at.from ≤ at.to }
     requires read_fits { ReadFits at got }
     ensures { result ≡ read_step at got }
 {
-    if got < 0 {
-        return Step::Failed;
+    match got {
+        Some(count) => Step::On(after_read(at, count)),
+        None => Step::Failed,
     }
-    Step::On(after_read(at, got as usize))
 }

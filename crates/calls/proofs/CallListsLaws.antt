@@ -1,5 +1,5 @@
 -- A list of calls on the bytes of a well-formed state is the list of the machine's calls on the state.
-use Rattle.std.specs.Prelude.{◌≡◌, refl, List, [], ◌∷◌, map, true, not, ℕ, eqb, leb, length}
+use Rattle.std.specs.Prelude.{◌≡◌, refl, List, [], ◌∷◌, map, true, not, ℕ, eqb, leb, length, Ok, Err, None}
 use Rattle.std.proofs.Common.{sym, ◌∙◌, ap, arith, eq-eqb, ne_eqb}
 use Rattle.std.proofs.Math.Option.{Option, none, some}
 use Rattle.buffers.specs.Cases.{case, contra}
@@ -11,6 +11,7 @@ use Rattle.tree.specs.Causes.{number, wrong_setup}
 use Rattle.tree.proofs.CausesLaws.{wrong_setup_is, unsound_number, number_not_0, only_unsound_is_18}
 use Rattle.tree.specs.Result.{Result, refused, done, ◌>>=◌, require, Outcome}
 use Rattle.tree.proofs.ResultLaws.{done_bind, refused_bind, then_bind}
+use Rattle.shell.specs.declared.Refusal.TheVariants.{For, WrongLine}
 use Rattle.shell.specs.Replies.{ok, reply, after, Told, told, answer_of, written}
 use Rattle.store.specs.State.{Store, state_of, well_formed}
 use Rattle.store.specs.Initial.{initial_store}
@@ -24,7 +25,6 @@ use Rattle.machine.proofs.MachineAnswerLaws.{never_18}
 use Rattle.machine.specs.Observed.{without_root}
 use Rattle.machine.proofs.MachineKeepingLaws.{step_keeps, runs_keep}
 use Rattle.machine.proofs.ComparedLaws.{compared_lists}
-use Rattle.shell.specs.declared.Answer.TheVariants.{Done, Refused, WrongLine}
 use Rattle.calls.specs.Calls.{set_up, setup_call, Called, called, encoded, line_on, run_result, run_call}
 use Rattle.calls.proofs.CallsLaws.{on_encoding}
 use Rattle.calls.specs.CallLists.{Request, run_calls, call_for, rootless, response, responses_to, all_sound, CallsCompared}
@@ -100,19 +100,19 @@ runs_sound M u s (q ∷ qs) =
 -- ---- setup
 
 -- an accepted text is told as done, and no other
-taken : (b : List ℕ) (a : SetupAnswer) → (set_up b a).tells ≡ told Done →
+taken : (b : List ℕ) (a : SetupAnswer) → (set_up b a).tells ≡ told (Ok None) →
     (u : Setup) × (a ≡ accepted u) × ((set_up b a).store ≡ encode (state_of u (initial_store u)))
 unfolding set_up told
 taken b (accepted u) e = (u, refl, refl)
 taken b (wrong_line n) e = let q : wrong_setup ≡ 0 = ap (λ (t : Told). t.number) e in let z : ⊥ = omega (arith, q, wrong_setup_is) in absurd z
 
 -- nor is a buffer of another length
-not_taken : {P : Type 0} → told (Refused Unsound) ≡ told Done → P
+not_taken : {P : Type 0} → told (Err (For Unsound)) ≡ told (Ok None) → P
 unfolding told
 not_taken e = contra (eq-eqb (number Unsound) 0 (ap (λ (t : Told). t.number) e)) (number_not_0 Unsound)
 
 -- a setup that is done was accepted, on a buffer of the store's width, which now holds the initial state
-set_up_done : (b : List ℕ) (text : Text) → (setup_call b text).tells ≡ told Done →
+set_up_done : (b : List ℕ) (text : Text) → (setup_call b text).tells ≡ told (Ok None) →
     (u : Setup) × (setup text ≡ accepted u) × ((setup_call b text).store ≡ encode (state_of u (initial_store u)))
 unfolding setup_call
 set_up_done b text e = case (eqb (length b) store_width)
@@ -121,7 +121,7 @@ set_up_done b text e = case (eqb (length b) store_width)
 
 -- and on such a buffer every accepted text is done
 pub set_up_takes : (b : List ℕ) → length b ≡ 65536 → (text : Text) (u : Setup) → setup text ≡ accepted u →
-    setup_call b text ≡ record { tells = told Done; store = encode (state_of u (initial_store u)) }
+    setup_call b text ≡ record { tells = told (Ok None); store = encode (state_of u (initial_store u)) }
 unfolding setup_call set_up store_width
 set_up_takes b w text u e = rw (eq-eqb (length b) 65536 w, e)
 
@@ -133,14 +133,14 @@ set_up_elsewhere b w text = rw (ne_eqb (length b) 65536 w, unsound_number)
 
 -- while a wrong text changes nothing
 pub set_up_wrong : (b : List ℕ) → length b ≡ 65536 → (text : Text) (n : ℕ) → setup text ≡ wrong_line n →
-    setup_call b text ≡ record { tells = told (WrongLine n); store = b }
+    setup_call b text ≡ record { tells = told (Err (WrongLine n)); store = b }
 unfolding setup_call set_up store_width
 set_up_wrong b w text n e = rw (eq-eqb (length b) 65536 w, e)
 
 -- ---- demand 3 on calls
 
 -- the theorem on states, read off the bytes
-pub compared_calls : (b : List ℕ) (text : Text) → (setup_call b text).tells ≡ told Done → (qs : List Request) → rootless qs ≡ true →
+pub compared_calls : (b : List ℕ) (text : Text) → (setup_call b text).tells ≡ told (Ok None) → (qs : List Request) → rootless qs ≡ true →
     CallsCompared text qs (run_calls (setup_call b text).store qs)
 compared_calls b text e qs r =
     let t = set_up_done b text e in

@@ -2,7 +2,7 @@
 --
 -- Demand 3 on calls and setups come first, then what the program prints, the commit of a directory, the checks before a command, and
 -- how long texts are.
-use Rattle.std.specs.Prelude.{◌≡◌, List, [], ◌∷◌, ◌++◌, true, ℕ, ◌≤◌, ◌<◌, length, drop}
+use Rattle.std.specs.Prelude.{◌≡◌, List, [], ◌∷◌, ◌++◌, true, ℕ, ◌≤◌, ◌<◌, length, drop, Ok, Err, None}
 use Rattle.std.proofs.Math.Option.{none, some}
 use Rattle.std.proofs.Math.ListN.{get_elem?}
 use Rattle.buffers.specs.Text.{Text}
@@ -19,6 +19,7 @@ use Rattle.tree.specs.Forest.{Place}
 use Rattle.tree.specs.Node.{is_directory, Node}
 use Rattle.tree.specs.Walk.{by_modes, walk}
 use Rattle.tree.specs.Files.{files_below}
+use Rattle.shell.specs.declared.Refusal.TheVariants.{For}
 use Rattle.shell.specs.Replies.{told}
 use Rattle.store.specs.State.{State, state_of, well_formed}
 use Rattle.store.specs.Initial.{initial_store}
@@ -28,7 +29,6 @@ use Rattle.store.specs.SoundStore.{Sound}
 use Rattle.store.proofs.SoundStoreLaws
 use Rattle.machine.specs.Machine.{session}
 use Rattle.machine.specs.StoreMachine.{store}
-use Rattle.shell.specs.declared.Answer.TheVariants.{Done, Refused}
 use Rattle.listing.specs.Listing.{longest_listing_line, listing}
 use Rattle.calls.specs.Transcript.{transcript}
 use Rattle.calls.specs.Calls.{setup_call, only_tells, line_on, run_result, run_call, listing_on, listing_result, listing_call}
@@ -44,13 +44,13 @@ use Rattle.calls.proofs.ProgramLaws
 -- Demand 3 on library calls. After a setup that is done, on a buffer of any bytes, every list of command lines with answer buffers
 -- of any bytes, none of them root's, tells and writes what the abstract machine's replies give; afterwards the store's bytes read as
 -- what that machine holds, and no call says 18.
-pub demand_3_on_calls : (b : List ℕ) (text : Text) → (setup_call b text).tells ≡ told Done → (requests : List Request) → rootless requests ≡ true →
+pub demand_3_on_calls : (b : List ℕ) (text : Text) → (setup_call b text).tells ≡ told (Ok None) → (requests : List Request) → rootless requests ≡ true →
     CallsCompared text requests (run_calls (setup_call b text).store requests)
 demand_3_on_calls = CallListsLaws.compared_calls
 
 -- A setup is done on every buffer of 65,536 bytes with every text that is accepted, and leaves the initial state's bytes.
 pub setup_is_done : (b : List ℕ) → length b ≡ 65536 → (text : Text) (u : Setup) → setup text ≡ accepted u →
-    setup_call b text ≡ record { tells = told Done; store = encode (state_of u (initial_store u)) }
+    setup_call b text ≡ record { tells = told (Ok None); store = encode (state_of u (initial_store u)) }
 setup_is_done = CallListsLaws.set_up_takes
 
 -- Any other setup leaves the store's bytes: 18 on a buffer of another length, whatever the text,
@@ -116,7 +116,7 @@ listing_changes_no_store = CallsLaws.listing_store_stays
 
 -- and a refused `run` changes nothing: neither the store's bytes nor the answer buffer's.
 pub refused_changes_nothing : (b : List ℕ) (line : Text) (answer : List ℕ) (why : Cause) → run_result b line (length answer) ≡ refused why →
-    run_call b line answer ≡ record { tells = told (Refused why); store = b; answer = answer }
+    run_call b line answer ≡ record { tells = told (Err (For why)); store = b; answer = answer }
 unfolding run_call
 refused_changes_nothing b line answer why = CallsLaws.refused_call_stays b answer
 

@@ -1,6 +1,6 @@
 -- The calls on bytes, for bytes that encode a state and for others: a call is the command on the state, bytes that encode no
 -- state are refused, and neither a refused call nor a listing changes the store.
-use Rattle.std.specs.Prelude.{◌≡◌, refl, List, true, ℕ, ◌≤◌, ◌<◌, leb, length}
+use Rattle.std.specs.Prelude.{◌≡◌, refl, List, true, ℕ, ◌≤◌, ◌<◌, leb, length, Err}
 use Rattle.std.proofs.Math.Option.{none, some}
 use borrow.Author.Tests.{leb-true, le-leb, lt-leb}
 use Rattle.std.proofs.Math.ListN.{get_elem?}
@@ -11,13 +11,13 @@ use Rattle.tree.specs.Result.{Result, refused, ◌>>◌, require, present, Outco
 use Rattle.tree.proofs.ResultLaws.{present_some, present_of, present_none, done_bind, refused_bind, done_then, refused_then, require_true, require_false, holds_bind, holds_then}
 use Rattle.tree.specs.Outcomes.{Ensures}
 use Rattle.tree.proofs.GivesLaws.{then_check, then_do}
+use Rattle.shell.specs.declared.Refusal.TheVariants.{For}
 use Rattle.shell.specs.Replies.{reply, after, told, answer_of, written}
 use Rattle.store.specs.State.{State, well_formed}
 use Rattle.store.specs.StoreBytes.{encode, decode}
 use Rattle.store.proofs.StoreBytesLaws.{decode_encode}
 use Rattle.machine.specs.Runs.{least_room}
 use Rattle.machine.proofs.RunsLaws.{least_room_is}
-use Rattle.shell.specs.declared.Answer.TheVariants.{Refused}
 use Rattle.listing.specs.Listing.{listing}
 use Rattle.calls.specs.Calls.{only_tells, called, on_state, listing_on, listing_result, listing_call}
 
@@ -59,7 +59,7 @@ past_the_end_is_3 s h n a l e =
 
 -- a refused call leaves store and answer buffer as they were
 pub refused_call_stays : (b a : List ℕ) {r : Result (Outcome (List ℕ))} {why : Cause} → r ≡ refused why
-    → called b a r ≡ record { tells = told (Refused why); store = b; answer = a }
+    → called b a r ≡ record { tells = told (Err (For why)); store = b; answer = a }
 unfolding called answer_of written reply after
 refused_call_stays b a e = rw e
 

@@ -1,18 +1,18 @@
 -- The three library calls on bytes: from the bytes at entry to what is answered and all bytes at exit.
-use Rattle.std.specs.Prelude.{List, [], cond, ℕ, eqb, leb, length}
+use Rattle.std.specs.Prelude.{List, [], cond, ℕ, eqb, leb, length, Ok, Err, None}
 use Rattle.std.proofs.Math.Option.{some}
 use Rattle.std.proofs.Math.ListN.{get_elem?}
 use Rattle.buffers.specs.Text.{Text}
 use Rattle.setup.specs.Setup.{Setup, SetupAnswer, accepted, wrong_line, setup}
 use Rattle.tree.specs.declared.Cause.TheVariants.{Missing, Unsound, ShortAnswer}
 use Rattle.tree.specs.Result.{Result, done, ◌>>=◌, ◌>>◌, require, present, Outcome}
+use Rattle.shell.specs.declared.Refusal.TheVariants.{For, WrongLine}
 use Rattle.shell.specs.Replies.{Told, told, answer_of, written, reply, after}
 use Rattle.store.specs.State.{Store, State, state_of}
 use Rattle.store.specs.Initial.{initial_store}
 use Rattle.store.specs.StoreBytes.{store_width, encode, decode}
 use Rattle.machine.specs.StoreMachine.{store}
 use Rattle.machine.specs.Runs.{least_room, perform}
-use Rattle.shell.specs.declared.Answer.TheVariants.{Done, Refused, WrongLine}
 use Rattle.listing.specs.Listing.{listing}
 
 -- ---- setup
@@ -23,12 +23,12 @@ pub record SetUp : Type 0 where
   pub store : List ℕ
 
 unfoldable pub set_up : List ℕ → SetupAnswer → SetUp
-set_up b (wrong_line n) = record { tells = told (WrongLine n); store = b }
-set_up b (accepted setup) = record { tells = told Done; store = encode (state_of setup (initial_store setup)) }
+set_up b (wrong_line n) = record { tells = told (Err (WrongLine n)); store = b }
+set_up b (accepted setup) = record { tells = told (Ok None); store = encode (state_of setup (initial_store setup)) }
 
 -- 18 (length only), then 17
 unfoldable pub setup_call : List ℕ → Text → SetUp
-setup_call b text = cond (eqb (length b) store_width) (set_up b (setup text)) (record { tells = told (Refused Unsound); store = b })
+setup_call b text = cond (eqb (length b) store_width) (set_up b (setup text)) (record { tells = told (Err (For Unsound)); store = b })
 
 -- ---- run and listing
 

@@ -1,5 +1,5 @@
 -- What is printed for an answer, as the code writes it: the line of each answer, its first bytes, and its byte 10.
-use Rattle.std.specs.Prelude.{◌≡◌, List, [], ◌∷◌, ◌++◌, false, ℕ, ◌+◌, ◌≤◌, ◌<◌, eqb, length, take, drop, set}
+use Rattle.std.specs.Prelude.{◌≡◌, List, [], ◌∷◌, ◌++◌, false, ℕ, ◌+◌, ◌≤◌, ◌<◌, eqb, length, take, drop, set, Ok, Err, Some, None}
 use Rattle.std.proofs.Math.Path.{refl}
 use Rattle.std.proofs.Common.{sym, ◌∙◌, ap, arith, zero-add, length-append, take_all, take_at, length-take-le, take-take}
 use Rattle.std.proofs.Math.Seq.{paste}
@@ -14,8 +14,7 @@ use Rattle.tree.specs.declared.Cause.{Cause}
 use Rattle.tree.specs.declared.Cause.TheVariants.{Missing}
 use Rattle.tree.specs.Causes.{number}
 use Rattle.tree.proofs.CausesLaws.{wrong_setup_is, missing_number, number_not_0}
-use Rattle.shell.specs.declared.Answer.TheVariants.{Done, Refused, WrongLine}
-use Rattle.shell.specs.declared.Answer.TheVariants
+use Rattle.shell.specs.declared.Refusal.TheVariants.{For, WrongLine}
 use Rattle.shell.specs.Replies.{told}
 use Rattle.listing.specs.RowListing.{WroteMost}
 use Rattle.calls.specs.Program.{text_told, done_line, refused_line, call_line}
@@ -24,37 +23,37 @@ use Rattle.printing.specs.Printed.{Printed}
 -- ---- the line of each answer
 
 module _ (answer : List ℕ) where
-  pub done_is : bytes "ok" ≡ call_line (told Done) answer
+  pub done_is : bytes "ok" ≡ call_line (told (Ok None)) answer
   unfolding call_line told done_line
   done_is = refl
 
-  pub text_is : (n : ℕ) → bytes "ok," ++ take n answer ≡ call_line (told (TheVariants.Text n)) answer
+  pub text_is : (n : ℕ) → bytes "ok," ++ take n answer ≡ call_line (told (Ok (Some n))) answer
   unfolding call_line told done_line text_told
   text_is n = refl
 
-  pub refusal_is : (why : Cause) → bytes "no," ++ decimal_text (number why) ≡ call_line (told (Refused why)) answer
+  pub refusal_is : (why : Cause) → bytes "no," ++ decimal_text (number why) ≡ call_line (told (Err (For why))) answer
   unfolding call_line told refused_line joined comma bytes
   refusal_is why = rw (number_not_0 why)
 
-  pub wrong_line_is : (n : ℕ) → bytes "no,17," ++ decimal_text n ≡ call_line (told (WrongLine n)) answer
+  pub wrong_line_is : (n : ℕ) → bytes "no,17," ++ decimal_text n ≡ call_line (told (Err (WrongLine n))) answer
   unfolding call_line told refused_line joined comma bytes decimal_text digits_before
   wrong_line_is n = rw wrong_setup_is
 
 -- ---- what an answer says of its call
 
-pub done_not_missing : false ≡ eqb (number Missing) (told Done).number
+pub done_not_missing : false ≡ eqb (number Missing) (told (Ok None)).number
 unfolding told
 done_not_missing = rw missing_number
 
-pub text_not_missing : (n : ℕ) → false ≡ eqb (number Missing) (told (TheVariants.Text n)).number
+pub text_not_missing : (n : ℕ) → false ≡ eqb (number Missing) (told (Ok (Some n))).number
 unfolding told
 text_not_missing n = rw missing_number
 
-pub wrong_line_not_missing : (n : ℕ) → false ≡ eqb (number Missing) (told (WrongLine n)).number
+pub wrong_line_not_missing : (n : ℕ) → false ≡ eqb (number Missing) (told (Err (WrongLine n))).number
 unfolding told
 wrong_line_not_missing n = rw (missing_number, wrong_setup_is)
 
-pub refusal_missing : (why : Cause) → eqb (number why) 3 ≡ eqb (number Missing) (told (Refused why)).number
+pub refusal_missing : (why : Cause) → eqb (number why) 3 ≡ eqb (number Missing) (told (Err (For why))).number
 unfolding told
 refusal_missing why = rw missing_number (eqb_flip (number why) 3)
 

@@ -11,11 +11,12 @@ ghost use Rattle.calls.specs.Program.{text_told, call_line};
 ghost use Rattle.printing.specs.Printed.{Printed};
 
 use buffers::write;
-use shell::Answer;
+use shell::{Answer, Refusal};
 use syntax::write_decimal;
 use tree::Cause;
 
 // Document 01's number of a cause.
+#[tactic(auto, unfolding(tree::specs::Causes::number))]
 pub fn number(cause: Cause) -> u8
     ensures { result ≡ number_of cause }
 {
@@ -43,15 +44,11 @@ pub fn number(cause: Cause) -> u8
 }
 
 // Whether an answer tells that a listing has no such line.
+#[tactic(auto, unfolding(shell::specs::Replies::told, tree::specs::Causes::number, tree::specs::Causes::wrong_setup))]
 pub fn is_missing(r: Answer) -> bool
     ensures { result ≡ eqb (number_of Missing) (told r).number }
 {
-    match r {
-        Answer::Done => false,
-        Answer::Text(_) => false,
-        Answer::Refused(cause) => number(cause) == 3,
-        Answer::WrongLine(_) => false,
-    }
+    r == Err(Refusal::For(Cause::Missing))
 }
 
 // Writes a text from a place on, and tells where it ends.
@@ -99,10 +96,10 @@ fn write_answer(out: &mut [u8], r: Answer, answer: &[u8]) -> usize
     ensures { WroteMost (length answer.now + 31) (call_line (told r) answer.now) out.old 0 out.new result }
 {
     match r {
-        Answer::Done => write_word(out, 0, b"ok"),
-        Answer::Text(n) => write_ok(out, answer, n),
-        Answer::Refused(cause) => write_no(out, b"no,", number(cause) as usize),
-        Answer::WrongLine(line) => write_no(out, b"no,17,", line),
+        Ok(None) => write_word(out, 0, b"ok"),
+        Ok(Some(n)) => write_ok(out, answer, n),
+        Err(Refusal::For(cause)) => write_no(out, b"no,", number(cause) as usize),
+        Err(Refusal::WrongLine(line)) => write_no(out, b"no,17,", line),
     }
 }
 
@@ -127,14 +124,14 @@ fn write_text(n: usize, answer: &[u8], out: &mut [u8]) -> usize
 }
 
 // Writes the line of the listing that an answer tells, its text alone, and tells its length.
+#[tactic(auto, unfolding(shell::specs::Replies::told, calls::specs::Program::text_told))]
 pub fn write_listed(r: Answer, answer: &[u8], out: &mut [u8]) -> usize
     requires { length answer.now + 32 ≤ length out.old }
     ensures { Printed (text_told (told r).values answer.now ++ (newline ∷ [])) out.old out.new result }
 {
     match r {
-        Answer::Done => write_text(0, answer, out),
-        Answer::Text(n) => write_text(n, answer, out),
-        Answer::Refused(_) => write_text(0, answer, out),
-        Answer::WrongLine(n) => write_text(n, answer, out),
+        Ok(Some(n)) | Err(Refusal::WrongLine(n)) => write_text(n, answer, out),
+        Ok(None) => write_text(0, answer, out),
+        Err(Refusal::For(_)) => write_text(0, answer, out),
     }
 }

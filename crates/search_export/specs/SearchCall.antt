@@ -1,8 +1,6 @@
 -- What the exported search tells: whether the child was found, its row or where it would stand, and the steps.
-use Rattle.std.specs.Prelude.{List, Bool, ◌&&◌, cond, ℕ, eqb, leb, ltb, length}
+use Rattle.std.specs.Prelude.{List, Bool, ◌&&◌, cond, ℕ, eqb, leb, ltb, length, Result, Ok, Err}
 use Rattle.syntax.specs.Path.{Name}
-use Rattle.tree.specs.declared.Child.{Child}
-use Rattle.tree.specs.declared.Child.TheVariants.{Found, Missing}
 use Rattle.tree.specs.declared.Search.{Search}
 use Rattle.tree.specs.Layout.{most_rows, tree_width}
 use Rattle.tree.specs.RowAt.{row_count, all_rows}
@@ -19,14 +17,14 @@ pub record Told : Type 0 where
   pub steps : ℕ
 
 -- 0 where the child was found, 1 where it is missing
-unfoldable pub number_told : Child → ℕ
-number_told (Found i) = 0
-number_told (Missing i) = 1
+unfoldable pub number_told : Result ℕ ℕ → ℕ
+number_told (Ok i) = 0
+number_told (Err i) = 1
 
 -- its row, or where it would stand
-unfoldable pub place_told : Child → ℕ
-place_told (Found i) = i
-place_told (Missing i) = i
+unfoldable pub place_told : Result ℕ ℕ → ℕ
+place_told (Ok i) = i
+place_told (Err i) = i
 
 unfoldable pub search_told : Search → Told
 search_told s = record { number = number_told s.child; place = place_told s.child; steps = s.steps }

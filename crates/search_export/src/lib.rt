@@ -5,7 +5,7 @@
 ghost use Rattle.std.specs.Prelude.{◌≡◌};
 ghost use Rattle.search_export.specs.SearchCall.{is_used, number_told, place_told, search_call};
 
-use tree::{Child, MOST_ROWS, TREE, count, search_child};
+use tree::{MOST_ROWS, TREE, count, search_child};
 
 // What the call answers: the child was found, it is missing, the bytes have no such row.
 const FOUND: u32 = 0;
@@ -18,34 +18,24 @@ const NO_ROW: u32 = 2;
 fn has_row(tree: &[u8], at: usize) -> bool
     ensures { result ≡ is_used tree.now at }
 {
-    if tree.len() != TREE {
-        return false;
-    }
-    let n = count(tree);
-    if MOST_ROWS < n {
-        return false;
-    }
-    at < n
+    tree.len() == TREE && count(tree) <= MOST_ROWS && at < count(tree)
 }
 
 // Whether the child was found, as a number.
-fn number_of(child: Child) -> u32
+fn number_of(child: Result<usize, usize>) -> u32
     ensures { result ≡ number_told child }
 {
     match child {
-        Child::Found(_) => FOUND,
-        Child::Missing(_) => MISSING,
+        Ok(_) => FOUND,
+        Err(_) => MISSING,
     }
 }
 
 // Its row, or where it would stand.
-fn place_of(child: Child) -> u64
+fn place_of(child: Result<usize, usize>) -> u64
     ensures { result ≡ place_told child }
 {
-    match child {
-        Child::Found(i) => i as u64,
-        Child::Missing(i) => i as u64,
-    }
+    child.unwrap_or_else(|i| i) as u64
 }
 
 // The child of a name of the place whose row has an index: its row or where it would stand, and the steps of the search.
@@ -65,8 +55,7 @@ pub extern "C" fn tree_search(
         return NO_ROW;
     }
     let found = search_child(tree, at, name);
-    let child = found.child;
-    *place = place_of(child);
+    *place = place_of(found.child);
     *steps = found.steps as u64;
-    number_of(child)
+    number_of(found.child)
 }

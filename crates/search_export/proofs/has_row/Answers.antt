@@ -1,24 +1,13 @@
 -- `search_export::has_row` meets its contract: each test is the definition's.
-use native.Mathlib.Omega.{arith}
-use lib.ListN.{length}
-use borrow.Author.Tests.{eq-eqb, ne_eqb, le-leb, lt-leb}
-use Rattle.tree.specs.Layout.{most_rows, tree_width}
-use Rattle.tree.specs.RowAt.{row_count}
+use Rattle.std.proofs.Common.{arith}
+use Rattle.std.proofs.lemmas.Bool.Decides.{nat_tests}
 use Rattle.search_export.specs.SearchCall.{is_used}
 use Rattle.search_export.proofs.has_row.Goals as goal
 
-pub returns-then-tree-ne-TREE : goal.returns-then-tree-ne-TREE
+pub returns-then-count-le-MOST_ROWS : goal.returns-then-count-le-MOST_ROWS
 unfolding is_used
-returns-then-tree-ne-TREE c = rw (ne_eqb (length c.args.tree.now) tree_width c.if-tree-ne-TREE.true)
+returns-then-count-le-MOST_ROWS c = grind (arith, nat_tests)
 
-pub returns-then-n-gt-MOST_ROWS : goal.returns-then-n-gt-MOST_ROWS
+pub returns-else-count-le-MOST_ROWS : goal.returns-else-count-le-MOST_ROWS
 unfolding is_used
-returns-then-n-gt-MOST_ROWS c =
-    let b = c.args.tree.now in
-    rw (eq-eqb (length b) tree_width (omega arith), lt-leb (row_count b) most_rows (omega arith))
-
-pub returns : goal.returns
-unfolding is_used
-returns c =
-    let b = c.args.tree.now in
-    rw (eq-eqb (length b) tree_width (omega arith), le-leb (row_count b) most_rows (omega arith), ← c.count-n.ensures)
+returns-else-count-le-MOST_ROWS c = grind (arith, nat_tests)

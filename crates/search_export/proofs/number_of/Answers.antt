@@ -1,12 +1,12 @@
 -- `search_export::number_of` meets its contract: each case is the definition's.
-use borrow.Author.Rules.{rules}
+use Rattle.std.proofs.Common.{rules}
 use Rattle.search_export.specs.SearchCall.{number_told}
 use Rattle.search_export.proofs.number_of.Goals as goal
 
-pub returns-in-Found : goal.returns-in-Found
+pub returns-in-Ok : goal.returns-in-Ok
 unfolding number_told
-returns-in-Found c = search rules
+returns-in-Ok c = search rules
 
-pub returns-in-Missing : goal.returns-in-Missing
+pub returns-in-Err : goal.returns-in-Err
 unfolding number_told
-returns-in-Missing c = search rules
+returns-in-Err c = search rules

@@ -1,12 +1,8 @@
 -- `search_export::place_of` meets its contract: each case is the definition's.
-use borrow.Author.Rules.{rules}
+use Rattle.std.proofs.Common.{rules}
 use Rattle.search_export.specs.SearchCall.{place_told}
 use Rattle.search_export.proofs.place_of.Goals as goal
 
-pub returns-in-Found : goal.returns-in-Found
+pub returns : goal.returns
 unfolding place_told
-returns-in-Found c = search rules
-
-pub returns-in-Missing : goal.returns-in-Missing
-unfolding place_told
-returns-in-Missing c = search rules
+returns c = search rules
