@@ -1,26 +1,10 @@
 -- `setups::opening::slots_in` meets its contract: the slots read so far are the first ones.
-use mathlib.Core.Path.{refl}
-use native.Mathlib.Omega.{arith}
+use Rattle.std.proofs.Common.{refl, arith}
 use Rattle.setups.specs.OpeningLaws.{no_slots, one_slot_more, all_slots}
 use Rattle.setups.proofs.opening.slots_in.Goals as goal
 
 pub loop-k-init : goal.loop-k-init
 loop-k-init c = no_slots c.args.header.now _ refl
-
-pub slot_in-requires : goal.slot_in-requires
-slot_in-requires c = omega arith
-
-pub offset_bounds-persons-k : goal.offset_bounds-persons-k
-offset_bounds-persons-k c = omega arith
-
-pub bounds-persons-k : goal.bounds-persons-k
-bounds-persons-k c = omega arith
-
-pub overflow_add-k : goal.overflow_add-k
-overflow_add-k c = omega arith
-
-pub loop-k-smaller : goal.loop-k-smaller
-loop-k-smaller c = omega arith
 
 pub loop-k-preserved : goal.loop-k-preserved
 loop-k-preserved c = one_slot_more c.args.header.now _ _ c.slot_in.result c.loop-k.invariant (omega arith) c.slot_in.ensures
