@@ -6,7 +6,7 @@ mod readers;
 pub use readers::argument_at;
 
 // What an argument has to be: an entry path is short `Entry`, a mode that begins with 0 `Plain`; an absent one may be anything.
-#[derive(Clone, Copy)]
+#[derive(Clone, Copy, PartialEq, Eq)]
 pub enum ArgumentKind {
     Path,
     Entry,

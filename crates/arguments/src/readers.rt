@@ -1,99 +1,43 @@
 // One argument read by its kind.
 ghost use Rattle.std.specs.Prelude.{◌≡◌};
-ghost use Rattle.syntax.specs.Number.{mode as mode_of};
-ghost use Rattle.syntax.specs.Path.{typed_path as typed_path_of, entry_path as entry_path_of};
-ghost use Rattle.syntax.specs.Form.{is_some};
-ghost use Rattle.syntax.specs.Field.{plain_mode, is_content};
-ghost use Rattle.syntax.specs.Parts.{Inside, span_text, number_of};
+ghost use Rattle.buffers.specs.Options.{option_of};
+ghost use Rattle.syntax.specs.Field.{plain_mode};
+ghost use Rattle.syntax.specs.Parts.{Inside, span_text};
 ghost use Rattle.arguments.specs.Kinds.{zero_if, number_in};
 
 use crate::ArgumentKind;
-use syntax::{
-    Number, Span, has_set_gid, is_content, is_entry_path, is_typed_path, mode, name_at, number_at,
-};
+use syntax::{Span, between, has_set_gid, is_content, is_entry_path, is_name, is_typed_path, mode};
 
-// Whether a part of the line is a path as it is typed.
-fn path_at(line: &[u8], s: Span) -> bool
-    requires { Inside s line.now }
-    ensures { result ≡ is_some (typed_path_of (span_text line.now s)) }
+// The mode of a new file: one without set-gid.
+fn plain_mode(s: &[u8]) -> Option<u16>
+    ensures { option_of result ≡ plain_mode s.now }
 {
-    let start = s.start;
-    let end = s.end;
-    is_typed_path(&line[start..end])
-}
-
-// Whether a part of the line is an entry path.
-fn entry_path_at(line: &[u8], s: Span) -> bool
-    requires { Inside s line.now }
-    ensures { result ≡ is_some (entry_path_of (span_text line.now s)) }
-{
-    let start = s.start;
-    let end = s.end;
-    is_entry_path(&line[start..end])
-}
-
-// The mode that a part of the line is.
-fn mode_at(line: &[u8], s: Span) -> Number
-    requires { Inside s line.now }
-    ensures { number_of result ≡ mode_of (span_text line.now s) }
-{
-    let start = s.start;
-    let end = s.end;
-    mode(&line[start..end])
-}
-
-// The mode of a new file that a part of the line is: one without set-gid.
-fn file_mode_at(line: &[u8], s: Span) -> Number
-    requires { Inside s line.now }
-    ensures { number_of result ≡ plain_mode (span_text line.now s) }
-{
-    match mode_at(line, s) {
-        Number::Value(m) => {
-            if has_set_gid(m) {
-                Number::Nothing
-            } else {
-                Number::Value(m)
-            }
-        }
-        Number::Nothing => Number::Nothing,
-    }
-}
-
-// Whether a part of the line is a content.
-fn content_at(line: &[u8], s: Span) -> bool
-    requires { Inside s line.now }
-    ensures { result ≡ is_content (span_text line.now s) }
-{
-    let start = s.start;
-    let end = s.end;
-    is_content(&line[start..end])
+    mode(s).filter(|m| !has_set_gid(*m))
 }
 
 // The number of an argument that has none, where it has its form.
-fn zero_if(formed: bool) -> Number
-    ensures { number_of result ≡ zero_if formed }
+fn zero_if(formed: bool) -> Option<u16>
+    ensures { option_of result ≡ zero_if formed }
 {
-    if formed {
-        return Number::Value(0);
-    }
-    Number::Nothing
+    formed.then_some(0)
 }
 
 // The number of an argument of a kind that a part of the line is, where it has that form.
-pub fn argument_at(line: &[u8], s: Span, kind: ArgumentKind) -> Number
+pub fn argument_at(line: &[u8], s: Span, kind: ArgumentKind) -> Option<u16>
     requires { Inside s line.now }
-    ensures { number_of result ≡ number_in kind (span_text line.now s) }
+    ensures { option_of result ≡ number_in kind (span_text line.now s) }
 {
+    let argument = s.of(line);
     match kind {
-        ArgumentKind::Path => zero_if(path_at(line, s)),
-        ArgumentKind::Entry => zero_if(entry_path_at(line, s)),
-        ArgumentKind::Mode => mode_at(line, s),
-        ArgumentKind::Plain => file_mode_at(line, s),
-        ArgumentKind::Uid => number_at(line, s, 0, 23),
-        ArgumentKind::Gid => number_at(line, s, 0, 24),
-        ArgumentKind::Role => number_at(line, s, 0, 7),
-        ArgumentKind::Password => zero_if(name_at(line, s)),
-        ArgumentKind::Content => zero_if(content_at(line, s)),
-        ArgumentKind::Absent => Number::Value(0),
+        ArgumentKind::Path => zero_if(is_typed_path(argument)),
+        ArgumentKind::Entry => zero_if(is_entry_path(argument)),
+        ArgumentKind::Mode => mode(argument),
+        ArgumentKind::Plain => plain_mode(argument),
+        ArgumentKind::Uid => between(argument, 0, 23),
+        ArgumentKind::Gid => between(argument, 0, 24),
+        ArgumentKind::Role => between(argument, 0, 7),
+        ArgumentKind::Password => zero_if(is_name(argument)),
+        ArgumentKind::Content => zero_if(is_content(argument)),
+        ArgumentKind::Absent => Some(0),
     }
 }

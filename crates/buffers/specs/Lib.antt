@@ -8,3 +8,4 @@ pub mod PasteLaws
 pub mod Over
 pub mod OverLaws
 pub mod Compute
+pub mod Options

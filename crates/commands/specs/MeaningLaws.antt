@@ -1,5 +1,5 @@
 -- What the parts of a parsed line read as, and of which command they are.
-use Rattle.std.specs.Prelude.{◌≡◌, refl, Bool, true, false, ltb}
+use Rattle.std.specs.Prelude.{◌≡◌, refl, Bool, true, false, ltb, Some, None}
 use Rattle.std.proofs.Common.{sym, subst, ap, ◌∙◌}
 use Rattle.std.proofs.Math.Option.{Option, none, some, map}
 use Rattle.buffers.specs.Cases.{and_both}
@@ -23,7 +23,7 @@ use Rattle.commands.specs.declared.AccountCommand.TheVariants.{Login, Logout, Cd
 use Rattle.commands.specs.declared.EntryCommand.{EntryCommand as EntryParts}
 use Rattle.commands.specs.declared.EntryCommand.TheVariants.{Add, Co, Commit, Up, Del}
 use Rattle.commands.specs.declared.Typed.{Typed}
-use Rattle.commands.specs.declared.Parsed.TheVariants.{Line as IsLine, NoForm}
+use Rattle.commands.specs.declared.CommandLine.{CommandLine}
 use Rattle.commands.specs.Command.{ShellAction, create, mkdir, read, write, rm, rmdir, mv, chmod, chgrp, chown, AccountAction, login, logout, cd}
 use Rattle.commands.specs.Command.{EntryAction, add, co, commit, up, del, Command, TypedCommand, shell, account, entry, Line, line, is_shell_command, is_command, is_typed_command, is_line}
 use Rattle.commands.specs.CommandLaws.{line_is_line}
@@ -114,7 +114,7 @@ meaning_means t (Account c) k e = account_parts_mean t c k e
 meaning_means t (Entry c) k e = entry_parts_mean t c k e
 
 -- a line that was not parsed has no form
-pub parsed_none : (t : Text) → parsed t NoForm ≡ map some (line t) → line t ≡ none
+pub parsed_none : (t : Text) → parsed t None ≡ map some (line t) → line t ≡ none
 unfolding parsed
 parsed_none t e = by (line t) e
   where
@@ -123,19 +123,19 @@ parsed_none t e = by (line t) e
     by (some l) e = no_answer e
 
 -- one that was parsed is that of its caller and of the command that its arguments make, which is in range
-pub parsed_line : (t : Text) (u : Uid) (c : Typed) → parsed t (IsLine u c) ≡ map some (line t)
-    → (k : TypedCommand) × TypedMeant t c k × (line t ≡ some (record { caller = u; command = k }))
+pub parsed_line : (t : Text) (r : CommandLine) → parsed t (Some r) ≡ map some (line t)
+    → (k : TypedCommand) × TypedMeant t r.typed k × (line t ≡ some (record { caller = r.caller; command = k }))
 unfolding parsed line_with is_line
-parsed_line t u c e = by (line t) refl e
+parsed_line t r e = by (line t) refl e
   where
-    by : (l : Option Line) → line t ≡ l → some (line_with u (typed_meaning t c)) ≡ map some l
-        → (k : TypedCommand) × TypedMeant t c k × (line t ≡ some (record { caller = u; command = k }))
+    by : (l : Option Line) → line t ≡ l → some (line_with r.caller (typed_meaning t r.typed)) ≡ map some l
+        → (k : TypedCommand) × TypedMeant t r.typed k × (line t ≡ some (record { caller = r.caller; command = k }))
     by none q e = no_answer (sym e)
     by (some l) q e =
-        let i : _ = both_read (typed_meaning t c) (λ k. some (record { caller = u; command = k })) l (sym (answered e)) in
-        let m : l ≡ record { caller = u; command = i.0 } = answered i.2 in
-        let h : line t ≡ some (record { caller = u; command = i.0 }) = q ∙ ap some m in
-        let fits = (and_both (ltb u.0 24) (is_typed_command i.0) (line_is_line t (record { caller = u; command = i.0 }) h)).1 in
+        let i : _ = both_read (typed_meaning t r.typed) (λ k. some (record { caller = r.caller; command = k })) l (sym (answered e)) in
+        let m : l ≡ record { caller = r.caller; command = i.0 } = answered i.2 in
+        let h : line t ≡ some (record { caller = r.caller; command = i.0 }) = q ∙ ap some m in
+        let fits = (and_both (ltb r.caller.0 24) (is_typed_command i.0) (line_is_line t (record { caller = r.caller; command = i.0 }) h)).1 in
         (i.0, record { means = i.1; in_range = fits }, h)
 
 -- parts that are made where all paths are whole are those of the command that these make

@@ -2,7 +2,7 @@
 -- the places and numbers of its arguments; once its paths are whole, its parts.
 --
 -- A part that lies outside the text, or that has not the form of its field, has no meaning.
-use Rattle.std.specs.Prelude.{◌≡◌, List, [], ◌∷◌, cond, ℕ, eqb}
+use Rattle.std.specs.Prelude.{◌≡◌, List, [], ◌∷◌, cond, ℕ, eqb, Option as Found, Some, None}
 use Rattle.std.proofs.Math.Option.{Option, none, some}
 use Rattle.buffers.specs.Text.{Text}
 use Rattle.accounts.specs.declared.Uid.{Uid}
@@ -20,10 +20,7 @@ use Rattle.commands.specs.declared.EntryCommand.TheVariants.{Add, Co, Commit, Up
 use Rattle.commands.specs.declared.Word.{Word}
 use Rattle.commands.specs.declared.Shape.{Shape}
 use Rattle.commands.specs.declared.Typed.{Typed}
-use Rattle.commands.specs.declared.Numbers.{Numbers}
-use Rattle.commands.specs.declared.Numbers.TheVariants.{Read as NumbersRead, Wrong}
-use Rattle.commands.specs.declared.Parsed.{Parsed}
-use Rattle.commands.specs.declared.Parsed.TheVariants.{Line as IsLine, NoForm}
+use Rattle.commands.specs.declared.CommandLine.{CommandLine}
 use Rattle.syntax.specs.Form.{◌>>=◌, by_form}
 use Rattle.syntax.specs.Path.{Path, TypedPath, EntryPath, path, typed_path, entry_path}
 use Rattle.syntax.specs.Field.{bounded}
@@ -97,9 +94,9 @@ pub record MakesOf (c : Typed) (d : Parts) : Type 0 where
 unfoldable pub line_with : Uid → Option TypedCommand → Option Line
 line_with u k = k >>= λ c. some (record { caller = u; command = c })
 
-unfoldable pub parsed : Text → Parsed → Option (Option Line)
-parsed t (IsLine u c) = some (line_with u (typed_meaning t c))
-parsed t NoForm = none
+unfoldable pub parsed : Text → Found CommandLine → Option (Option Line)
+parsed t (Some l) = some (line_with l.caller (typed_meaning t l.typed))
+parsed t None = none
 
 -- a typed command was read in a line: its shape is that of its word, and each argument lies inside and has the form of its kind
 pub record TypedRead (t : Text) (c : Typed) : Type 0 where
@@ -108,9 +105,9 @@ pub record TypedRead (t : Text) (c : Typed) : Type 0 where
   pub second : ArgumentRead c.shape.second t (second_of c)
   pub third : ArgumentRead c.shape.third t (third_of c)
 
-abbrev pub ReadIn : Text → Parsed → Type 0
-ReadIn t (IsLine u c) = TypedRead t c
-ReadIn t NoForm = Unit {0}
+abbrev pub ReadIn : Text → Found CommandLine → Type 0
+ReadIn t (Some l) = TypedRead t l.typed
+ReadIn t None = Unit {0}
 
 -- the command of a word with these arguments
 abbrev pub command_from : Word → List Text → Option TypedCommand
@@ -122,14 +119,14 @@ command_of [] = none
 command_of (w ∷ arguments) = by_form forms w arguments
 
 -- the numbers of a command's arguments, where these are as many as its shape says and each has its form
-unfoldable pub numbers_of : Option ℕ → Option ℕ → Option ℕ → Numbers
-numbers_of none m l = Wrong
-numbers_of (some n) none l = Wrong
-numbers_of (some n) (some m) none = Wrong
-numbers_of (some n) (some m) (some l) = NumbersRead n m l
+unfoldable pub numbers_of : Option ℕ → Option ℕ → Option ℕ → Found (ℕ × ℕ × ℕ)
+numbers_of none m l = None
+numbers_of (some n) none l = None
+numbers_of (some n) (some m) none = None
+numbers_of (some n) (some m) (some l) = Some (n, m, l)
 
-unfoldable pub numbers_in : Text → Fields → Shape → Numbers
+unfoldable pub numbers_in : Text → Fields → Shape → Found (ℕ × ℕ × ℕ)
 numbers_in t f s =
     cond (eqb f.count s.count)
     (numbers_of (number_in s.first (span_text t f.first)) (number_in s.second (span_text t f.second)) (number_in s.third (span_text t f.third)))
-    Wrong
+    None

@@ -1,6 +1,6 @@
 -- Laws of command lines: what a word and its fields are read as, how a line is its caller, word and arguments, and what the
 -- parts of a command read as.
-use Rattle.std.specs.Prelude.{◌≡◌, refl, List, [], ◌∷◌, false, ℕ, ◌%◌, ◌≤◌, ◌<◌, length, take, get_or}
+use Rattle.std.specs.Prelude.{◌≡◌, refl, List, [], ◌∷◌, false, ℕ, ◌%◌, ◌≤◌, ◌<◌, length, take, get_or, Option as Found, Some, None}
 use Rattle.std.proofs.Common.{sym, ◌∙◌, arith}
 use Rattle.std.proofs.Math.Path.{ap}
 use Rattle.std.proofs.Math.Option.{Option, none, some, map}
@@ -20,10 +20,8 @@ use Rattle.commands.specs.declared.Word.{Word}
 use Rattle.arguments.specs.declared.ArgumentKind.TheVariants as a
 use Rattle.commands.specs.declared.Shape.{Shape}
 use Rattle.commands.specs.declared.Typed.{Typed}
-use Rattle.commands.specs.declared.Numbers.TheVariants.{Read as NumbersRead, Wrong}
 use Rattle.commands.specs.declared.Command.{Command as Parts}
-use Rattle.commands.specs.declared.Parsed.{Parsed}
-use Rattle.commands.specs.declared.Parsed.TheVariants.{Line as IsLine, NoForm}
+use Rattle.commands.specs.declared.CommandLine.{CommandLine}
 use Rattle.syntax.specs.Number.{between}
 use Rattle.syntax.specs.Form.{◌>>=◌, is_some, by_form}
 use Rattle.syntax.proofs.FormLaws.{is_none, then_none, the_some}
@@ -37,12 +35,12 @@ use Rattle.commands.specs.WordsLaws.{many_refused}
 use Rattle.commands.specs.Parsed.{meaning, first_of, second_of, third_of, arguments, typed_meaning, whole_meaning, MakesOf, line_with, parsed, TypedRead, command_from, command_of, numbers_of, numbers_in}
 
 -- a line has no form where its command has none
-pub finds_none : (t : Text) (u : Uid) (m : Option TypedCommand) → m ≡ none → parsed t NoForm ≡ map some (line_with u m)
+pub finds_none : (t : Text) (u : Uid) (m : Option TypedCommand) → m ≡ none → parsed t None ≡ map some (line_with u m)
 unfolding parsed line_with ◌>>=◌
 finds_none t u m e = rw e
 
 -- and it is its caller and its command where this means what the form answers
-finds : (t : Text) (u : Uid) (c : Typed) (m : Option TypedCommand) → typed_meaning t c ≡ m → is_some m ≡ true → parsed t (IsLine u c) ≡ map some (line_with u m)
+finds : (t : Text) (u : Uid) (c : Typed) (m : Option TypedCommand) → typed_meaning t c ≡ m → is_some m ≡ true → parsed t (Some (record { caller = u; typed = c })) ≡ map some (line_with u m)
 unfolding parsed line_with ◌>>=◌
 finds t u c m h e = let i : _ = the_some m e in rw (h, i.1)
 
@@ -51,24 +49,22 @@ pub for_word : {c : Typed} {w : Word} {d : Parts} → c.word ≡ w → ((t : Tex
 unfolding whole_meaning
 for_word e h = record { means = λ t. rw e (h t) }
 
--- numbers that were read are not wrong
-differ : {n m l : ℕ} → NumbersRead n m l ≡ Wrong → ◌≡◌ {A = ℕ} 0 1
-differ e = cc
-
 -- numbers that were read, and an argument that was not
-read_three : {n m l : ℕ} (p q r : Option ℕ) → NumbersRead n m l ≡ numbers_of p q r → (some n ≡ p) × (some m ≡ q) × (some l ≡ r)
+read_three : (n m l : ℕ) (p q r : Option ℕ) → Some (n, m, l) ≡ numbers_of p q r → (some n ≡ p) × (some m ≡ q) × (some l ≡ r)
 unfolding numbers_of
-read_three none q r e = absurd (omega (arith, differ e))
-read_three (some a) none r e = absurd (omega (arith, differ e))
-read_three (some a) (some b) none e = absurd (omega (arith, differ e))
-read_three (some a) (some b) (some c) e = (cc, cc, cc)
+read_three n m l none q r e = absurd (cc)
+read_three n m l (some a) none r e = absurd (cc)
+read_three n m l (some a) (some b) none e = absurd (cc)
+read_three n m l (some a) (some b) (some c) e =
+    let i : (n, m, l) ≡ (a, b, c) = cc in
+    (ap (λ (z : ℕ × ℕ × ℕ). some z.0) i, ap (λ (z : ℕ × ℕ × ℕ). some z.1) i, ap (λ (z : ℕ × ℕ × ℕ). some z.2) i)
 
-wrong_three : {P : Type 0} (p q r : Option ℕ) → Wrong ≡ numbers_of p q r → (none ≡ p → P) → (none ≡ q → P) → (none ≡ r → P) → P
+wrong_three : {P : Type 0} (p q r : Option ℕ) → None ≡ numbers_of p q r → (none ≡ p → P) → (none ≡ q → P) → (none ≡ r → P) → P
 unfolding numbers_of
 wrong_three none q r e h k l = h refl
 wrong_three (some a) none r e h k l = k refl
 wrong_three (some a) (some b) none e h k l = l refl
-wrong_three (some a) (some b) (some c) e h k l = absurd (omega (arith, differ (sym e)))
+wrong_three (some a) (some b) (some c) e h k l = absurd (cc)
 
 -- a word with its arguments, whose shape is that of the word
 module _ (t : Text) (u : Uid) (f : Fields) (w : Word) {s : Shape} (few : f.count ≤ 3) (shaped : s ≡ shape_of (listed w).kinds) where
@@ -77,7 +73,7 @@ module _ (t : Text) (u : Uid) (f : Fields) (w : Word) {s : Shape} (few : f.count
   counted e = eqb-true f.count s.count e ∙ ap (λ (z : Shape). z.count) shaped
 
   -- they are not of those kinds
-  pub wrong_arguments : Wrong ≡ numbers_in t f s → command_from w (take f.count (argument_texts t f)) ≡ none
+  pub wrong_arguments : None ≡ numbers_in t f s → command_from w (take f.count (argument_texts t f)) ≡ none
   unfolding numbers_in argument_texts
   wrong_arguments h = case (eqb f.count s.count)
       (λ e. wrong_three (number_in s.first (span_text t f.first)) (number_in s.second (span_text t f.second)) (number_in s.third (span_text t f.third)) (rw e at h)
@@ -92,18 +88,18 @@ module _ (t : Text) (u : Uid) (f : Fields) (w : Word) {s : Shape} (few : f.count
       refused e i h = rw (counted e) (one_refused (listed w).kinds ((listed w).makes TypedPath) (argument_texts t f) i h)
 
   -- they are, and the command was read in the line
-  module _ (n m l : ℕ) (i : FieldsInside f t) (h : NumbersRead n m l ≡ numbers_in t f s) where
+  module _ (n m l : ℕ) (i : FieldsInside f t) (h : Some (n, m, l) ≡ numbers_in t f s) where
     abbrev made : Typed
     made = record { word = w; shape = s; fields = f; first = n; second = m; third = l }
 
     as_many : eqb f.count s.count ≡ true
     unfolding numbers_in
-    as_many = case (eqb f.count s.count) (λ e. e) (λ e. absurd (omega (arith, differ (rw e at h))))
+    as_many = case (eqb f.count s.count) (λ e. e) (λ e. let z : Some (n, m, l) ≡ None = rw e at h in absurd (cc))
 
     pub typed_read : TypedRead t made
     unfolding numbers_in
     typed_read =
-        let p = read_three (number_in s.first (span_text t f.first)) (number_in s.second (span_text t f.second)) (number_in s.third (span_text t f.third)) (rw as_many at h) in
+        let p = read_three n m l (number_in s.first (span_text t f.first)) (number_in s.second (span_text t f.second)) (number_in s.third (span_text t f.third)) (rw as_many at h) in
         record {
           shaped = shaped;
           first = record { inside = i.first; number = p.0 };
@@ -112,7 +108,7 @@ module _ (t : Text) (u : Uid) (f : Fields) (w : Word) {s : Shape} (few : f.count
         }
 
     -- and means what they make
-    pub right_arguments : parsed t (IsLine u made) ≡ map some (line_with u (command_from w (take f.count (argument_texts t f))))
+    pub right_arguments : parsed t (Some (record { caller = u; typed = made })) ≡ map some (line_with u (command_from w (take f.count (argument_texts t f))))
     unfolding argument_texts typed_meaning
     right_arguments =
         let r = typed_read in
@@ -137,13 +133,13 @@ unfolding uid ◌>>=◌ is_some
 uid_not_read t e = rw (← e)
 
 -- the first piece is the word
-pub word_first : (t : Text) (u : Uid) (w : Text) (ts ps : List Text) (r : Parsed) → ps ≡ w ∷ ts →
+pub word_first : (t : Text) (u : Uid) (w : Text) (ts ps : List Text) (r : Found CommandLine) → ps ≡ w ∷ ts →
     parsed t r ≡ map some (line_with u (by_form forms w ts)) → parsed t r ≡ map some (line_with u (command_of ps))
 unfolding command_of
 word_first t u w ts ps r e h = rw e h
 
 -- a line of one field has no form
-pub one_field_line : (t s : Text) → pieces comma t ≡ s ∷ [] → parsed t NoForm ≡ map some (line t)
+pub one_field_line : (t s : Text) → pieces comma t ≡ s ∷ [] → parsed t None ≡ map some (line t)
 unfolding parsed line line_of
 one_field_line t s e = rw e
 
@@ -153,12 +149,12 @@ line_parts s [] = sym (then_none (uid s) (λ u. none) (λ u. refl))
 line_parts s (w ∷ ts) = refl
 
 -- and neither has one whose first is no caller
-pub line_no_caller : (t s : Text) (ps : List Text) → pieces comma t ≡ s ∷ ps → is_some (uid s) ≡ false → parsed t NoForm ≡ map some (line t)
+pub line_no_caller : (t s : Text) (ps : List Text) → pieces comma t ≡ s ∷ ps → is_some (uid s) ≡ false → parsed t None ≡ map some (line t)
 unfolding parsed line ◌>>=◌
 line_no_caller t s ps e h = rw (e, line_parts s ps, is_none (uid s) h)
 
 -- a line is its caller and its command
-pub line_found : (t s : Text) (ps : List Text) (n : ℕ) (r : Parsed) → pieces comma t ≡ s ∷ ps → some n ≡ between 0 23 s →
+pub line_found : (t s : Text) (ps : List Text) (n : ℕ) (r : Found CommandLine) → pieces comma t ≡ s ∷ ps → some n ≡ between 0 23 s →
     parsed t r ≡ map some (line_with (record { 0 = n % 256 }) (command_of ps)) → parsed t r ≡ map some (line t)
 unfolding line ◌>>=◌
 line_found t s ps n r e h k = rw (e, line_parts s ps, uid_read n s h) k

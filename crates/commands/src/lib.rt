@@ -101,20 +101,6 @@ pub struct Shape {
     pub third: ArgumentKind,
 }
 
-// A listed word with the shape of its arguments, or a text that is none.
-#[derive(Clone, Copy)]
-pub enum Form {
-    Listed(Word, Shape),
-    Unlisted,
-}
-
-// The numbers of the arguments of a command, or arguments that have not the forms of its shape.
-#[derive(Clone, Copy)]
-pub enum Numbers {
-    Read(u16, u16, u16),
-    Wrong,
-}
-
 // A command as it is typed: its word, the kinds and places of its arguments, and their numbers.
 #[derive(Clone, Copy)]
 pub struct Typed {
@@ -126,9 +112,9 @@ pub struct Typed {
     pub third: u16,
 }
 
-// A command line: its caller and command, or no listed form.
+// A command line: its caller and command.
 #[derive(Clone, Copy)]
-pub enum Parsed {
-    Line { caller: Uid, typed: Typed },
-    NoForm,
+pub struct CommandLine {
+    pub caller: Uid,
+    pub typed: Typed,
 }

@@ -1,195 +1,111 @@
-// The words of commands, each with the shape of its arguments. They are data, one line each of `shell_form` or `form_of` as
-// of `listed` in `Command.antt`, and arguments are read by their kind. docs/ADDING.md says what a new one touches.
-ghost use Rattle.std.specs.Prelude.{◌≡◌, [], ◌∷◌};
-ghost use Rattle.buffers.specs.Text.{same_text};
-ghost use Rattle.syntax.specs.Parts.{Inside, span_text};
-ghost use Rattle.commands.specs.declared.Form.TheVariants.{Unlisted};
-ghost use Rattle.commands.specs.Command.{shell_words};
-ghost use Rattle.commands.specs.Words.{shape_of, or_listed, form_among, form_of};
+// The words of commands, each with its spelling and the kinds of its arguments. They are data, as in `listed` of `Command.antt`,
+// and arguments are read by their kind. docs/ADDING.md says what a new one touches.
+ghost use Rattle.std.specs.Prelude.{◌≡◌, ◌≤◌, length};
+ghost use Rattle.commands.specs.Command.{listed};
+ghost use Rattle.commands.specs.Words.{shape_of, word_of};
 
-use crate::{Form, Shape, Word};
+use crate::{Shape, Word};
 use arguments::ArgumentKind;
 use buffers::same;
-use syntax::Span;
 
-impl Form {
-    // What was found before, or this word with its shape where the text is so spelled.
-    fn or(self, t: &[u8], spelling: &[u8], word: Word, shape: Shape) -> Self
-        ensures { result ≡ or_listed self (same_text t.now spelling.now) word shape }
+// All words, the shell's first.
+const WORDS: [Word; 18] = [
+    Word::Create,
+    Word::Mkdir,
+    Word::Read,
+    Word::Write,
+    Word::Rm,
+    Word::Rmdir,
+    Word::Mv,
+    Word::Chmod,
+    Word::Chgrp,
+    Word::Chown,
+    Word::Login,
+    Word::Logout,
+    Word::Cd,
+    Word::Add,
+    Word::Co,
+    Word::Commit,
+    Word::Up,
+    Word::Del,
+];
+
+impl Shape {
+    // The shape of arguments of these kinds.
+    fn of(kinds: &[ArgumentKind]) -> Self
+        requires { length kinds.now ≤ 3 }
+        ensures { result ≡ shape_of kinds.now }
     {
-        let Form::Unlisted = self else {
-            return self;
-        };
-        if same(t, spelling) {
-            return Form::Listed(word, shape);
+        let kind = |i: usize| kinds.get(i).copied().unwrap_or(ArgumentKind::Absent);
+        Shape {
+            count: kinds.len(),
+            first: kind(0),
+            second: kind(1),
+            third: kind(2),
         }
-        Form::Unlisted
-    }
-
-    // This word with no arguments.
-    fn no(self, t: &[u8], spelling: &[u8], word: Word) -> Self
-        ensures { result ≡ or_listed self (same_text t.now spelling.now) word (shape_of []) }
-    {
-        self.or(
-            t,
-            spelling,
-            word,
-            Shape {
-                count: 0,
-                first: ArgumentKind::Absent,
-                second: ArgumentKind::Absent,
-                third: ArgumentKind::Absent,
-            },
-        )
-    }
-
-    // This word with one argument.
-    fn one(self, t: &[u8], spelling: &[u8], word: Word, a: ArgumentKind) -> Self
-        ensures { result ≡ or_listed self (same_text t.now spelling.now) word (shape_of (a ∷ [])) }
-    {
-        self.or(
-            t,
-            spelling,
-            word,
-            Shape {
-                count: 1,
-                first: a,
-                second: ArgumentKind::Absent,
-                third: ArgumentKind::Absent,
-            },
-        )
-    }
-
-    // This word with two arguments.
-    fn two(self, t: &[u8], spelling: &[u8], word: Word, a: ArgumentKind, b: ArgumentKind) -> Self
-        ensures { result ≡ or_listed self (same_text t.now spelling.now) word (shape_of (a ∷ (b ∷ []))) }
-    {
-        self.or(
-            t,
-            spelling,
-            word,
-            Shape {
-                count: 2,
-                first: a,
-                second: b,
-                third: ArgumentKind::Absent,
-            },
-        )
-    }
-
-    // This word with three arguments.
-    fn three(
-        self,
-        t: &[u8],
-        spelling: &[u8],
-        word: Word,
-        a: ArgumentKind,
-        b: ArgumentKind,
-        c: ArgumentKind,
-    ) -> Self
-        ensures { result ≡ or_listed self (same_text t.now spelling.now) word (shape_of (a ∷ (b ∷ (c ∷ [])))) }
-    {
-        self.or(
-            t,
-            spelling,
-            word,
-            Shape {
-                count: 3,
-                first: a,
-                second: b,
-                third: c,
-            },
-        )
     }
 }
 
-// The form of the word that a text is, if it is one of the shell's.
-fn shell_form(t: &[u8]) -> Form
-    ensures { result ≡ form_among shell_words Unlisted t.now }
-{
-    let mut f = Form::Unlisted;
-    f = f.two(
-        t,
-        b"create",
-        Word::Create,
-        ArgumentKind::Path,
-        ArgumentKind::Plain,
-    );
-    f = f.two(
-        t,
-        b"mkdir",
-        Word::Mkdir,
-        ArgumentKind::Path,
-        ArgumentKind::Mode,
-    );
-    f = f.one(t, b"read", Word::Read, ArgumentKind::Path);
-    f = f.two(
-        t,
-        b"write",
-        Word::Write,
-        ArgumentKind::Path,
-        ArgumentKind::Content,
-    );
-    f = f.one(t, b"rm", Word::Rm, ArgumentKind::Path);
-    f = f.one(t, b"rmdir", Word::Rmdir, ArgumentKind::Path);
-    f = f.two(t, b"mv", Word::Mv, ArgumentKind::Path, ArgumentKind::Path);
-    f = f.two(
-        t,
-        b"chmod",
-        Word::Chmod,
-        ArgumentKind::Path,
-        ArgumentKind::Mode,
-    );
-    f = f.two(
-        t,
-        b"chgrp",
-        Word::Chgrp,
-        ArgumentKind::Path,
-        ArgumentKind::Gid,
-    );
-    f.two(
-        t,
-        b"chown",
-        Word::Chown,
-        ArgumentKind::Path,
-        ArgumentKind::Uid,
-    )
+impl Word {
+    // How the word is spelled.
+    #[tactic(auto, unfolding(crate::specs::Command::listed, crate::specs::Command::takes, syntax::specs::Pieces::bytes))]
+    fn spelling(self) -> &'static [u8]
+        ensures { result.now ≡ (listed self).spelling }
+    {
+        match self {
+            Word::Create => b"create",
+            Word::Mkdir => b"mkdir",
+            Word::Read => b"read",
+            Word::Write => b"write",
+            Word::Rm => b"rm",
+            Word::Rmdir => b"rmdir",
+            Word::Mv => b"mv",
+            Word::Chmod => b"chmod",
+            Word::Chgrp => b"chgrp",
+            Word::Chown => b"chown",
+            Word::Login => b"login",
+            Word::Logout => b"logout",
+            Word::Cd => b"cd",
+            Word::Add => b"add",
+            Word::Co => b"co",
+            Word::Commit => b"commit",
+            Word::Up => b"up",
+            Word::Del => b"del",
+        }
+    }
+
+    // The shape of its arguments.
+    #[tactic(auto, unfolding(crate::specs::Command::listed, crate::specs::Command::takes))]
+    pub fn shape(self) -> Shape
+        ensures { result ≡ shape_of (listed self).kinds }
+    {
+        match self {
+            Word::Create => Shape::of(&[ArgumentKind::Path, ArgumentKind::Plain]),
+            Word::Mkdir => Shape::of(&[ArgumentKind::Path, ArgumentKind::Mode]),
+            Word::Read => Shape::of(&[ArgumentKind::Path]),
+            Word::Write => Shape::of(&[ArgumentKind::Path, ArgumentKind::Content]),
+            Word::Rm => Shape::of(&[ArgumentKind::Path]),
+            Word::Rmdir => Shape::of(&[ArgumentKind::Path]),
+            Word::Mv => Shape::of(&[ArgumentKind::Path, ArgumentKind::Path]),
+            Word::Chmod => Shape::of(&[ArgumentKind::Path, ArgumentKind::Mode]),
+            Word::Chgrp => Shape::of(&[ArgumentKind::Path, ArgumentKind::Gid]),
+            Word::Chown => Shape::of(&[ArgumentKind::Path, ArgumentKind::Uid]),
+            Word::Login => Shape::of(&[ArgumentKind::Role, ArgumentKind::Password]),
+            Word::Logout => Shape::of(&[]),
+            Word::Cd => Shape::of(&[ArgumentKind::Path]),
+            Word::Add => Shape::of(&[ArgumentKind::Path, ArgumentKind::Entry, ArgumentKind::Role]),
+            Word::Co => Shape::of(&[ArgumentKind::Entry, ArgumentKind::Path]),
+            Word::Commit => Shape::of(&[ArgumentKind::Path]),
+            Word::Up => Shape::of(&[ArgumentKind::Path]),
+            Word::Del => Shape::of(&[ArgumentKind::Entry]),
+        }
+    }
 }
 
-// The form of the word that a text is.
-fn form_of(t: &[u8]) -> Form
-    ensures { result ≡ form_of t.now }
+// The word that a text spells, if any.
+#[tactic(auto, unfolding(crate::specs::Command::words, crate::specs::Command::shell_words, crate::specs::Command::other_words, crate::specs::Words::word_of))]
+pub fn word_of(t: &[u8]) -> Option<Word>
+    ensures { result ≡ word_of t.now }
 {
-    let mut f = shell_form(t);
-    f = f.two(
-        t,
-        b"login",
-        Word::Login,
-        ArgumentKind::Role,
-        ArgumentKind::Password,
-    );
-    f = f.no(t, b"logout", Word::Logout);
-    f = f.one(t, b"cd", Word::Cd, ArgumentKind::Path);
-    f = f.three(
-        t,
-        b"add",
-        Word::Add,
-        ArgumentKind::Path,
-        ArgumentKind::Entry,
-        ArgumentKind::Role,
-    );
-    f = f.two(t, b"co", Word::Co, ArgumentKind::Entry, ArgumentKind::Path);
-    f = f.one(t, b"commit", Word::Commit, ArgumentKind::Path);
-    f = f.one(t, b"up", Word::Up, ArgumentKind::Path);
-    f.one(t, b"del", Word::Del, ArgumentKind::Entry)
-}
-
-// The form of the word that a part of the line is.
-pub fn form_at(line: &[u8], s: Span) -> Form
-    requires { Inside s line.now }
-    ensures { result ≡ form_of (span_text line.now s) }
-{
-    let start = s.start;
-    let end = s.end;
-    form_of(&line[start..end])
+    WORDS.iter().copied().find(|word| same(t, word.spelling()))
 }

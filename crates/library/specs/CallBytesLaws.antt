@@ -2,7 +2,7 @@
 --
 -- In order: setup (unset-elsewhere, made-called); before a command or a listing (short-call, unsound-call, sound-call); a command
 -- carried out (carried-call) and a line of the listing written (line-called).
-use Rattle.std.specs.Prelude.{◌≡◌, List, ◌++◌, true, false, ℕ, ◌-◌, ◌≤◌, ◌<◌, length, take, drop}
+use Rattle.std.specs.Prelude.{◌≡◌, List, ◌++◌, true, false, ℕ, ◌-◌, ◌≤◌, ◌<◌, length, take, drop, Ok, Err}
 use Rattle.std.proofs.Math.Path.{refl, ap}
 use Rattle.std.proofs.Common.{sym, ◌∙◌, arith, length-drop, take_all}
 use Rattle.std.proofs.Math.Option.{none, some}
@@ -31,17 +31,15 @@ use Rattle.machine.proofs.RunsLaws.{least_room_is}
 use Rattle.listing.specs.Listing.{listing}
 use Rattle.calls.specs.Calls.{set_up, setup_call, Called, called, encoded, on_state, listing_on, listing_result, listing_call}
 use Rattle.stored_header.specs.Stored.{bytes_with}
-use Rattle.setups.specs.declared.TextRead.{TextRead}
-use Rattle.setups.specs.declared.TextRead.TheVariants.{Accepted, Wrong}
-use Rattle.setups.specs.Making.{TextDone, text_as, store_made}
+use Rattle.setups.specs.Making.{TextRead, TextDone, text_as, store_made}
 use Rattle.library.specs.CallBytes.{set_up_as, called_as}
 
 -- ---- setup
 
 -- the answer to a setup text that was read
 unfoldable pub setup_told : TextRead → Answer
-setup_told Accepted = Done
-setup_told (Wrong n) = WrongLine n
+setup_told (Ok u) = Done
+setup_told (Err n) = WrongLine n.0
 
 module _ (b : List ℕ) (text : Text) where
   -- what is made of a text is what the call says of its answer

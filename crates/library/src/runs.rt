@@ -8,7 +8,7 @@ ghost use Rattle.library.specs.CallerBytes.{CalledBy};
 
 use crate::LEAST_ROOM;
 use accounts::Uid;
-use commands::{Parsed, Typed, parse};
+use commands::{CommandLine, Typed, parse};
 use header::Known;
 use line_runner::run_line;
 use shell::Answer;
@@ -40,7 +40,7 @@ pub fn run(store: &mut [u8], line: &[u8], answer: &mut [u8]) -> Answer
         return Answer::Refused(Cause::Unsound);
     }
     match parse(line) {
-        Parsed::NoForm => Answer::Refused(Cause::NoForm),
-        Parsed::Line { caller, typed } => by_caller(store, caller, line, typed, answer),
+        None => Answer::Refused(Cause::NoForm),
+        Some(CommandLine { caller, typed }) => by_caller(store, caller, line, typed, answer),
     }
 }

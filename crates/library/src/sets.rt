@@ -3,7 +3,7 @@ ghost use Rattle.std.specs.Prelude.{◌≡◌};
 ghost use Rattle.calls.specs.Calls.{setup_call};
 ghost use Rattle.library.specs.CallBytes.{set_up_as};
 
-use setups::{TextRead, make_store};
+use setups::{WrongLine, make_store};
 use shell::Answer;
 use store::STORE;
 use tree::Cause;
@@ -16,7 +16,7 @@ pub fn setup(store: &mut [u8], text: &[u8]) -> Answer
         return Answer::Refused(Cause::Unsound);
     }
     match make_store(store, text) {
-        TextRead::Accepted => Answer::Done,
-        TextRead::Wrong(number) => Answer::WrongLine(number),
+        Ok(()) => Answer::Done,
+        Err(WrongLine(number)) => Answer::WrongLine(number),
     }
 }

@@ -7,24 +7,16 @@ use accounts::{Gid, Role, Uid};
 pub use line::line_at;
 use syntax::Span;
 
-// The word that a line starts with.
-#[derive(Clone, Copy)]
+// The word that a line starts with: p, g, r or l, in the order in which such lines stand.
+#[derive(Clone, Copy, PartialEq, Eq)]
 pub enum LineKind {
-    P,
-    G,
-    R,
-    L,
-    Other,
+    Person,
+    Group,
+    Pair,
+    Grant,
 }
 
-// Two numbers read from a line, if both have their form.
-#[derive(Clone, Copy)]
-pub enum NumberPair {
-    Both(u8, u8),
-    Nothing,
-}
-
-// A line before `end`, whose password is a part of the setup text, or a line of no form.
+// A line before `end`, whose password is a part of the setup text.
 #[derive(Clone, Copy)]
 pub enum SetupLine {
     Person {
@@ -44,5 +36,4 @@ pub enum SetupLine {
         role: Role,
         password: Span,
     },
-    Wrong,
 }

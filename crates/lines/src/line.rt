@@ -1,127 +1,120 @@
 // A line by its word and its arguments.
 ghost use Rattle.std.specs.Prelude.{◌≡◌, List, ◌∷◌, ◌≤◌, ◌<◌, length, drop};
 ghost use Rattle.std.proofs.Math.Option.{some, map};
+ghost use Rattle.buffers.specs.Options.{option_of};
 ghost use Rattle.buffers.specs.Text.{Text};
 ghost use Rattle.syntax.specs.Parts.{Inside, part, span_text};
 ghost use Rattle.lines.specs.SetupLines.{setup_line_of, setup_line};
-ghost use Rattle.lines.specs.Line.{line_form, two_texts, three_texts, both_between, both_of, line_told};
+ghost use Rattle.lines.specs.Line.{kind_form, line_form, two_texts, three_texts, both_between, line_told};
 
-use crate::{LineKind, NumberPair, SetupLine};
+use crate::{LineKind, SetupLine};
 use accounts::{Gid, Role, Uid};
 use line_fields::fields_at;
-use syntax::{Number, Span, name_at, number_at};
+use syntax::{Span, between, is_name};
 
-// The word that a part is.
-fn word_at(text: &[u8], w: Span) -> LineKind
-    requires { Inside w text.now }
-    ensures { (arguments : List Text) → setup_line_of (span_text text.now w ∷ arguments) ≡ line_form result arguments }
+// The kind of line that a word starts.
+fn kind_of(word: &[u8]) -> Option<LineKind>
+    ensures { (arguments : List Text) → setup_line_of (word.now ∷ arguments) ≡ line_form result arguments }
 {
-    let start = w.start;
-    if w.end - start != 1 {
-        return LineKind::Other;
-    }
-    match text[start] {
-        b'p' => LineKind::P,
-        b'g' => LineKind::G,
-        b'r' => LineKind::R,
-        b'l' => LineKind::L,
-        _ => LineKind::Other,
+    match word {
+        [b'p'] => Some(LineKind::Person),
+        [b'g'] => Some(LineKind::Group),
+        [b'r'] => Some(LineKind::Pair),
+        [b'l'] => Some(LineKind::Grant),
+        _ => None,
     }
 }
 
 // The numbers, from low to a bound each, that two parts are.
-fn numbers_at(text: &[u8], a: Span, b: Span, low: u16, high1: u16, high2: u16) -> NumberPair
+fn numbers_at(text: &[u8], a: Span, b: Span, low: u16, high1: u16, high2: u16) -> Option<(u8, u8)>
     requires inside { Inside a text.now }
     requires inside_2 { Inside b text.now }
     requires high1_bound { high1 < 256 }
     requires high2_bound { high2 < 256 }
-    ensures { both_of result ≡ both_between low high1 high2 (span_text text.now a) (span_text text.now b) }
+    ensures { option_of result ≡ both_between low high1 high2 (span_text text.now a) (span_text text.now b) }
 {
-    match number_at(text, a, low, high1) {
-        Number::Nothing => NumberPair::Nothing,
-        Number::Value(m) => match number_at(text, b, low, high2) {
-            Number::Nothing => NumberPair::Nothing,
-            Number::Value(n) => NumberPair::Both((m % 256) as u8, (n % 256) as u8),
-        },
-    }
+    let m = between(a.of(text), low, high1)?;
+    let n = between(b.of(text), low, high2)?;
+    Some(((m % 256) as u8, (n % 256) as u8))
 }
 
 // Two arguments after a word: the forms of `p`, `g` and `r`.
-fn two_argument_line(text: &[u8], word: LineKind, a: Span, b: Span) -> SetupLine
+fn two_argument_line(text: &[u8], kind: LineKind, a: Span, b: Span) -> Option<SetupLine>
     requires inside { Inside a text.now }
     requires inside_2 { Inside b text.now }
-    ensures { line_told text.now result ≡ map some (line_form word (two_texts text.now a b)) }
+    ensures { line_told text.now result ≡ map some (kind_form kind (two_texts text.now a b)) }
 {
-    match word {
-        LineKind::P => match numbers_at(text, a, b, 1, 15, 15) {
-            NumberPair::Nothing => SetupLine::Wrong,
-            NumberPair::Both(u, g) => SetupLine::Person {
-                uid: Uid(u),
-                gid: Gid(g),
-            },
-        },
-        LineKind::G => match numbers_at(text, a, b, 1, 15, 15) {
-            NumberPair::Nothing => SetupLine::Wrong,
-            NumberPair::Both(u, g) => SetupLine::Group {
-                uid: Uid(u),
-                gid: Gid(g),
-            },
-        },
-        LineKind::R => match numbers_at(text, a, b, 0, 7, 7) {
-            NumberPair::Nothing => SetupLine::Wrong,
-            NumberPair::Both(s, j) => SetupLine::Pair {
-                senior: Role(s),
-                junior: Role(j),
-            },
-        },
-        LineKind::L => SetupLine::Wrong,
-        LineKind::Other => SetupLine::Wrong,
+    match kind {
+        LineKind::Person => {
+            let (uid, gid) = numbers_at(text, a, b, 1, 15, 15)?;
+            Some(SetupLine::Person {
+                uid: Uid(uid),
+                gid: Gid(gid),
+            })
+        }
+        LineKind::Group => {
+            let (uid, gid) = numbers_at(text, a, b, 1, 15, 15)?;
+            Some(SetupLine::Group {
+                uid: Uid(uid),
+                gid: Gid(gid),
+            })
+        }
+        LineKind::Pair => {
+            let (senior, junior) = numbers_at(text, a, b, 0, 7, 7)?;
+            Some(SetupLine::Pair {
+                senior: Role(senior),
+                junior: Role(junior),
+            })
+        }
+        LineKind::Grant => None,
     }
 }
 
 // Three arguments after a word: the form of `l`.
-fn three_argument_line(text: &[u8], word: LineKind, a: Span, b: Span, c: Span) -> SetupLine
+fn three_argument_line(text: &[u8], kind: LineKind, a: Span, b: Span, c: Span) -> Option<SetupLine>
     requires inside { Inside a text.now }
     requires inside_2 { Inside b text.now }
     requires inside_3 { Inside c text.now }
-    ensures { line_told text.now result ≡ map some (line_form word (three_texts text.now a b c)) }
+    ensures { line_told text.now result ≡ map some (kind_form kind (three_texts text.now a b c)) }
 {
-    let LineKind::L = word else {
-        return SetupLine::Wrong;
+    let LineKind::Grant = kind else {
+        return None;
     };
-    if !name_at(text, c) {
-        return SetupLine::Wrong;
+    if !is_name(c.of(text)) {
+        return None;
     }
-    match numbers_at(text, a, b, 0, 15, 7) {
-        NumberPair::Nothing => SetupLine::Wrong,
-        NumberPair::Both(u, r) => SetupLine::Grant {
-            uid: Uid(u),
-            role: Role(r),
-            password: c,
-        },
-    }
+    let (uid, role) = numbers_at(text, a, b, 0, 15, 7)?;
+    Some(SetupLine::Grant {
+        uid: Uid(uid),
+        role: Role(role),
+        password: c,
+    })
 }
 
-// The line that starts at a place and ends where the text ends.
-fn last_line(text: &[u8], at: usize) -> SetupLine
+// The line that starts at a place and ends where the text ends, if it has a form.
+fn last_line(text: &[u8], at: usize) -> Option<SetupLine>
     requires { at ≤ length text.now }
     ensures { line_told text.now result ≡ map some (setup_line (drop at text.now)) }
 {
     if 200 < text.len() - at {
-        return SetupLine::Wrong;
+        return None;
     }
     let f = fields_at(text, at);
-    if f.count == 2 {
-        return two_argument_line(text, word_at(text, f.word), f.first, f.second);
+    match f.count {
+        2 => {
+            let kind = kind_of(f.word.of(text))?;
+            two_argument_line(text, kind, f.first, f.second)
+        }
+        3 => {
+            let kind = kind_of(f.word.of(text))?;
+            three_argument_line(text, kind, f.first, f.second, f.third)
+        }
+        _ => None,
     }
-    if f.count == 3 {
-        return three_argument_line(text, word_at(text, f.word), f.first, f.second, f.third);
-    }
-    SetupLine::Wrong
 }
 
-// The line from one place up to another.
-pub fn line_at(text: &[u8], start: usize, end: usize) -> SetupLine
+// The line from one place up to another, if it has a form.
+pub fn line_at(text: &[u8], start: usize, end: usize) -> Option<SetupLine>
     requires start_le_end { start ≤ end }
     requires end_in_bounds { end ≤ length text.now }
     ensures { line_told text.now result ≡ map some (setup_line (part text.now start end)) }

@@ -1,6 +1,6 @@
 -- What a turn of the program does with its place and its buffers, and its turns one after another. Free are what `read` answers and leaves,
 -- and whether `write` prints what it is handed: each is named where it stands.
-use Rattle.std.specs.Prelude.{◌≡◌, List, ◌++◌, Bool, false, ℕ, zero, suc, ℤ, length}
+use Rattle.std.specs.Prelude.{◌≡◌, List, ◌++◌, Bool, false, ℕ, zero, suc, ℤ, length, Option, Some, None}
 use Rattle.syntax.specs.Parts.{part}
 use Rattle.setup.specs.SetupStep.{setup_step}
 use Rattle.setups.specs.declared.LineRead.{LineRead}
@@ -41,10 +41,10 @@ abbrev pub Refuses : Step → Place → ℕ → Buffers → Buffers → Type 0
 Refuses r at lines s s' = Reported r false at × (s' ≡ with_report s (refusal (suc lines)))
 
 -- a setup line that ends at a byte: the store is as the line leaves it, and the place behind it
-abbrev pub LineGoes : Step → Place → ℕ → ℕ → LineRead → Buffers → Buffers → Type 0
-LineGoes r at e lines (read.More kind) s s' = (r ≡ On (setup_from at (suc e) kind (suc lines))) × (s' ≡ s)
-LineGoes r at e lines read.End s s' = (r ≡ On (lines_from at (suc e))) × (s' ≡ s)
-LineGoes r at e lines read.Wrong s s' = Refuses r at lines s s'
+abbrev pub LineGoes : Step → Place → ℕ → ℕ → Option LineRead → Buffers → Buffers → Type 0
+LineGoes r at e lines (Some (read.More kind)) s s' = (r ≡ On (setup_from at (suc e) kind (suc lines))) × (s' ≡ s)
+LineGoes r at e lines (Some read.End) s s' = (r ≡ On (lines_from at (suc e))) × (s' ≡ s)
+LineGoes r at e lines None s s' = Refuses r at lines s s'
 
 abbrev pub LineMade : Step → Place → ℕ → ℕ → LineDone → Buffers → Buffers → Type 0
 LineMade r at e lines m s s' = LineGoes r at e lines m.answer (with_store s m.header) s'

@@ -139,11 +139,12 @@ fn read_setup(
         (lent window.now store.old answer.now out.old)
         (lent window.now store.new answer.now out.new) }
 {
-    let from = at.from;
-    match setup_line(store, kind, &window[from..end]) {
+    let Some(read) = setup_line(store, kind, &window[at.from..end]) else {
+        return refused(rt, at, lines, answer, out);
+    };
+    match read {
         LineRead::More(next) => Step::On(setup_from(at, end + 1, next, lines + 1)),
         LineRead::End => Step::On(lines_from(at, end + 1)),
-        LineRead::Wrong => refused(rt, at, lines, answer, out),
     }
 }
 

@@ -1,5 +1,5 @@
 -- What each line of a setup comes to, by the bytes of the header so far.
-use Rattle.std.specs.Prelude.{◌≡◌, Bool, true, false, ◌||◌, ℕ, suc, ◌+◌, ◌-◌, ◌*◌, ◌≤◌, ◌<◌, leb, length, get_or, take, drop, set}
+use Rattle.std.specs.Prelude.{◌≡◌, Bool, true, false, ◌||◌, ℕ, suc, ◌+◌, ◌-◌, ◌*◌, ◌≤◌, ◌<◌, leb, length, get_or, take, drop, set, Option as Found, Some, None}
 use Rattle.std.proofs.Math.Path.{refl, ap}
 use Rattle.std.proofs.Common.{sym, ◌∙◌, ap₂, arith, add-one, take_all}
 use mathlib.Core.List.{List, [], ◌∷◌}
@@ -43,7 +43,7 @@ use Rattle.store.specs.InitialRows.{slot_value}
 use Rattle.store.specs.StoreBytes.{slot_bytes, slot_of, grant_bytes, grant_of, setup_of}
 use Rattle.store.specs.SetupHeader.{setup_header}
 use Rattle.store.proofs.SetupHeaderLaws.{setup_header_wide, header_holds}
-use Rattle.setups.specs.declared.LineRead.TheVariants.{More, End, Wrong}
+use Rattle.setups.specs.declared.LineRead.TheVariants.{More, End}
 use Rattle.setups.specs.LineRead.{Begun, LineDone, read_as, after_line}
 use Rattle.setups.specs.HeaderGrowsLaws.{slot_written, pair_written, grant_written}
 
@@ -158,18 +158,18 @@ module _ (b : List ℕ) (w : Begun b) where
   grants_counted = table_count grant_width grant_of b grants_offset
 
   -- a wrong line leaves it
-  pub wrong_done : {m : Option Reading} → m ≡ none → read_as Wrong b ≡ after_line b (fitting m)
+  pub wrong_done : {m : Option Reading} → m ≡ none → read_as None b ≡ after_line b (fitting m)
   unfolding after_line fitting
   wrong_done e = rw e
 
   -- a line that leads on
   fits_done : {m : Option Reading} (k : ℕ) (u : Setup) (b' : List ℕ) → m ≡ some (record { kind = k; so_far = u }) → b' ≡ setup_header u →
-      read_as (More k) b' ≡ after_line b (fitting m)
+      read_as (Some (More k)) b' ≡ after_line b (fitting m)
   unfolding after_line fitting
-  fits_done k u b' e h = rw e (λ i. record { answer = More k; header = h i })
+  fits_done k u b' e h = rw e (λ i. record { answer = Some (More k); header = h i })
 
   pub slot_done : {m : Option Reading} (k : ℕ) (v : Uid) (p : Person) (b' : List ℕ) → v.0 < 16 → is_person p ≡ true →
-      m ≡ some (record { kind = k; so_far = with_person v p (setup_of b) }) → b' ≡ paste b (3 * v.0) (slot_bytes (some p)) 3 → read_as (More k) b' ≡ after_line b (fitting m)
+      m ≡ some (record { kind = k; so_far = with_person v p (setup_of b) }) → b' ≡ paste b (3 * v.0) (slot_bytes (some p)) 3 → read_as (Some (More k)) b' ≡ after_line b (fitting m)
   unfolding with_person is_slot
   slot_done k v p b' l i e h =
       fits_done k (with_person v p (setup_of b)) b' e
@@ -177,7 +177,7 @@ module _ (b : List ℕ) (w : Begun b) where
 
   pub pair_done : {m : Option Reading} (p : Pair) (c b' : List ℕ) → get_or b pairs_offset 0 < 28 →
       m ≡ some (record { kind = 2; so_far = with_pair p (setup_of b) }) → length c ≡ length b → c ≡ paste b (pair_start (get_or b pairs_offset 0)) (pair_bytes p) pair_width → b' ≡ set c pairs_offset (get_or b pairs_offset 0 + 1) →
-      read_as (More 2) b' ≡ after_line b (fitting m)
+      read_as (Some (More 2)) b' ≡ after_line b (fitting m)
   pair_done p c b' few e long one two =
       let n = get_or b pairs_offset 0 in
       fits_done 2 (with_pair p (setup_of b)) b' e
@@ -189,7 +189,7 @@ module _ (b : List ℕ) (w : Begun b) where
 
   pub grant_done : {m : Option Reading} (g : Grant) (c b' : List ℕ) → length g.password ≤ 8 → get_or b grants_offset 0 < 32 →
       m ≡ some (record { kind = 3; so_far = with_grant g (setup_of b) }) → length c ≡ length b → c ≡ paste b (grant_start (get_or b grants_offset 0)) (grant_bytes g) grant_width → b' ≡ set c grants_offset (get_or b grants_offset 0 + 1) →
-      read_as (More 3) b' ≡ after_line b (fitting m)
+      read_as (Some (More 3)) b' ≡ after_line b (fitting m)
   grant_done g c b' short few e long one two =
       let n = get_or b grants_offset 0 in
       fits_done 3 (with_grant g (setup_of b)) b' e
@@ -227,30 +227,26 @@ read_whole : (t : Text) → part t 0 (length t) ≡ t
 unfolding part
 read_whole t = take_all (length t - 0) t (omega arith)
 
-pub word_whole : (t word : Text) → same_text (span_text t (record { start = 0; end = length t })) word ≡ same_text t word
-unfolding span_text
-word_whole t word = ap (λ (x : Text). same_text x word) (read_whole t)
-
-module _ (t : Text) (n : ℕ) (r : SetupLine) (all : n ≡ length t) (told : line_told t r ≡ map some (setup_line (part t 0 n))) where
+module _ (t : Text) (n : ℕ) (r : Found SetupLine) (all : n ≡ length t) (told : line_told t r ≡ map some (setup_line (part t 0 n))) where
   whole_told : line_told t r ≡ map some (setup_line t)
   whole_told = told ∙ ap (λ (x : Text). map some (setup_line x)) (ap (part t 0) all ∙ read_whole t)
 
-  pub told_person : {u : Uid} {g : Gid} → r ≡ line.Person u g → setup_line t ≡ some (p_line u g)
+  pub told_person : {u : Uid} {g : Gid} → r ≡ Some (line.Person u g) → setup_line t ≡ some (p_line u g)
   unfolding line_told
   told_person e = told_line t r _ _ (rw e) whole_told
 
-  pub told_group : {u : Uid} {g : Gid} → r ≡ line.Group u g → setup_line t ≡ some (g_line u g)
+  pub told_group : {u : Uid} {g : Gid} → r ≡ Some (line.Group u g) → setup_line t ≡ some (g_line u g)
   unfolding line_told
   told_group e = told_line t r _ _ (rw e) whole_told
 
-  pub told_pair : {a b : Role} → r ≡ line.Pair a b → setup_line t ≡ some (r_line a b)
+  pub told_pair : {a b : Role} → r ≡ Some (line.Pair a b) → setup_line t ≡ some (r_line a b)
   unfolding line_told
   told_pair e = told_line t r _ _ (rw e) whole_told
 
-  pub told_grant : {u : Uid} {role : Role} {w : Span} → r ≡ line.Grant u role w → (setup_line t ≡ some (l_line u role (span_text t w))) × (Inside w t)
+  pub told_grant : {u : Uid} {role : Role} {w : Span} → r ≡ Some (line.Grant u role w) → (setup_line t ≡ some (l_line u role (span_text t w))) × (Inside w t)
   told_grant e = grant_told t _ _ _ _ (rw e at whole_told)
 
-  pub told_wrong : r ≡ line.Wrong → setup_line t ≡ none
+  pub told_wrong : r ≡ None → setup_line t ≡ none
   told_wrong e = told_none t _ (rw e at whole_told)
 
 -- a password fits its field
@@ -289,25 +285,25 @@ pub record Led (a : LineAnswer) (k : ℕ) (H : List ℕ) : Type 0 where
   pub holds : H ≡ setup_header to.so_far
 
 module _ (b H : List ℕ) where
-  pub more_led : (a : LineAnswer) (k : ℕ) → read_as (More k) H ≡ after_line b a → Led a k H
+  pub more_led : (a : LineAnswer) (k : ℕ) → read_as (Some (More k)) H ≡ after_line b a → Led a k H
   unfolding after_line
   more_led (leads_on d) k e = record {
     to = d;
     is = refl;
-    of_kind = let z : More k ≡ More d.kind = ap (λ (x : LineDone). x.answer) e in cc;
+    of_kind = let z : Some (More k) ≡ Some (More d.kind) = ap (λ (x : LineDone). x.answer) e in cc;
     holds = ap (λ (x : LineDone). x.header) e;
   }
-  more_led ends_it k e = let z : More k ≡ End = ap (λ (x : LineDone). x.answer) e in contra {b = true} refl (cc)
-  more_led is_wrong k e = let z : More k ≡ Wrong = ap (λ (x : LineDone). x.answer) e in contra {b = true} refl (cc)
+  more_led ends_it k e = let z : Some (More k) ≡ Some End = ap (λ (x : LineDone). x.answer) e in contra {b = true} refl (cc)
+  more_led is_wrong k e = let z : Some (More k) ≡ None = ap (λ (x : LineDone). x.answer) e in contra {b = true} refl (cc)
 
-  pub end_ended : (a : LineAnswer) → read_as End H ≡ after_line b a → (a ≡ ends_it) × (H ≡ b)
+  pub end_ended : (a : LineAnswer) → read_as (Some End) H ≡ after_line b a → (a ≡ ends_it) × (H ≡ b)
   unfolding after_line
-  end_ended (leads_on d) e = let z : End ≡ More d.kind = ap (λ (x : LineDone). x.answer) e in contra {b = true} refl (cc)
+  end_ended (leads_on d) e = let z : Some End ≡ Some (More d.kind) = ap (λ (x : LineDone). x.answer) e in contra {b = true} refl (cc)
   end_ended ends_it e = (refl, ap (λ (x : LineDone). x.header) e)
-  end_ended is_wrong e = let z : End ≡ Wrong = ap (λ (x : LineDone). x.answer) e in contra {b = true} refl (cc)
+  end_ended is_wrong e = let z : Some End ≡ None = ap (λ (x : LineDone). x.answer) e in contra {b = true} refl (cc)
 
-  pub wrong_stayed : (a : LineAnswer) → read_as Wrong H ≡ after_line b a → (a ≡ is_wrong) × (H ≡ b)
+  pub wrong_stayed : (a : LineAnswer) → read_as None H ≡ after_line b a → (a ≡ is_wrong) × (H ≡ b)
   unfolding after_line
-  wrong_stayed (leads_on d) e = let z : Wrong ≡ More d.kind = ap (λ (x : LineDone). x.answer) e in contra {b = true} refl (cc)
-  wrong_stayed ends_it e = let z : Wrong ≡ End = ap (λ (x : LineDone). x.answer) e in contra {b = true} refl (cc)
+  wrong_stayed (leads_on d) e = let z : None ≡ Some (More d.kind) = ap (λ (x : LineDone). x.answer) e in contra {b = true} refl (cc)
+  wrong_stayed ends_it e = let z : None ≡ Some End = ap (λ (x : LineDone). x.answer) e in contra {b = true} refl (cc)
   wrong_stayed is_wrong e = (refl, ap (λ (x : LineDone). x.header) e)

@@ -1,5 +1,5 @@
 -- What a store holds while its setup is read, and when it is opened.
-use Rattle.std.specs.Prelude.{◌≡◌, refl, true, cond, ℕ, zero, suc, ◌+◌, ◌-◌, ◌*◌, ◌≤◌, ◌<◌, eqb, get_or, set, replicate}
+use Rattle.std.specs.Prelude.{◌≡◌, refl, true, cond, ℕ, zero, suc, ◌+◌, ◌-◌, ◌*◌, ◌≤◌, ◌<◌, eqb, get_or, set, replicate, Option as Found, Some, None}
 use Rattle.std.proofs.Math.Path.{sym, ap, ap₂}
 use Rattle.std.proofs.Common.{◌∙◌, subst, arith, add-one, mul-zero, mul-suc, add_comm, length-append, length-set, take-append-drop, take_all, drop_at, drop-drop, take-suc-set}
 use mathlib.Core.List.{List, [], ◌∷◌, ◌++◌, map, map-append, append-nil}
@@ -26,7 +26,7 @@ use Rattle.store.specs.SetupHeader.{reading_in, setup_header, headed, first_stor
 use Rattle.store.proofs.SetupHeaderLaws.{setup_header_wide, headed_holds, header_holds, nothing_is_zeros}
 use Rattle.store.proofs.HeaderLaws.{length_header}
 use Rattle.setups.specs.declared.LineRead.{LineRead}
-use Rattle.setups.specs.declared.LineRead.TheVariants.{More, End, Wrong}
+use Rattle.setups.specs.declared.LineRead.TheVariants.{More, End}
 use Rattle.setups.specs.DirectoriesLaws.{first_bytes, first_header}
 use Rattle.setups.specs.LineRead.{Begun, BegunStore, read_as, after_line, line_call}
 use Rattle.setups.specs.LineReadLaws.{header_begun, more_led, end_ended, wrong_stayed}
@@ -137,43 +137,47 @@ module _ (b : List ℕ) (w : BegunStore b) where
   pub front_begun : Begun (take header_width b)
   front_begun = subst Begun (sym (header_in b w)) (header_begun (setup_of b) w.in_range)
 
-  module _ (t : Text) (kind : ℕ) (H : List ℕ) (r : LineRead) (h : read_as r H ≡ after_line (take header_width b) (setup_step t (reading_in kind (take header_width b)))) where
+  module _ (t : Text) (kind : ℕ) (H : List ℕ) (r : Found LineRead) (h : read_as r H ≡ after_line (take header_width b) (setup_step t (reading_in kind (take header_width b)))) where
     abbrev step : LineAnswer
     step = setup_step t (reading_in kind b)
 
     -- the header's answer is one to the store's reading
-    by_step : {x : LineRead} → r ≡ x → read_as x H ≡ after_line (take header_width b) step
+    by_step : {x : Found LineRead} → r ≡ x → read_as x H ≡ after_line (take header_width b) step
     by_step e =
-        ap (λ (y : LineRead). read_as y H) (sym e) ∙ h
+        ap (λ (y : Found LineRead). read_as y H) (sym e) ∙ h
         ∙ ap (λ (u : Setup). after_line (take header_width b) (setup_step t (record { kind = kind; so_far = u }))) same_setup
 
     -- what is left as it was
     stayed : H ≡ take header_width b → H ++ drop header_width b ≡ b
     stayed e = ap (λ (x : List ℕ). x ++ drop header_width b) e ∙ take-append-drop header_width b
 
-    pub more_called : (k : ℕ) → r ≡ More k → read_as (More k) (H ++ drop header_width b) ≡ line_call b step
+    pub more_called : (k : ℕ) → r ≡ Some (More k) → read_as (Some (More k)) (H ++ drop header_width b) ≡ line_call b step
     unfolding line_call
     more_called k e =
         let l = more_led (take header_width b) H step k (by_step e) in
-        (λ i. record { answer = More (l.of_kind i); header = l.holds i ++ drop header_width b }) ∙ sym (ap (line_call b) l.is)
+        (λ i. record { answer = Some (More (l.of_kind i)); header = l.holds i ++ drop header_width b }) ∙ sym (ap (line_call b) l.is)
 
-    pub wrong_called : r ≡ Wrong → read_as Wrong (H ++ drop header_width b) ≡ line_call b step
+    pub leads_called : (x : LineRead) → (x ≡ End → ⊥) → r ≡ Some x → read_as (Some x) (H ++ drop header_width b) ≡ line_call b step
+    leads_called (More k) other e = more_called k e
+    leads_called End other e = absurd (other refl)
+
+    pub wrong_called : r ≡ None → read_as None (H ++ drop header_width b) ≡ line_call b step
     unfolding line_call
     wrong_called e =
         let l = wrong_stayed (take header_width b) H step (by_step e) in
-        (λ i. record { answer = Wrong; header = stayed l.1 i }) ∙ sym (ap (line_call b) l.0)
+        (λ i. record { answer = None; header = stayed l.1 i }) ∙ sym (ap (line_call b) l.0)
 
-    module _ (e : r ≡ End) where
+    module _ (e : r ≡ Some End) where
       ended : (step ≡ ends_it) × (H ++ drop header_width b ≡ b)
       ended = let l = end_ended (take header_width b) H step (by_step e) in (l.0, stayed l.1)
 
       pub still_begun : BegunStore (H ++ drop header_width b)
       still_begun = subst BegunStore (sym ended.1) w
 
-      pub end_called : (b' : List ℕ) → b' ≡ first_store (setup_of (H ++ drop header_width b)) → read_as End b' ≡ line_call b step
+      pub end_called : (b' : List ℕ) → b' ≡ first_store (setup_of (H ++ drop header_width b)) → read_as (Some End) b' ≡ line_call b step
       unfolding line_call
       end_called b' q =
-          (λ i. record { answer = End; header = (q ∙ ap (λ (x : List ℕ). first_store (setup_of x)) ended.1) i }) ∙ sym (ap (line_call b) ended.0)
+          (λ i. record { answer = Some End; header = (q ∙ ap (λ (x : List ℕ). first_store (setup_of x)) ended.1) i }) ∙ sym (ap (line_call b) ended.0)
 
 -- ---- a store stays begun
 

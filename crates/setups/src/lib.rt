@@ -11,17 +11,13 @@ mod opening;
 pub use making::make_store;
 pub use opening::{begin_store, setup_line};
 
-// What a line of a setup text comes to: it fits and is of this kind (p, g, r, l: 0 to 3), it is `end`, or it is wrong.
-#[derive(Clone, Copy)]
+// What a line of a setup text that is not wrong comes to: it fits and is of this kind (p, g, r, l: 0 to 3), or it is `end`.
+#[derive(Clone, Copy, PartialEq, Eq)]
 pub enum LineRead {
     More(u8),
     End,
-    Wrong,
 }
 
-// What a whole setup text comes to: it is accepted, or the line of this number, from 1, is its first wrong one.
-#[derive(Clone, Copy)]
-pub enum TextRead {
-    Accepted,
-    Wrong(usize),
-}
+// The number, from 1, of the first wrong line of a setup text.
+#[derive(Clone, Copy, PartialEq, Eq)]
+pub struct WrongLine(pub usize);

@@ -13,13 +13,12 @@ ghost use Rattle.setups.specs.LineRead.{Begun, read_as, after_line};
 use crate::LineRead;
 use crate::header_values::{write_grant, write_pair, write_slot};
 use accounts::{Gid, Groups, Pair, Role, Uid};
-use buffers::number;
+use buffers::{number, same};
 use lines::{SetupLine, line_at};
 use store::{GRANT, GRANTS, PAIR, PAIRS, Person, SLOT};
-use syntax::{Span, word_is};
 
 // A person who has no slot yet.
-fn name_person(header: &mut [u8], kind: u8, uid: Uid, gid: Gid) -> LineRead
+fn name_person(header: &mut [u8], kind: u8, uid: Uid, gid: Gid) -> Option<LineRead>
     requires begun { Begun header.old }
     requires uid_bound { uid.0 < 16 }
     requires gid_nonzero { 0 < gid.0 }
@@ -27,22 +26,22 @@ fn name_person(header: &mut [u8], kind: u8, uid: Uid, gid: Gid) -> LineRead
     ensures { read_as result header.new ≡ after_line header.old (fitting (accept (p_line uid gid) (reading_in kind header.old))) }
 {
     if 0 < kind {
-        return LineRead::Wrong;
+        return None;
     }
     let at = SLOT * uid.0 as usize;
     if header[at] != 0 {
-        return LineRead::Wrong;
+        return None;
     }
     let person = Person {
         primary: gid,
         further: Groups(0),
     };
     write_slot(header, at, person);
-    LineRead::More(0)
+    Some(LineRead::More(0))
 }
 
 // A further group of a person.
-fn join_group(header: &mut [u8], kind: u8, uid: Uid, gid: Gid) -> LineRead
+fn join_group(header: &mut [u8], kind: u8, uid: Uid, gid: Gid) -> Option<LineRead>
     requires begun { Begun header.old }
     requires uid_bound { uid.0 < 16 }
     requires gid_nonzero { 0 < gid.0 }
@@ -50,32 +49,32 @@ fn join_group(header: &mut [u8], kind: u8, uid: Uid, gid: Gid) -> LineRead
     ensures { read_as result header.new ≡ after_line header.old (fitting (accept (g_line uid gid) (reading_in kind header.old))) }
 {
     if 1 < kind {
-        return LineRead::Wrong;
+        return None;
     }
     let at = SLOT * uid.0 as usize;
     let primary = Gid(header[at]);
     if primary.0 == 0 {
-        return LineRead::Wrong;
+        return None;
     }
     let further = Groups(number(header, at + 1) as u32).with(gid);
     write_slot(header, at, Person { primary, further });
-    LineRead::More(1)
+    Some(LineRead::More(1))
 }
 
 // A role pair behind the others.
-fn add_pair(header: &mut [u8], kind: u8, senior: Role, junior: Role) -> LineRead
+fn add_pair(header: &mut [u8], kind: u8, senior: Role, junior: Role) -> Option<LineRead>
     requires { Begun header.old }
     ensures { read_as result header.new ≡ after_line header.old (fitting (accept (r_line senior junior) (reading_in kind header.old))) }
 {
     if 2 < kind {
-        return LineRead::Wrong;
+        return None;
     }
     if junior.0 <= senior.0 {
-        return LineRead::Wrong;
+        return None;
     }
     let n = header[PAIRS];
     if 28 <= n {
-        return LineRead::Wrong;
+        return None;
     }
     write_pair(
         header,
@@ -83,7 +82,7 @@ fn add_pair(header: &mut [u8], kind: u8, senior: Role, junior: Role) -> LineRead
         Pair { senior, junior },
     );
     header[PAIRS] = n + 1;
-    LineRead::More(2)
+    Some(LineRead::More(2))
 }
 
 // Whether an account is root's or a person's.
@@ -100,7 +99,7 @@ fn is_known(header: &[u8], uid: Uid) -> bool
 }
 
 // A login grant behind the others.
-fn add_grant(header: &mut [u8], kind: u8, uid: Uid, role: Role, password: &[u8]) -> LineRead
+fn add_grant(header: &mut [u8], kind: u8, uid: Uid, role: Role, password: &[u8]) -> Option<LineRead>
     requires begun { Begun header.old }
     requires kind_bound { kind ≤ 3 }
     requires uid_bound { uid.0 < 16 }
@@ -108,28 +107,28 @@ fn add_grant(header: &mut [u8], kind: u8, uid: Uid, role: Role, password: &[u8])
     ensures { read_as result header.new ≡ after_line header.old (fitting (accept (l_line uid role password.now) (reading_in kind header.old))) }
 {
     if !is_known(header, uid) {
-        return LineRead::Wrong;
+        return None;
     }
     let n = header[GRANTS];
     if 32 <= n {
-        return LineRead::Wrong;
+        return None;
     }
     write_grant(header, GRANTS + 1 + GRANT * n as usize, uid, role, password);
     header[GRANTS] = n + 1;
-    LineRead::More(3)
+    Some(LineRead::More(3))
 }
 
 // Reads a line, without its byte 10, behind lines of which the last was of this kind, into the header that they have made.
-pub fn read_line(header: &mut [u8], kind: u8, line: &[u8]) -> LineRead
+pub fn read_line(header: &mut [u8], kind: u8, line: &[u8]) -> Option<LineRead>
     requires begun { Begun header.old }
     requires kind_bound { kind ≤ 3 }
     ensures { read_as result header.new ≡ after_line header.old (setup_step line.now (reading_in kind header.old)) }
 {
-    let n = line.len();
-    if word_is(line, Span { start: 0, end: n }, b"end") {
-        return LineRead::End;
+    if same(line, b"end") {
+        return Some(LineRead::End);
     }
-    match line_at(line, 0, n) {
+    let read = line_at(line, 0, line.len())?;
+    match read {
         SetupLine::Person { uid, gid } => name_person(header, kind, uid, gid),
         SetupLine::Group { uid, gid } => join_group(header, kind, uid, gid),
         SetupLine::Pair { senior, junior } => add_pair(header, kind, senior, junior),
@@ -137,11 +136,6 @@ pub fn read_line(header: &mut [u8], kind: u8, line: &[u8]) -> LineRead
             uid,
             role,
             password,
-        } => {
-            let start = password.start;
-            let end = password.end;
-            add_grant(header, kind, uid, role, &line[start..end])
-        }
-        SetupLine::Wrong => LineRead::Wrong,
+        } => add_grant(header, kind, uid, role, password.of(line)),
     }
 }

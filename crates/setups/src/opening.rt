@@ -60,17 +60,14 @@ pub fn open_store(store: &mut [u8])
 }
 
 // Reads a line of the setup into its store, behind lines of which the last was of this kind; `end` opens the store.
-pub fn setup_line(store: &mut [u8], kind: u8, line: &[u8]) -> LineRead
+pub fn setup_line(store: &mut [u8], kind: u8, line: &[u8]) -> Option<LineRead>
     requires begun_store { BegunStore store.old }
     requires kind_bound { kind ≤ 3 }
     ensures { read_as result store.new ≡ line_call store.old (setup_step line.now (reading_in kind store.old)) }
 {
-    match read_line(&mut store[..HEADER], kind, line) {
-        LineRead::More(next) => LineRead::More(next),
-        LineRead::End => {
-            open_store(store);
-            LineRead::End
-        }
-        LineRead::Wrong => LineRead::Wrong,
+    let read = read_line(&mut store[..HEADER], kind, line)?;
+    if let LineRead::End = read {
+        open_store(store);
     }
+    Some(read)
 }

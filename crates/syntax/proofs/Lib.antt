@@ -12,3 +12,4 @@ pub mod FollowsLaws
 pub mod PathTextLaws
 pub mod FieldPartsLaws
 pub mod Cases
+pub mod SearchLaws

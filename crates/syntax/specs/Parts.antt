@@ -1,20 +1,13 @@
 -- What the code's readers answer: parts of a text by their places, fields, numbers and names.
 use Rattle.std.specs.Prelude.{List, [], ◌∷◌, Bool, ◌&&◌, ◌||◌, cond, ℕ, zero, suc, ◌+◌, ◌-◌, ◌≤◌, eqb, leb, length, take, drop, get_or}
-use Rattle.std.proofs.Math.Option.{Option, none, some}
 use Rattle.std.specs.Prelude as code
 use Rattle.std.specs.Prelude.{Some, None}
+use Rattle.std.proofs.Math.Option.{Option, some}
 use Rattle.buffers.specs.Text.{Text, same_text}
 use Rattle.syntax.specs.declared.Span.{Span}
 use Rattle.syntax.specs.declared.Field.{Field}
-use Rattle.syntax.specs.declared.Class.{Class}
-use Rattle.syntax.specs.declared.Class.TheVariants.{Name, Content, Decimal, Octal}
-use Rattle.syntax.specs.declared.Number.{Number}
-use Rattle.syntax.specs.declared.Number.TheVariants.{Value, Nothing}
 use Rattle.syntax.specs.Pieces.{comma, piece_length}
 use Rattle.syntax.specs.Form.{◌>>◌, check}
-use Rattle.syntax.specs.Number.{digit}
-use Rattle.syntax.specs.Path.{name_byte}
-use Rattle.syntax.specs.Field.{content_byte}
 
 -- the bytes from one place up to another
 unfoldable pub part : Text → ℕ → ℕ → Text
@@ -38,22 +31,11 @@ text_in t s = do
   check (span_inside t s)
   some (span_text t s)
 
--- the bytes of a class
-unfoldable pub of_class : Class → ℕ → Bool
-of_class Name = name_byte
-of_class Content = content_byte
-of_class Decimal = digit 10
-of_class Octal = digit 8
-
 -- the field that starts at a place
 unfoldable pub field_at : Text → ℕ → Field
 field_at t at =
     let end = at + piece_length comma (drop at t) in
     record { start = at; end = end; last = eqb end (length t) }
-
-unfoldable pub number_of : Number → Option ℕ
-number_of (Value n) = some n
-number_of Nothing = none
 
 -- the name that starts at a place of a path, or none where the path ends before
 unfoldable pub next_name : Text → ℕ → code.Option Text

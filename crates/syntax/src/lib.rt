@@ -9,7 +9,6 @@ mod render;
 mod text;
 
 pub use numerals::{between, has_set_gid, mode};
-pub use parts::{name_at, number_at, word_is};
 pub use paths::{is_entry_path, is_path, is_typed_path, last_slash};
 pub use render::{write_decimal, write_mode};
 pub use text::{field_at, is_content, is_name, piece_end};
@@ -21,34 +20,18 @@ pub const MOST_NAMES: usize = 6;
 pub const CONTENT_LIMIT: usize = 80;
 
 // A part of a text: the bytes from start up to end.
-#[derive(Clone, Copy)]
+#[derive(Clone, Copy, PartialEq, Eq)]
 pub struct Span {
     pub start: usize,
     pub end: usize,
 }
 
 // A field of a line: where it starts and ends, and whether no comma follows it.
-#[derive(Clone, Copy)]
+#[derive(Clone, Copy, PartialEq, Eq)]
 pub struct Field {
     pub start: usize,
     pub end: usize,
     pub last: bool,
-}
-
-// What a byte may be for.
-#[derive(Clone, Copy)]
-pub enum Class {
-    Name,
-    Content,
-    Decimal,
-    Octal,
-}
-
-// A number read from a text, if the text has its form.
-#[derive(Clone, Copy)]
-pub enum Number {
-    Value(u16),
-    Nothing,
 }
 
 // The names of a path, and how far they have been read: the next one starts here.

@@ -1,12 +1,17 @@
 // Numbers: decimal without leading zeros, and the four octal digits of a mode. Those of a command line are at most 9999, so
 // a decimal of more than four digits is refused unread; the unbounded definition is proved to say the same.
 ghost use Rattle.std.specs.Prelude.{◌≡◌, true, ◌≤◌, ◌<◌, length};
+ghost use Rattle.buffers.specs.Options.{option_of};
 ghost use Rattle.buffers.specs.Text.{every};
 ghost use Rattle.syntax.specs.Number.{digit, value_after, no_leading_zero, between as between_of, mode as mode_of, set_gid};
-ghost use Rattle.syntax.specs.Parts.{number_of};
 
-use crate::text::all_of;
-use crate::{Class, Number};
+// Whether every byte is a digit below a base.
+fn are_digits(s: &[u8], base: u8) -> bool
+    requires { base ≤ 10 }
+    ensures { result ≡ every (digit base) s.now }
+{
+    s.iter().all(|b| b'0' <= *b && *b < b'0' + base)
+}
 
 // The value of at most four digits.
 fn value(s: &[u8], base: u16) -> u16
@@ -15,12 +20,9 @@ fn value(s: &[u8], base: u16) -> u16
     requires s_value { every (digit base) s.now ≡ true }
     ensures { (result ≡ value_after base 0 s.now) × (result < 10000) }
 {
-    let mut n: u16 = 0;
-    let mut i = 0;
-    while i < s.len() {
-        let d = s[i] as u16;
-        n = n * base + (d - 48);
-        i += 1;
+    let mut n = 0;
+    for b in s {
+        n = n * base + u16::from(*b - b'0');
     }
     n
 }
@@ -29,55 +31,33 @@ fn value(s: &[u8], base: u16) -> u16
 fn no_leading_zero(s: &[u8]) -> bool
     ensures { result ≡ no_leading_zero s.now }
 {
-    if s.len() == 0 {
-        return false;
+    match s {
+        [] => false,
+        [_] => true,
+        [first, ..] => *first != b'0',
     }
-    if s.len() == 1 {
-        return true;
-    }
-    s[0] != 48
 }
 
 // A decimal number from low to high.
-pub fn between(s: &[u8], low: u16, high: u16) -> Number
+pub fn between(s: &[u8], low: u16, high: u16) -> Option<u16>
     requires { high < 10000 }
-    ensures { number_of result ≡ between_of low high s.now }
+    ensures { option_of result ≡ between_of low high s.now }
 {
-    if 4 < s.len() {
-        return Number::Nothing;
-    }
-    if !all_of(s, Class::Decimal) {
-        return Number::Nothing;
-    }
-    if !no_leading_zero(s) {
-        return Number::Nothing;
+    if 4 < s.len() || !are_digits(s, 10) || !no_leading_zero(s) {
+        return None;
     }
     let n = value(s, 10);
-    if n < low {
-        return Number::Nothing;
-    }
-    if high < n {
-        return Number::Nothing;
-    }
-    Number::Value(n)
+    if low <= n && n <= high { Some(n) } else { None }
 }
 
 // A mode: four octal digits, the first 0 or 2.
-pub fn mode(s: &[u8]) -> Number
-    ensures { number_of result ≡ mode_of s.now }
+pub fn mode(s: &[u8]) -> Option<u16>
+    ensures { option_of result ≡ mode_of s.now }
 {
-    if s.len() != 4 {
-        return Number::Nothing;
+    match s {
+        [b'0' | b'2', _, _, _] if are_digits(s, 8) => Some(value(s, 8)),
+        _ => None,
     }
-    if s[0] != 48 {
-        if s[0] != 50 {
-            return Number::Nothing;
-        }
-    }
-    if !all_of(s, Class::Octal) {
-        return Number::Nothing;
-    }
-    Number::Value(value(s, 8))
 }
 
 // Whether a mode has set-gid: its first octal digit is 2.

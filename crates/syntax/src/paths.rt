@@ -1,5 +1,5 @@
 // Paths: their form, and their names one after another.
-ghost use Rattle.std.specs.Prelude.{◌≡◌, ◌≤◌, length, drop, option_copied};
+ghost use Rattle.std.specs.Prelude.{◌≡◌, ◌≤◌, length, option_copied};
 ghost use Rattle.syntax.specs.Pieces.{pieces};
 ghost use Rattle.syntax.specs.Form.{is_some};
 ghost use Rattle.syntax.specs.Path.{some_names, path, typed_path, entry_path};
@@ -9,18 +9,13 @@ use crate::text::{is_name, piece_end};
 use crate::{MOST_NAMES, Names};
 use buffers::same;
 
-// Whether a text from a place on is 1 to 6 names parted by `/`.
-fn are_names(s: &[u8], from: usize) -> bool
-    requires { from ≤ length s.now }
-    ensures { result ≡ is_some (some_names (pieces 47 (drop from s.now))) }
+// Whether a text is 1 to 6 names parted by `/`.
+fn are_names(s: &[u8]) -> bool
+    ensures { result ≡ is_some (some_names (pieces 47 s.now)) }
 {
-    let mut at = from;
-    let mut count: usize = 0;
-    loop {
-        let end = piece_end(s, at, 47);
-        if count == MOST_NAMES {
-            return false;
-        }
+    let mut at = 0;
+    for _count in 0..MOST_NAMES {
+        let end = piece_end(s, at, b'/');
         if !is_name(&s[at..end]) {
             return false;
         }
@@ -28,60 +23,45 @@ fn are_names(s: &[u8], from: usize) -> bool
             return true;
         }
         at = end + 1;
-        count += 1;
     }
+    false
 }
 
 // Whether a text is a path: `/`, or 1 to 6 names each after a `/`.
 pub fn is_path(s: &[u8]) -> bool
     ensures { result ≡ is_some (path s.now) }
 {
-    if s.len() == 0 {
-        return false;
+    match s {
+        [b'/'] => true,
+        [b'/', names @ ..] => are_names(names),
+        _ => false,
     }
-    if s[0] != 47 {
-        return false;
-    }
-    if s.len() == 1 {
-        return true;
-    }
-    are_names(s, 1)
 }
 
 // Whether a text is a path as it is typed: from `/`, or from the working directory.
 pub fn is_typed_path(s: &[u8]) -> bool
     ensures { result ≡ is_some (typed_path s.now) }
 {
-    if s.len() == 0 {
-        return false;
+    match s {
+        [] => false,
+        [b'/', ..] => is_path(s),
+        _ => are_names(s),
     }
-    if s[0] == 47 {
-        return is_path(s);
-    }
-    are_names(s, 0)
 }
 
 // Whether a text is an entry path: a path of at least two names, the first `rep`.
 pub fn is_entry_path(s: &[u8]) -> bool
     ensures { result ≡ is_some (entry_path s.now) }
 {
-    if s.len() < 6 {
-        return false;
-    }
-    if !same(&s[..5], b"/rep/") {
-        return false;
-    }
-    is_path(s)
+    6 <= s.len() && same(&s[..5], b"/rep/") && is_path(s)
 }
 
 // Where the last `/` of a text is, or 0 where there is none.
 pub fn last_slash(path: &[u8]) -> usize
     ensures { (result ≡ last_slash path.now) × (result ≤ length path.now) }
 {
-    let mut i = path.len();
-    while 0 < i {
-        i -= 1;
-        if path[i] == 47 {
+    for i in (0..path.len()).rev() {
+        if path[i] == b'/' {
             return i;
         }
     }

@@ -12,11 +12,11 @@ pub fn write_decimal(b: &mut [u8], at: usize, n: usize) -> usize
     ensures { Wrote (decimal_text n) b.old at b.new result }
 {
     if n < 10 {
-        b[at] = 48 + n as u8;
+        b[at] = b'0' + n as u8;
         return at + 1;
     }
     let end = write_decimal(b, at, n / 10);
-    b[end] = 48 + (n % 10) as u8;
+    b[end] = b'0' + (n % 10) as u8;
     end + 1
 }
 
@@ -25,10 +25,10 @@ pub fn write_mode(b: &mut [u8], at: usize, mode: u16) -> usize
     requires { at + 4 ≤ length b.old }
     ensures { Wrote (mode_text mode) b.old at b.new result }
 {
-    let first = 48 + (mode / 512) as u8;
-    let second = 48 + (mode / 64 % 8) as u8;
-    let third = 48 + (mode / 8 % 8) as u8;
-    let fourth = 48 + (mode % 8) as u8;
+    let first = b'0' + (mode / 512) as u8;
+    let second = b'0' + (mode / 64 % 8) as u8;
+    let third = b'0' + (mode / 8 % 8) as u8;
+    let fourth = b'0' + (mode % 8) as u8;
     write_four(b, at, first, second, third, fourth);
     at + 4
 }

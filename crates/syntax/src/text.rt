@@ -1,70 +1,26 @@
 // Texts: cut at a byte, and tested byte by byte.
-ghost use Rattle.std.specs.Prelude.{◌≡◌, ◌&&◌, ◌+◌, ◌≤◌, leb, length, drop};
-ghost use Rattle.buffers.specs.Text.{every};
+ghost use Rattle.std.specs.Prelude.{◌≡◌, ◌+◌, ◌≤◌, length, drop};
 ghost use Rattle.syntax.specs.Pieces.{piece_length};
 ghost use Rattle.syntax.specs.Path.{name_byte, is_name};
 ghost use Rattle.syntax.specs.Field.{content_byte, is_content};
-ghost use Rattle.syntax.specs.Parts.{of_class, field_at};
+ghost use Rattle.syntax.specs.Parts.{field_at};
 
-use crate::{CONTENT_LIMIT, Class, Field, Span};
-
-// Whether a byte lies from low to high.
-fn within(b: u8, low: u8, high: u8) -> bool
-    ensures { result ≡ (leb low b && leb b high) }
-{
-    if b < low {
-        return false;
-    }
-    b <= high
-}
+use crate::{CONTENT_LIMIT, Field, Span};
 
 // Whether a byte is a-z, 0-9 or `_`.
+#[tactic(auto, using(std::proofs::lemmas::Bool::Decides::nat_tests), unfolding(crate::specs::Path::name_byte))]
 fn is_name_byte(b: u8) -> bool
     ensures { result ≡ name_byte b }
 {
-    if within(b, 97, 122) {
-        return true;
-    }
-    if within(b, 48, 57) {
-        return true;
-    }
-    b == 95
+    matches!(b, b'a'..=b'z' | b'0'..=b'9' | b'_')
 }
 
 // Whether a byte is one of 32 to 126 without comma.
+#[tactic(auto, using(std::proofs::lemmas::Bool::Decides::nat_tests), unfolding(crate::specs::Field::content_byte))]
 fn is_content_byte(b: u8) -> bool
     ensures { result ≡ content_byte b }
 {
-    if b == 44 {
-        return false;
-    }
-    within(b, 32, 126)
-}
-
-// Whether a byte is of a class.
-fn in_class(b: u8, class: Class) -> bool
-    ensures { result ≡ of_class class b }
-{
-    match class {
-        Class::Name => is_name_byte(b),
-        Class::Content => is_content_byte(b),
-        Class::Decimal => within(b, 48, 57),
-        Class::Octal => within(b, 48, 55),
-    }
-}
-
-// Whether every byte is of a class.
-pub fn all_of(s: &[u8], class: Class) -> bool
-    ensures { result ≡ every (of_class class) s.now }
-{
-    let mut i = 0;
-    while i < s.len() {
-        if !in_class(s[i], class) {
-            return false;
-        }
-        i += 1;
-    }
-    true
+    matches!(b, b' '..=b'~') && b != b','
 }
 
 // Where the piece that starts at a place ends: at the separator, or where the text ends.
@@ -72,14 +28,10 @@ pub fn piece_end(s: &[u8], at: usize, separator: u8) -> usize
     requires { at ≤ length s.now }
     ensures { (result ≡ at + piece_length separator (drop at s.now)) × (result ≤ length s.now) }
 {
-    let mut i = at;
-    while i < s.len() {
-        if s[i] == separator {
-            return i;
-        }
-        i += 1;
+    match s[at..].iter().position(|b| *b == separator) {
+        Some(length) => at + length,
+        None => s.len(),
     }
-    i
 }
 
 // The field of a line that starts at a place.
@@ -87,7 +39,7 @@ pub fn field_at(line: &[u8], at: usize) -> Field
     requires { at ≤ length line.now }
     ensures { result ≡ field_at line.now at }
 {
-    let end = piece_end(line, at, 44);
+    let end = piece_end(line, at, b',');
     Field {
         start: at,
         end,
@@ -108,24 +60,17 @@ impl Field {
 }
 
 // Whether a text is a name or password: 1 to 8 bytes of a-z, 0-9, `_`.
+#[tactic(auto, using(std::proofs::lemmas::Bool::Decides::nat_tests), unfolding(crate::specs::Path::is_name))]
 pub fn is_name(s: &[u8]) -> bool
     ensures { result ≡ is_name s.now }
 {
-    if s.len() == 0 {
-        return false;
-    }
-    if 8 < s.len() {
-        return false;
-    }
-    all_of(s, Class::Name)
+    1 <= s.len() && s.len() <= 8 && s.iter().all(|b| is_name_byte(*b))
 }
 
 // Whether a text is a content: no more bytes than its limit, of 32 to 126 without comma.
+#[tactic(auto, using(std::proofs::lemmas::Bool::Decides::nat_tests), unfolding(crate::specs::Field::is_content))]
 pub fn is_content(s: &[u8]) -> bool
     ensures { result ≡ is_content s.now }
 {
-    if CONTENT_LIMIT < s.len() {
-        return false;
-    }
-    all_of(s, Class::Content)
+    s.len() <= CONTENT_LIMIT && s.iter().all(|b| is_content_byte(*b))
 }

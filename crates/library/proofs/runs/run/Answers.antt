@@ -30,44 +30,38 @@ returns-then-not-holds_store c =
 pub parse-requires : goal.parse-requires
 parse-requires c = tt
 
-pub enum_told-1 : goal.enum_told-1
-enum_told-1 c = c.in-NoForm.in-NoForm-own.keys1
-
-pub enum_known-caller : goal.enum_known-caller
-enum_known-caller c = c.in-Line.in-Line-own.keys2
-
 pub by_caller-requires : goal.by_caller-requires
 by_caller-requires c =
     let a = c.args in
     let s = the_some (decode a.store.now) (answers_true c.holds_store.ensures c.if-not-holds_store.false-raw) in
-    let l = parsed_line a.line.now _ _ (ap (parsed a.line.now) (sym c.in-Line.is) ∙ c.parse.ensures.result_value) in
-    let read = subst (ReadIn a.line.now) c.in-Line.is c.parse.ensures.read_in in
+    let l = parsed_line a.line.now _ (ap (parsed a.line.now) (sym c.in-Some.is) ∙ c.parse.ensures.result_value) in
+    let read = subst (ReadIn a.line.now) c.in-Some.is c.parse.ensures.read_in in
     record {
       some_store = (s.0, read_stored _ s.0 s.1);
       some_typed = record { command = l.0; meant = l.1; read = read };
       in_bounds = omega (arith, c.if-answer-lt-LEAST_ROOM.false);
     }
 
-pub shape_of-store-in-NoForm : goal.shape_of-store-in-NoForm
-shape_of-store-in-NoForm c = refl
+pub shape_of-store-in-None : goal.shape_of-store-in-None
+shape_of-store-in-None c = refl
 
-pub returns-in-NoForm : goal.returns-in-NoForm
-returns-in-NoForm c =
+pub returns-in-None : goal.returns-in-None
+returns-in-None c =
     let a = c.args in
     let s = the_some (decode a.store.now) (answers_true c.holds_store.ensures c.if-not-holds_store.false-raw) in
-    let n = parsed_none a.line.now (ap (parsed a.line.now) (sym c.in-NoForm.is) ∙ c.parse.ensures.result_value) in
+    let n = parsed_none a.line.now (ap (parsed a.line.now) (sym c.in-None.is) ∙ c.parse.ensures.result_value) in
     run_unformed a.store.now a.answer.now a.line.now s.0 (omega (arith, c.if-answer-lt-LEAST_ROOM.false)) s.1 n
 
-pub shape_of-store-in-Line : goal.shape_of-store-in-Line
-shape_of-store-in-Line c = c.by_caller.auto.store
+pub shape_of-store-in-Some : goal.shape_of-store-in-Some
+shape_of-store-in-Some c = c.by_caller.auto.store
 
 pub shape_of-answer : goal.shape_of-answer
 shape_of-answer c = c.by_caller.auto.answer
 
-pub returns-in-Line : goal.returns-in-Line
-returns-in-Line c =
+pub returns-in-Some : goal.returns-in-Some
+returns-in-Some c =
     let a = c.args in
     let s = the_some (decode a.store.now) (answers_true c.holds_store.ensures c.if-not-holds_store.false-raw) in
-    let l = parsed_line a.line.now _ _ (ap (parsed a.line.now) (sym c.in-Line.is) ∙ c.parse.ensures.result_value) in
+    let l = parsed_line a.line.now _ (ap (parsed a.line.now) (sym c.in-Some.is) ∙ c.parse.ensures.result_value) in
     let called = c.by_caller.ensures s.0 l.0 (read_stored _ s.0 s.1) l.1 in
     run_carried a.store.now a.answer.now a.line.now s.0 (omega (arith, c.if-answer-lt-LEAST_ROOM.false)) s.1 _ l.0 l.2 called

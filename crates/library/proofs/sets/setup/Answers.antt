@@ -1,7 +1,7 @@
 -- `library::sets::setup` meets its contract: the buffer's length decides first, then what the text comes to.
 use mathlib.Core.Path.{sym, ◌∙◌, ap}
 use native.Mathlib.Omega.{arith}
-use Rattle.setups.specs.declared.TextRead.{TextRead}
+use Rattle.setups.specs.Making.{TextRead}
 use Rattle.store.specs.StoreBytes.{store_width}
 use Rattle.library.specs.CallBytes.{set_up_as}
 use Rattle.library.specs.CallBytesLaws.{setup_told, unset_elsewhere, made_called}
@@ -16,18 +16,18 @@ pub make_store-requires : goal.make_store-requires
 unfolding store_width
 make_store-requires c = omega arith
 
-pub returns-in-Accepted : goal.returns-in-Accepted
+pub returns-in-Ok : goal.returns-in-Ok
 unfolding setup_told
-returns-in-Accepted c =
+returns-in-Ok c =
     let d = c.args in
     let m = c.make_store in
-    ap (λ (x : TextRead). set_up_as (setup_told x) m.new.store) (sym c.in-Accepted.is)
+    ap (λ (x : TextRead). set_up_as (setup_told x) m.new.store) (sym c.in-Ok.is)
     ∙ made_called d.store.now d.text.now m.result m.new.store (omega arith) m.ensures
 
-pub returns-in-Wrong : goal.returns-in-Wrong
+pub returns-in-Err : goal.returns-in-Err
 unfolding setup_told
-returns-in-Wrong c =
+returns-in-Err c =
     let d = c.args in
     let m = c.make_store in
-    ap (λ (x : TextRead). set_up_as (setup_told x) m.new.store) (sym c.in-Wrong.is)
+    ap (λ (x : TextRead). set_up_as (setup_told x) m.new.store) (sym c.in-Err.is)
     ∙ made_called d.store.now d.text.now m.result m.new.store (omega arith) m.ensures

@@ -1,19 +1,27 @@
 -- `lines::line::numbers_at` meets its contract: one law for each return.
+use Rattle.std.proofs.Common.{sym, ap, ◌∙◌}
+use Rattle.buffers.specs.Options.{option_some, option_none}
+use Rattle.syntax.specs.Number.{between}
 use Rattle.syntax.specs.Parts.{span_text}
 use Rattle.lines.specs.LineLaws.{first_none, second_none, both_numbers}
 use Rattle.lines.proofs.line.numbers_at.Goals as goal
 
-pub returns-in-Nothing : goal.returns-in-Nothing
-returns-in-Nothing c =
+pub returns-in_err-m : goal.returns-in_err-m
+returns-in_err-m c =
     let a = c.args in
-    first_none a.low a.high1 a.high2 (span_text a.text.now a.a) (span_text a.text.now a.b) _ c.in-Nothing.is c.number_at.ensures
+    let e = sym (option_none c.in_err-m.was) ∙ (c.between.ensures ∙ ap (between a.low a.high1) c.of.ensures) in
+    rw c.from_residual.ensures (first_none a.low a.high1 a.high2 (span_text a.text.now a.a) (span_text a.text.now a.b) e)
 
-pub returns-in-Nothing-number_at : goal.returns-in-Nothing-number_at
-returns-in-Nothing-number_at c =
+pub returns-in_err-n : goal.returns-in_err-n
+returns-in_err-n c =
     let a = c.args in
-    second_none a.low a.high1 a.high2 (span_text a.text.now a.a) (span_text a.text.now a.b) _ c.in-Nothing-number_at.is c.number_at-in-Value.ensures
+    let e = sym (option_none c.in_err-n.was) ∙ (c.between-2.ensures ∙ ap (between a.low a.high2) c.of-2.ensures) in
+    rw c.from_residual-in_err-n.ensures (second_none a.low a.high1 a.high2 (span_text a.text.now a.a) (span_text a.text.now a.b) e)
 
-pub returns-in-Value-number_at : goal.returns-in-Value-number_at
-returns-in-Value-number_at c =
+pub returns : goal.returns
+returns c =
     let a = c.args in
-    both_numbers a.low a.high1 a.high2 (span_text a.text.now a.a) (span_text a.text.now a.b) _ _ _ _ c.requires.high1_bound c.requires.high2_bound c.in-Value.is c.in-Value-number_at.is c.number_at.ensures c.number_at-in-Value.ensures
+    let h = c.requires in
+    let e = sym (option_some c.in_ok-m.was) ∙ (c.between.ensures ∙ ap (between a.low a.high1) c.of.ensures) in
+    let f = sym (option_some c.in_ok-n.was) ∙ (c.between-2.ensures ∙ ap (between a.low a.high2) c.of-2.ensures) in
+    both_numbers a.low a.high1 a.high2 (span_text a.text.now a.a) (span_text a.text.now a.b) _ _ h.high1_bound h.high2_bound e f

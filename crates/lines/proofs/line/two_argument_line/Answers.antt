@@ -1,67 +1,56 @@
 -- `lines::line::two_argument_line` meets its contract: the form of the word answers what the numbers make.
-use mathlib.Core.Path.{refl, ap, ◌∙◌}
-use mathlib.Core.List.{[], ◌∷◌}
-use Rattle.syntax.specs.Parts.{span_text}
-use Rattle.lines.specs.Line.{line_form, line_told}
+use Rattle.std.proofs.Common.{refl, ap, ◌∙◌}
+use Rattle.lines.specs.Line.{two_texts, kind_form, line_told}
 use Rattle.lines.specs.LineLaws.{p_form, g_form, r_form, l_short, told_wrong, told_nothing, told_both}
 use Rattle.lines.proofs.line.two_argument_line.Goals as goal
 
-pub returns-in-Nothing : goal.returns-in-Nothing
-returns-in-Nothing c =
+pub returns-in_err-uid-in-Person : goal.returns-in_err-uid-in-Person
+returns-in_err-uid-in-Person c =
     let a = c.args in
     let t = a.text.now in
-    let s = span_text t a.a ∷ (span_text t a.b ∷ []) in
-    told_nothing t _ (ap (λ w. line_form w s) c.in-P.is ∙ p_form _ _) c.numbers_at.ensures c.in-Nothing.is
+    let form = ap (λ k. kind_form k (two_texts t a.a a.b)) c.in-Person.is ∙ p_form _ _ in
+    rw c.from_residual.ensures (told_nothing t _ form c.numbers_at.ensures c.in_err-uid-in-Person.was)
 
-pub returns-in-Both : goal.returns-in-Both
+pub returns-in_ok-uid-in-Person : goal.returns-in_ok-uid-in-Person
 unfolding line_told
-returns-in-Both c =
+returns-in_ok-uid-in-Person c =
     let a = c.args in
     let t = a.text.now in
-    let s = span_text t a.a ∷ (span_text t a.b ∷ []) in
-    told_both t _ (ap (λ w. line_form w s) c.in-P.is ∙ p_form _ _) c.numbers_at.ensures c.in-Both.is refl
+    let form = ap (λ k. kind_form k (two_texts t a.a a.b)) c.in-Person.is ∙ p_form _ _ in
+    told_both t _ form c.numbers_at.ensures c.in_ok-uid-in-Person.was refl
 
-pub returns-in-Nothing-numbers_at : goal.returns-in-Nothing-numbers_at
-returns-in-Nothing-numbers_at c =
+pub returns-in_err-uid-in-Group : goal.returns-in_err-uid-in-Group
+returns-in_err-uid-in-Group c =
     let a = c.args in
     let t = a.text.now in
-    let s = span_text t a.a ∷ (span_text t a.b ∷ []) in
-    told_nothing t _ (ap (λ w. line_form w s) c.in-G.is ∙ g_form _ _) c.numbers_at-in-G.ensures c.in-Nothing-numbers_at.is
+    let form = ap (λ k. kind_form k (two_texts t a.a a.b)) c.in-Group.is ∙ g_form _ _ in
+    rw c.from_residual-in_err-uid-in-Group.ensures (told_nothing t _ form c.numbers_at-in-Group.ensures c.in_err-uid-in-Group.was)
 
-pub returns-in-Both-numbers_at : goal.returns-in-Both-numbers_at
+pub returns-in_ok-uid-in-Group : goal.returns-in_ok-uid-in-Group
 unfolding line_told
-returns-in-Both-numbers_at c =
+returns-in_ok-uid-in-Group c =
     let a = c.args in
     let t = a.text.now in
-    let s = span_text t a.a ∷ (span_text t a.b ∷ []) in
-    told_both t _ (ap (λ w. line_form w s) c.in-G.is ∙ g_form _ _) c.numbers_at-in-G.ensures c.in-Both-numbers_at.is refl
+    let form = ap (λ k. kind_form k (two_texts t a.a a.b)) c.in-Group.is ∙ g_form _ _ in
+    told_both t _ form c.numbers_at-in-Group.ensures c.in_ok-uid-in-Group.was refl
 
-pub returns-in-Nothing-numbers_at-2 : goal.returns-in-Nothing-numbers_at-2
-returns-in-Nothing-numbers_at-2 c =
+pub returns-in_err-senior-in-Pair : goal.returns-in_err-senior-in-Pair
+returns-in_err-senior-in-Pair c =
     let a = c.args in
     let t = a.text.now in
-    let s = span_text t a.a ∷ (span_text t a.b ∷ []) in
-    told_nothing t _ (ap (λ w. line_form w s) c.in-R.is ∙ r_form _ _) c.numbers_at-in-R.ensures c.in-Nothing-numbers_at-2.is
+    let form = ap (λ k. kind_form k (two_texts t a.a a.b)) c.in-Pair.is ∙ r_form _ _ in
+    rw c.from_residual-in_err-senior-in-Pair.ensures (told_nothing t _ form c.numbers_at-in-Pair.ensures c.in_err-senior-in-Pair.was)
 
-pub returns-in-Both-numbers_at-2 : goal.returns-in-Both-numbers_at-2
+pub returns-in_ok-senior-in-Pair : goal.returns-in_ok-senior-in-Pair
 unfolding line_told
-returns-in-Both-numbers_at-2 c =
+returns-in_ok-senior-in-Pair c =
     let a = c.args in
     let t = a.text.now in
-    let s = span_text t a.a ∷ (span_text t a.b ∷ []) in
-    told_both t _ (ap (λ w. line_form w s) c.in-R.is ∙ r_form _ _) c.numbers_at-in-R.ensures c.in-Both-numbers_at-2.is refl
+    let form = ap (λ k. kind_form k (two_texts t a.a a.b)) c.in-Pair.is ∙ r_form _ _ in
+    told_both t _ form c.numbers_at-in-Pair.ensures c.in_ok-senior-in-Pair.was refl
 
-pub returns-in-L : goal.returns-in-L
-returns-in-L c =
+pub returns-in-Grant : goal.returns-in-Grant
+returns-in-Grant c =
     let a = c.args in
     let t = a.text.now in
-    let s = span_text t a.a ∷ (span_text t a.b ∷ []) in
-    told_wrong t (ap (λ w. line_form w s) c.in-L.is ∙ l_short _ _)
-
-pub returns-in-Other : goal.returns-in-Other
-unfolding line_form
-returns-in-Other c =
-    let a = c.args in
-    let t = a.text.now in
-    let s = span_text t a.a ∷ (span_text t a.b ∷ []) in
-    told_wrong t (ap (λ w. line_form w s) c.in-Other.is)
+    told_wrong t (ap (λ k. kind_form k (two_texts t a.a a.b)) c.in-Grant.is ∙ l_short _ _)

@@ -1,4 +1,5 @@
 -- `setups::making::read_header` meets its contract: the lines that are left, after what the header holds, give what the whole text gives.
+use Rattle.std.specs.Prelude.{Some}
 use native.Mathlib.Omega.{arith}
 use mathlib.Core.Path.{refl, ◌∙◌, ap}
 use Rattle.syntax.specs.Pieces.{newline}
@@ -62,13 +63,13 @@ pub loop-header-smaller : goal.loop-header-smaller
 loop-header-smaller c = omega arith
 
 pub loop-header-preserved : goal.loop-header-preserved
-loop-header-preserved c = (going_on (line (goal.at.loop-header-preserved c).After-read_line) c.in-More.next c.in-More.is, c.read_line.auto.header ∙ c.loop-header.invariant.1)
+loop-header-preserved c = (going_on (line (goal.at.loop-header-preserved c).After-read_line) c.in-More.next (c.in-Some.is ∙ ap Some c.in-More.is), c.read_line.auto.header ∙ c.loop-header.invariant.1)
 
 pub overflow_add-end : goal.overflow_add-end
 overflow_add-end c = omega arith
 
 pub returns-then-end-text-2 : goal.returns-then-end-text-2
-returns-then-end-text-2 c = text_accepted (line (goal.at.returns-then-end-text-2 c).After-read_line) c.in-End.is c.if-end-text-2.true
+returns-then-end-text-2 c = text_accepted (line (goal.at.returns-then-end-text-2 c).After-read_line) (c.in-Some.is ∙ ap Some c.in-End.is) c.if-end-text-2.true
 
 pub overflow_add-number-in-End : goal.overflow_add-number-in-End
 overflow_add-number-in-End c = omega arith
@@ -77,10 +78,10 @@ pub refuse-requires-in-End : goal.refuse-requires-in-End
 refuse-requires-in-End c = let l = c.loop-header in c.read_line.auto.header ∙ begun_wide l.header l.invariant.0.begun
 
 pub returns-in-End : goal.returns-in-End
-returns-in-End c = c.refuse-in-End.ensures ∙ ap header_made (text_behind (line (goal.at.returns-in-End c).After-read_line) c.in-End.is c.if-end-text-2.false)
+returns-in-End c = c.refuse-in-End.ensures ∙ ap header_made (text_behind (line (goal.at.returns-in-End c).After-read_line) (c.in-Some.is ∙ ap Some c.in-End.is) c.if-end-text-2.false)
 
-pub refuse-requires-in-Wrong : goal.refuse-requires-in-Wrong
-refuse-requires-in-Wrong c = let l = c.loop-header in c.read_line.auto.header ∙ begun_wide l.header l.invariant.0.begun
+pub refuse-requires-in_default : goal.refuse-requires-in_default
+refuse-requires-in_default c = let l = c.loop-header in c.read_line.auto.header ∙ begun_wide l.header l.invariant.0.begun
 
-pub returns-in-Wrong : goal.returns-in-Wrong
-returns-in-Wrong c = c.refuse-in-Wrong.ensures ∙ ap header_made (line_wrong (line (goal.at.returns-in-Wrong c).After-read_line) c.in-Wrong.is)
+pub returns-in_default : goal.returns-in_default
+returns-in_default c = c.refuse-in_default.ensures ∙ ap header_made (line_wrong (line (goal.at.returns-in_default c).After-read_line) c.in_default.is)

@@ -1,9 +1,10 @@
 -- `setups::opening::setup_line` meets its contract: by what the line comes to in the header.
-use mathlib.Core.Path.{sym}
+use Rattle.std.specs.Prelude.{Some}
+use mathlib.Core.Path.{sym, ap, ◌∙◌}
 use native.Mathlib.Omega.{arith}
 use lib.Seq.{length-take-le}
 use Rattle.store.specs.HeaderLayout.{header_width}
-use Rattle.setups.specs.OpeningLaws.{store_wide, front_begun, more_called, wrong_called, still_begun, end_called}
+use Rattle.setups.specs.OpeningLaws.{store_wide, front_begun, leads_called, wrong_called, still_begun, end_called}
 use Rattle.setups.proofs.opening.setup_line.Goals as goal
 
 pub slice_bounds-read_line-end : goal.slice_bounds-read_line-end
@@ -18,27 +19,28 @@ read_line-requires c = record {
   kind_bound = c.requires.kind_bound;
 }
 
+pub returns-in_err-read : goal.returns-in_err-read
+returns-in_err-read c =
+    let a = c.args in
+    let l = c.read_line in
+    rw c.from_residual.ensures (wrong_called a.store.now c.requires.begun_store a.line.now a.kind l.new.header l.result l.ensures c.in_err-read.was)
+
 pub open_store-requires : goal.open_store-requires
 open_store-requires c =
     let a = c.args in
     let l = c.read_line in
-    still_begun a.store.now c.requires.begun_store a.line.now a.kind l.new.header l.result l.ensures c.in-End.is
-
-pub returns-in-More : goal.returns-in-More
-returns-in-More c =
-    let a = c.args in
-    let l = c.read_line in
-    more_called a.store.now c.requires.begun_store a.line.now a.kind l.new.header l.result l.ensures c.in-More.next c.in-More.is
+    still_begun a.store.now c.requires.begun_store a.line.now a.kind l.new.header l.result l.ensures (c.in_ok-read.was ∙ ap Some c.in-End.is)
 
 pub returns-in-End : goal.returns-in-End
 returns-in-End c =
     let a = c.args in
     let l = c.read_line in
     let o = c.open_store in
-    end_called a.store.now c.requires.begun_store a.line.now a.kind l.new.header l.result l.ensures c.in-End.is o.new.store o.ensures
+    rw c.in-End.is
+    (end_called a.store.now c.requires.begun_store a.line.now a.kind l.new.header l.result l.ensures (c.in_ok-read.was ∙ ap Some c.in-End.is) o.new.store o.ensures)
 
-pub returns-in-Wrong : goal.returns-in-Wrong
-returns-in-Wrong c =
+pub returns-in_default : goal.returns-in_default
+returns-in_default c =
     let a = c.args in
     let l = c.read_line in
-    wrong_called a.store.now c.requires.begun_store a.line.now a.kind l.new.header l.result l.ensures c.in-Wrong.is
+    leads_called a.store.now c.requires.begun_store a.line.now a.kind l.new.header l.result l.ensures c.in_ok-read.read c.in_default.not-End c.in_ok-read.was

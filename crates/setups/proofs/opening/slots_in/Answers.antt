@@ -1,6 +1,5 @@
 -- `setups::opening::slots_in` meets its contract: the slots read so far are the first ones.
-use mathlib.Core.Path.{refl}
-use native.Mathlib.Omega.{arith}
+use Rattle.std.proofs.Common.{refl, arith}
 use Rattle.setups.specs.OpeningLaws.{no_slots, one_slot_more, all_slots}
 use Rattle.setups.proofs.opening.slots_in.Goals as goal
 

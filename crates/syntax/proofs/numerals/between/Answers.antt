@@ -1,19 +1,20 @@
 -- `syntax::numerals::between` meets its contract: one lemma for each return. A number of more than four digits is above every bound.
 use Prim.Native.Nat.{ℕ, ◌+◌, ◌-◌, ◌≤◌, ◌<◌, ◌*◌}
 use native.Mathlib.Omega.{arith}
-use mathlib.Core.Path.{◌≡◌, ap, ◌∙◌}
+use mathlib.Core.Path.{◌≡◌, sym, ap, ◌∙◌}
 use mathlib.Core.Bool.{true, false, ◌&&◌, not, and-false}
 use mathlib.Core.List.{[], ◌∷◌}
 use lib.Dec.{eqb, leb, ltb}
 use lib.ListN.{length}
 use borrow.Author.Tests.{le-leb, lt-leb, not-true, leb-true, eqb-false}
 use mathlib.Core.Option.{none, some}
-use Rattle.buffers.specs.Cases.{case, and_both, answers_false, answers_true}
+use Rattle.buffers.specs.Cases.{case, and_both}
 use Rattle.buffers.specs.Text.{Text, every}
 use Rattle.syntax.specs.Form.{◌>>=◌, ◌>>◌, check}
 use Rattle.syntax.specs.Number.{digit, value_after, no_leading_zero, decimal, between}
-use Rattle.syntax.specs.Parts.{number_of, of_class}
 use Rattle.syntax.proofs.numerals.between.Goals as goal
+use Rattle.syntax.proofs.numerals.between.Goals.{then-s-gt4-via-then-s-gt4, then-s-gt4-via-else-s-gt4+then-not-are_digits, then-s-gt4-via-else-s-gt4+else-not-are_digits+then-not-no_leading_zero}
+use Rattle.syntax.proofs.numerals.between.Goals.{else-low-n-via-then-low-n+else-n-high, else-low-n-via-else-low-n}
 
 -- a text of the form of a decimal number
 record Form (s : Text) : Type 0 where
@@ -88,53 +89,34 @@ too_long low high s h l = case (every (digit 10) s)
     (λ d. no-digits low high s d)
 
 pub returns-then-s-gt4 : goal.returns-then-s-gt4
-unfolding number_of
 returns-then-s-gt4 c =
     let a = c.args in
-    too_long a.low a.high a.s.now c.if-s-gt4.true (omega arith)
-
-pub returns-then-not-all_of : goal.returns-then-not-all_of
-unfolding number_of of_class
-returns-then-not-all_of c =
-    let a = c.args in
-    no-digits a.low a.high a.s.now (answers_false c.all_of.ensures c.if-not-all_of.true-raw)
-
-pub returns-then-not-no_leading_zero : goal.returns-then-not-no_leading_zero
-unfolding number_of
-returns-then-not-no_leading_zero c =
-    let a = c.args in
-    leading a.low a.high a.s.now (answers_false c.no_leading_zero.ensures c.if-not-no_leading_zero.true-raw)
+    elim c.then-s-gt4.branch [
+      | then-s-gt4-via-then-s-gt4 w ↦ too_long a.low a.high a.s.now w.if-s-gt4.true (omega arith)
+      | then-s-gt4-via-else-s-gt4+then-not-are_digits w ↦ no-digits a.low a.high a.s.now (sym w.are_digits.ensures ∙ w.if-not-are_digits.true)
+      | then-s-gt4-via-else-s-gt4+else-not-are_digits+then-not-no_leading_zero w ↦ leading a.low a.high a.s.now (sym w.no_leading_zero.ensures ∙ w.if-not-no_leading_zero.true)
+    ]
 
 pub value-n-requires : goal.value-n-requires
-unfolding of_class
 value-n-requires c = record {
   s_len_bound = omega arith;
   base_bound = omega arith;
-  s_value = answers_true c.all_of.ensures c.if-not-all_of.false-raw;
+  s_value = sym c.are_digits.ensures ∙ c.if-not-are_digits.false;
 }
 
-pub returns-then-n-low : goal.returns-then-n-low
-unfolding number_of of_class
-returns-then-n-low c =
+pub returns-then-n-high : goal.returns-then-n-high
+returns-then-n-high c =
     let a = c.args in
-    let d = answers_true c.all_of.ensures c.if-not-all_of.false-raw in
-    let z = answers_true c.no_leading_zero.ensures c.if-not-no_leading_zero.false-raw in
-    too_small a.low a.high a.s.now (record { digits = d; first = z }) (omega (arith, c.if-n-low.true, c.value-n.ensures.0))
-
-pub returns-then-high-n : goal.returns-then-high-n
-unfolding number_of of_class
-returns-then-high-n c =
-    let a = c.args in
-    let d = answers_true c.all_of.ensures c.if-not-all_of.false-raw in
-    let z = answers_true c.no_leading_zero.ensures c.if-not-no_leading_zero.false-raw in
-    too-great a.low a.high a.s.now (record { digits = d; first = z }) (omega (arith, c.if-high-n.true, c.value-n.ensures.0))
-
-pub returns : goal.returns
-unfolding number_of of_class
-returns c =
-    let a = c.args in
-    let d = answers_true c.all_of.ensures c.if-not-all_of.false-raw in
-    let z = answers_true c.no_leading_zero.ensures c.if-not-no_leading_zero.false-raw in
-    let f : Form a.s.now = record { digits = d; first = z } in
+    let f : Form a.s.now = record { digits = sym c.are_digits.ensures ∙ c.if-not-are_digits.false; first = sym c.no_leading_zero.ensures ∙ c.if-not-no_leading_zero.false } in
     let v = c.value-n.ensures.0 in
-    ap some v ∙ fits a.low a.high a.s.now f (omega (arith, c.if-n-low.false, v)) (omega (arith, c.if-high-n.false, v))
+    ap some v ∙ fits a.low a.high a.s.now f (omega (arith, c.if-low-n.true, v)) (omega (arith, c.if-n-high.true, v))
+
+pub returns-else-low-n : goal.returns-else-low-n
+returns-else-low-n c =
+    let a = c.args in
+    let f : Form a.s.now = record { digits = sym c.are_digits.ensures ∙ c.if-not-are_digits.false; first = sym c.no_leading_zero.ensures ∙ c.if-not-no_leading_zero.false } in
+    let v = c.value-n.ensures.0 in
+    elim c.else-low-n.branch [
+      | else-low-n-via-then-low-n+else-n-high w ↦ too-great a.low a.high a.s.now f (omega (arith, w.if-n-high.false, v))
+      | else-low-n-via-else-low-n w ↦ too_small a.low a.high a.s.now f (omega (arith, w.if-low-n.false, v))
+    ]

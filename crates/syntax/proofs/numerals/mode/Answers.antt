@@ -1,30 +1,27 @@
 -- `syntax::numerals::mode` meets its contract: one lemma for each return.
 use Prim.Native.Nat.{ℕ, suc}
 use native.Mathlib.Omega.{arith}
-use mathlib.Core.Path.{◌≡◌, refl, ap, ◌∙◌}
+use mathlib.Core.Path.{◌≡◌, refl, sym, ap, ◌∙◌}
 use mathlib.Core.Bool.{true, false, ◌||◌, and-false, or-true}
 use mathlib.Core.List.{[], ◌∷◌}
 use lib.Dec.{eqb}
 use lib.ListN.{length, get_or}
-use borrow.Author.Tests.{eq-eqb, ne_eqb, eqb-true}
+use borrow.Author.Tests.{eq-eqb, ne_eqb, eqb-true, eqb-false}
 use mathlib.Core.Option.{none, some}
-use Rattle.buffers.specs.Cases.{case, and_both, answers_false, answers_true}
+use Rattle.buffers.specs.Cases.{case, and_both}
 use Rattle.buffers.specs.Text.{Text, every}
 use Rattle.syntax.specs.Form.{◌>>◌, check}
 use Rattle.syntax.specs.Number.{digit, value_after, mode_digits, mode}
-use Rattle.syntax.specs.Parts.{number_of, of_class}
 use Rattle.syntax.proofs.numerals.mode.Goals as goal
-use Rattle.syntax.proofs.numerals.mode.Goals.{then-s-ne48+else-s-ne50, else-s-ne48}
 
 -- the first digit of a mode
 abbrev First : Text → Type 0
 First s = (eqb (get_or s 0 0) 48 || eqb (get_or s 0 0) 50) ≡ true
 
-zero-first : (s : Text) → get_or s 0 0 ≡ 48 → First s
-zero-first s e = rw (eq-eqb (get_or s 0 0) 48 e)
-
-two-first : (s : Text) → get_or s 0 0 ≡ 50 → First s
-two-first s e = simp (eq-eqb (get_or s 0 0) 50 e, or-true)
+is-first : (s : Text) → ((get_or s 0 0 ≡ 48 → ⊥) → (get_or s 0 0 ≡ 50 → ⊥) → ⊥) → First s
+is-first s h = case (eqb (get_or s 0 0) 48)
+    (λ e. rw e)
+    (λ e. case (eqb (get_or s 0 0) 50) (λ f. simp (f, or-true)) (λ f. absurd (h (eqb-false (get_or s 0 0) 48 e) (eqb-false (get_or s 0 0) 50 f))))
 
 -- no mode is read of other than four bytes
 other_length : (s : Text) → (length s ≡ 4 → ⊥) → none ≡ mode s
@@ -59,32 +56,21 @@ octal (d ∷ ds) f e l =
     let i : _ = and_both (digit 8 d) (every (digit 8) ds) e in
     rw (f, i.1, eq-eqb (length ds) 3 (omega arith))
 
-pub returns-then-s-ne4 : goal.returns-then-s-ne4
-unfolding number_of
-returns-then-s-ne4 c = other_length c.args.s.now c.if-s-ne4.true
-
-pub returns-then-s-ne50 : goal.returns-then-s-ne50
-unfolding number_of
-returns-then-s-ne50 c = other-first c.args.s.now c.if-s-ne48.true c.if-s-ne50.true
-
-pub returns-then-not-all_of : goal.returns-then-not-all_of
-unfolding number_of of_class
-returns-then-not-all_of c =
+pub returns-in-48 : goal.returns-in-48
+returns-in-48 c =
     let s = c.args.s.now in
-    let f : First s = elim c.if-s-ne48.branch [ then-s-ne48+else-s-ne50 w ↦ two-first s w.if-s-ne50.false | else-s-ne48 w ↦ zero-first s w.if-s-ne48.false ] in
-    not-octal s f (answers_false c.all_of.ensures c.if-not-all_of.true-raw)
+    ap some c.value.ensures.0 ∙ octal s (is-first s (λ h k. omega arith)) (sym c.are_digits.ensures ∙ c.if-are_digits.true) (omega arith)
 
-pub value-requires : goal.value-requires
-unfolding of_class
-value-requires c = record {
-  s_len_bound = omega arith;
-  base_bound = omega arith;
-  s_value = answers_true c.all_of.ensures c.if-not-all_of.false-raw;
-}
+pub returns-in_default : goal.returns-in_default
+returns-in_default c = other_length c.args.s.now (λ e. omega arith)
 
-pub returns : goal.returns
-unfolding number_of of_class
-returns c =
+pub returns-in_default-2 : goal.returns-in_default-2
+returns-in_default-2 c =
     let s = c.args.s.now in
-    let f : First s = elim c.if-s-ne48.branch [ then-s-ne48+else-s-ne50 w ↦ two-first s w.if-s-ne50.false | else-s-ne48 w ↦ zero-first s w.if-s-ne48.false ] in
-    ap some c.value.ensures.0 ∙ octal s f (answers_true c.all_of.ensures c.if-not-all_of.false-raw) (omega arith)
+    not-octal s (is-first s (λ h k. omega arith)) (sym c.are_digits.ensures ∙ c.if-are_digits.false)
+
+pub returns-in_default-3 : goal.returns-in_default-3
+returns-in_default-3 c = other-first c.args.s.now (λ e. grind arith) (λ e. grind arith)
+
+pub returns-in_default-4 : goal.returns-in_default-4
+returns-in_default-4 c = other_length c.args.s.now (λ e. omega arith)

@@ -29,12 +29,11 @@ several [] h = let z : ⊥ = omega arith in absurd z
 several (d ∷ []) h = let z : ⊥ = omega arith in absurd z
 several (d ∷ (e ∷ s)) h = refl
 
-pub returns-then-s-eq0 : goal.returns-then-s-eq0
-unfolding no_leading_zero
-returns-then-s-eq0 c = empty c.args.s.now c.if-s-eq0.true
+pub returns-in-empty : goal.returns-in-empty
+returns-in-empty c = empty c.args.s.now (omega (arith, c.in-empty.len_below))
 
-pub returns-then-s-eq1 : goal.returns-then-s-eq1
-returns-then-s-eq1 c = single c.args.s.now c.if-s-eq1.true
+pub returns-in-len1 : goal.returns-in-len1
+returns-in-len1 c = single c.args.s.now (omega (arith, c.in-len1.len_at_least, c.in-len1.len_below))
 
-pub returns : goal.returns
-returns c = several c.args.s.now (omega arith)
+pub returns-in-len1-up : goal.returns-in-len1-up
+returns-in-len1-up c = several c.args.s.now c.in-len1-up.len_at_least

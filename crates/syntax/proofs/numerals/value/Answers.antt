@@ -47,7 +47,6 @@ turn s base n i g h l b =
     let d : _ = digit-here s base n i g h l b in
     let e : _ = and_both (digit base (get_or s i 0)) (every (digit base) (drop (suc i) s)) (sym (every_from (digit base) s i h) ∙ g.digits) in
     record {
-      le = omega arith;
       small = rw (add-one, pow-suc 10 i) (omega (arith, d.from, d.below, d.times, g.small));
       digits = rw add-one e.1;
       goes = rw add-one (ap (value_after base n) (sym (drop-cons s i 0 h)) ∙ g.goes);
@@ -58,50 +57,37 @@ none_left : (s : List ℕ) (base n i : ℕ) → Going s base n i → length s �
 unfolding value_after
 none_left s base n i g h = ap (value_after base n) (sym (drop_of_length-le s h)) ∙ g.goes
 
-pub loop-i-init : goal.loop-i-init
-loop-i-init c = record { le = omega arith; small = omega arith; digits = c.requires.s_value; goes = refl }
+pub loop-b-init : goal.loop-b-init
+loop-b-init c = record { small = omega arith; digits = c.requires.s_value; goes = refl }
 
-pub bounds-s-i : goal.bounds-s-i
-bounds-s-i c = omega arith
-
-pub overflow_cast-d : goal.overflow_cast-d
-overflow_cast-d c = omega (arith, c.shared_slice_known-1.given c.loop-i.i)
+pub overflow_sub-b : goal.overflow_sub-b
+overflow_sub-b c =
+    let l = c.loop-b in
+    let a = c.args in
+    (digit-here a.s.now a.base l.n l.b-index l.invariant (omega arith) (omega arith) (omega arith)).from
 
 pub overflow_mul-n : goal.overflow_mul-n
 overflow_mul-n c =
-    let l = c.loop-i in
+    let l = c.loop-b in
     let a = c.args in
-    let d : _ = digit-here a.s.now a.base l.n l.i l.invariant (omega arith) (omega arith) (omega arith) in
+    let d : _ = digit-here a.s.now a.base l.n l.b-index l.invariant (omega arith) (omega arith) (omega arith) in
     omega arith
-
-pub overflow_sub-n : goal.overflow_sub-n
-overflow_sub-n c =
-    let l = c.loop-i in
-    let a = c.args in
-    (digit-here a.s.now a.base l.n l.i l.invariant (omega arith) (omega arith) (omega arith)).from
 
 pub overflow_add-n : goal.overflow_add-n
 overflow_add-n c =
-    let l = c.loop-i in
+    let l = c.loop-b in
     let a = c.args in
-    let d : _ = digit-here a.s.now a.base l.n l.i l.invariant (omega arith) (omega arith) (omega arith) in
-    omega arith
+    let d : _ = digit-here a.s.now a.base l.n l.b-index l.invariant (omega arith) (omega arith) (omega arith) in
+    omega (arith, c.from.ensures)
 
-pub overflow_add-i : goal.overflow_add-i
-overflow_add-i c = omega arith
-
-pub loop-i-smaller : goal.loop-i-smaller
-loop-i-smaller c = omega arith
-
-pub loop-i-preserved : goal.loop-i-preserved
-loop-i-preserved c =
-    let l = c.loop-i in
+pub loop-b-preserved : goal.loop-b-preserved
+loop-b-preserved c =
+    let l = c.loop-b in
     let a = c.args in
-    turn a.s.now a.base l.n l.i l.invariant (omega arith) (omega arith) (omega arith)
+    rw c.from.ensures (turn a.s.now a.base l.n l.b-index l.invariant (omega arith) (omega arith) (omega arith))
 
 pub returns : goal.returns
 returns c =
-    let l = c.loop-i in
+    let l = c.loop-b in
     let a = c.args in
-    let i = l.invariant in
-    (none_left a.s.now a.base l.n l.i i (omega arith), below_power l.n l.i 4 i.small (omega arith))
+    (none_left a.s.now a.base l.n l.b-index l.invariant (omega arith), below_power l.n l.b-index 4 l.invariant.small (omega arith))

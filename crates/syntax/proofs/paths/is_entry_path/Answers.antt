@@ -1,24 +1,26 @@
--- `syntax::paths::is_entry_path` meets its contract: one law of entry paths for each return.
-use native.Mathlib.Omega.{arith}
-use mathlib.Core.Path.{sym, ◌∙◌}
-use lib.Seq.{length-take-le}
-use Rattle.buffers.specs.Cases.{answers_false, answers_true}
+-- `syntax::paths::is_entry_path` meets its contract: one law of entry paths for each test.
+use Rattle.std.proofs.Common.{length, sym, ◌∙◌, arith}
+use Rattle.std.proofs.lemmas.Bool.{lt-leb}
+use Rattle.buffers.specs.Cases.{contra}
 use Rattle.syntax.specs.Pieces.{bytes}
 use Rattle.syntax.proofs.PathPartsLaws.{entry_long, entry_begins, entry_is_path}
 use Rattle.syntax.proofs.paths.is_entry_path.Goals as goal
+use Rattle.syntax.proofs.paths.is_entry_path.Goals.{then-s-ge6, else-s-ge6}
 
-pub returns-then-s-lt6 : goal.returns-then-s-lt6
-returns-then-s-lt6 c = sym (entry_long c.args.s.now c.if-s-lt6.true)
-
-pub slice_bounds-same-end : goal.slice_bounds-same-end
-slice_bounds-same-end c = sym (length-take-le 5 c.args.s.now (omega arith))
-
-pub returns-then-not-same : goal.returns-then-not-same
+pub returns-then-same : goal.returns-then-same
 unfolding bytes
-returns-then-not-same c = sym (entry_begins c.args.s.now (answers_false c.same.ensures c.if-not-same.true-raw))
-
-pub returns : goal.returns
-unfolding bytes
-returns c =
+returns-then-same c =
     let s = c.args.s.now in
-    c.is_path.ensures ∙ sym (entry_is_path s (omega arith) (answers_true c.same.ensures c.if-not-same.false-raw))
+    elim c.if-s-ge6.branch [
+      | then-s-ge6 w ↦ c.is_path.ensures ∙ sym (entry_is_path s (omega arith) (sym w.same.ensures ∙ (sym w.value-is ∙ c.if-same.true)))
+      | else-s-ge6 w ↦ contra c.if-same.true (w.value-is ∙ lt-leb 6 (length s) (omega arith))
+    ]
+
+pub returns-else-same : goal.returns-else-same
+unfolding bytes
+returns-else-same c =
+    let s = c.args.s.now in
+    elim c.if-s-ge6.branch [
+      | then-s-ge6 w ↦ c.if-same.false ∙ sym (entry_begins s (sym w.same.ensures ∙ (sym w.value-is ∙ c.if-same.false)))
+      | else-s-ge6 w ↦ c.if-same.false ∙ sym (entry_long s (omega arith))
+    ]

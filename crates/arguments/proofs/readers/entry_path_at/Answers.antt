@@ -1,7 +1,0 @@
--- `arguments::readers::entry_path_at` meets its contract: what it calls tests the part.
-use Rattle.syntax.specs.Parts.{span_text, part}
-use Rattle.arguments.proofs.readers.entry_path_at.Goals as goal
-
-pub returns : goal.returns
-unfolding span_text part
-returns c = c.is_entry_path.ensures
