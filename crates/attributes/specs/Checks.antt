@@ -15,8 +15,8 @@ use Rattle.tree.specs.Forest.{Place}
 use Rattle.tree.specs.Node.{is_directory, Node, allows, owns}
 use Rattle.tree.specs.Walk.{by_modes, walk}
 use Rattle.tree.specs.RowAt.{row_at, all_rows}
+use Rattle.walks.specs.declared.Spot.{Spot}
 use Rattle.walks.specs.RowBelow.{child_text_in}
-use Rattle.walks.specs.RowWalk.{Spot, spot}
 use Rattle.walks.specs.WalkBytes.{spot_of}
 use Rattle.attributes.specs.declared.Deed.{Deed}
 use Rattle.attributes.specs.declared.Deed.TheVariants.{Read, Write, Chmod, Chgrp, Chown, Enter}
@@ -46,11 +46,7 @@ may_do a deed t p = do
   tests a deed d.here
   done d
 
--- the rows of a place and of the directory above it, if its tests are passed
-abbrev pub passed : Result (Unit {0}) → ℕ → ℕ → Result Spot
-passed r row above = r >> done (spot row above)
-
--- those of the place at a path, if the account may come there and do the deed
+-- the rows of the place at a path and of the directory above it, if the account may come there and do the deed
 abbrev pub may_do_at : Account → Deed → Place Node → Path → Result Spot
 may_do_at a deed t p = may_do a deed t p >>= λ d. done (spot_of t p)
 

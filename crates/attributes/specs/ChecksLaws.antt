@@ -6,7 +6,8 @@
 --   the decision, from the walk and the tests at the row: tested, not-walked;
 --   the text of a row: file-text to text-there;
 --   the commands, from the decision: decided-refused to told-there, row-used, row-there.
-use Rattle.std.specs.Prelude.{◌≡◌, List, ◌++◌, Bool, true, false, ◌||◌, ℕ, length, drop}
+use Rattle.std.specs.Prelude.{◌≡◌, List, ◌++◌, Bool, true, false, ◌||◌, ℕ, length, drop, Ok, Err, Some, None, IsErrAnd}
+use Rattle.std.specs.Prelude as code
 use Rattle.std.proofs.Common.{sym, ◌∙◌, ap, zero-add}
 use Rattle.std.proofs.Math.Option.{none, some}
 use Rattle.std.proofs.Math.Bool.{not}
@@ -22,8 +23,8 @@ use Rattle.syntax.specs.Path.{Path, path}
 use Rattle.tree.specs.declared.Kind.TheVariants.{File, Directory}
 use Rattle.tree.specs.declared.Cause.{Cause}
 use Rattle.tree.specs.declared.Cause.TheVariants.{Access, WrongKind, Reserved}
-use Rattle.tree.specs.Result.{Result, refused, done, ◌>>=◌, ◌>>◌, require, Outcome}
-use Rattle.tree.proofs.ResultLaws.{bind_done, then_done, done_then, refused_then, done_bind, refused_bind}
+use Rattle.tree.specs.Result.{Result, outcome, refused, done, ◌>>=◌, ◌>>◌, require, Outcome}
+use Rattle.tree.proofs.ResultLaws.{outcome_ok, outcome_err, bind_done, then_done, done_then, refused_then, done_bind, refused_bind}
 use Rattle.tree.proofs.ResultLaws.{require_true, require_false, then_then, then_bind, bind_bind}
 use Rattle.tree.specs.Forest.{Place, place_at, update, alter}
 use Rattle.tree.specs.Node.{is_directory, Node, allows, owns, set_owner, set_group, set_mode, set_content}
@@ -34,22 +35,21 @@ use Rattle.tree.specs.Encoding.{encode_tree}
 use Rattle.tree.specs.RowAt.{row_at, all_rows}
 use Rattle.tree.specs.TreeBytes.{HasRow, Used, Encodes, Whole, PathText, Whichever, At}
 use Rattle.tree.proofs.TreeBytesLaws.{used_row, at_here, at_used}
-use Rattle.walks.specs.declared.Walked.{Walked}
-use Rattle.walks.specs.declared.Walked.TheVariants.{To, Refused}
+use Rattle.walks.specs.declared.Spot.{Spot}
 use Rattle.walks.specs.RowBelow.{child_text_in}
 use Rattle.walks.specs.RowBelowLaws.{at_child_text}
-use Rattle.walks.specs.RowWalk.{Spot, spot, outcome, walk_in}
-use Rattle.walks.specs.RowWalkLaws.{outcome_at, outcome_refused}
+use Rattle.walks.specs.RowWalk.{walk_in}
 use Rattle.walks.specs.NamesWritten.{Answers}
 use Rattle.walks.specs.WalkBytes.{spot_of, Came}
 use Rattle.walks.specs.WalkBytesLaws.{came_to, came_not, walk_to, walk_not, came_spot}
-use Rattle.shell.specs.declared.Answer.TheVariants
+use Rattle.shell.specs.declared.Refusal.TheVariants.{For}
+use Rattle.shell.specs.Replies.{Answer}
 use Rattle.shell.specs.Steps.{text_of, run_read, run_write, run_chmod, run_chgrp, run_chown}
 use Rattle.shell.specs.CommandBytes.{Follows, FollowsSilently}
-use Rattle.shell.proofs.CommandBytesLaws.{refusal_follows, silence_follows, text_follows}
+use Rattle.shell.proofs.CommandBytesLaws.{passed_follows, silence_follows, text_follows}
 use Rattle.attributes.specs.declared.Deed.{Deed}
 use Rattle.attributes.specs.declared.Deed.TheVariants.{Read, Write, Chmod, Chgrp, Chown, Enter}
-use Rattle.attributes.specs.Checks.{two_tests, may_give, tests, may_do, passed, may_do_at, row_text}
+use Rattle.attributes.specs.Checks.{two_tests, may_give, tests, may_do, may_do_at, row_text}
 
 -- ---- the steps by the checks
 
@@ -115,40 +115,39 @@ enter_checked a t p k =
 -- ---- the tests at a node
 
 -- a test decides
-pub passes : {x : Bool} (k : Cause) (row above : ℕ) → x ≡ true → outcome (To row above) ≡ passed (require x k) row above
-passes k row above e = rw (e, require_true k, done_then (done (spot row above))) (outcome_at row above)
+pub passes : {x : Bool} (k : Cause) → x ≡ true → outcome (Ok tt) ≡ require x k
+passes k e = rw (e, require_true) (outcome_ok tt)
 
-pub fails : {x : Bool} (k : Cause) (row above : ℕ) → x ≡ false → outcome (Refused k) ≡ passed (require x k) row above
-fails k row above e = rw (e, require_false k, refused_then k (done (spot row above))) (outcome_refused k)
+pub fails : {x : Bool} (k : Cause) → x ≡ false → outcome (Err k) ≡ require x k
+fails k e = rw (e, require_false) (outcome_err k)
 
--- so does the first of two that fails
-pub fails_first : {x : Bool} (k : Cause) (y : Bool) (l : Cause) (row above : ℕ) → x ≡ false → outcome (Refused k) ≡ passed (two_tests x k y l) row above
-fails_first k y l row above e = fails k row above e ∙ rw (e, require_false k, refused_then k (require y l))
+module _ (x y : Bool) (k l : Cause) where
+  -- so does the first of two that fails
+  pub fails_first : {why : Cause} → outcome (Err why) ≡ require x k → refused why ≡ two_tests x k y l
+  fails_first e = let shut = sym e ∙ outcome_err _ in sym (rw (shut, refused_then))
 
--- and after one that passes the second
-pub passes_first : {x : Bool} (k : Cause) (y : Bool) (l : Cause) → x ≡ true → require y l ≡ two_tests x k y l
-passes_first k y l e = rw (e, require_true k) (sym (done_then (require y l)))
+  -- and after one that passes the second
+  pub passes_first : outcome (Ok tt) ≡ require x k → require y l ≡ two_tests x k y l
+  passes_first e = let passed = sym e ∙ outcome_ok tt in sym (rw (passed, done_then))
 
 -- ---- the decision
 
 module _ {b : List ℕ} {t : Place Node} (tree : Encodes b t) (a : Account) (s : Text) {p : Path} (reads : path s ≡ some p) (deed : Deed)
-    {w : Walked} (walked : outcome w ≡ walk_in a (all_rows b) s) where
+    {w : code.Result Spot Cause} (walked : outcome w ≡ walk_in a (all_rows b) s) where
   -- after a walk that came to a row the tests of that row decide
-  pub tested : {x : Result Spot} {row above : ℕ} → w ≡ To row above → x ≡ passed (tests a deed (row_at b row).here) row above → x ≡ may_do_at a deed t p
-  tested {x} {row} {above} e q =
+  pub tested : {there : Spot} → w ≡ Ok there → (tests a deed (row_at b there.row).here >> done there) ≡ may_do_at a deed t p
+  tested {there} e =
       let c = walk_to tree a s reads walked e in
-      q
-      ∙ ap (λ (n : Node). passed (tests a deed n) row above) (at_here c.at)
+      ap (λ (n : Node). tests a deed n >> done there) (at_here c.at)
       ∙ ap (λ (z : Spot). tests a deed c.place.here >> done z) (came_spot c)
       ∙ sym (done_bind c.place (λ d. tests a deed d.here >> done (spot_of t p)))
       ∙ sym (ap (λ (r : Result (Place Node)). r >>= λ d. tests a deed d.here >> done (spot_of t p)) c.walked)
       ∙ after_tests a deed t p (λ d. done (spot_of t p))
 
   -- after one that was refused nothing is tested
-  pub not_walked : {k : Cause} → w ≡ Refused k → outcome (Refused k) ≡ may_do_at a deed t p
+  pub not_walked : {k : Cause} → w ≡ Err k → refused k ≡ may_do_at a deed t p
   not_walked {k} e =
-      outcome_refused k
-      ∙ sym (refused_bind k (λ d. tests a deed d.here >> done (spot_of t p)))
+      sym (refused_bind k (λ d. tests a deed d.here >> done (spot_of t p)))
       ∙ sym (ap (λ (r : Result (Place Node)). r >>= λ d. tests a deed d.here >> done (spot_of t p)) (walk_not tree a s reads walked e))
       ∙ after_tests a deed t p (λ d. done (spot_of t p))
 
@@ -186,49 +185,49 @@ leads a deed t p d e =
     let q : i.0 ≡ d = cc j.1 in
     walked_at t (by_modes a) p i.0 i.1 ∙ ap some q
 
-module _ {b : List ℕ} {t : Place Node} (tree : Encodes b t) (a : Account) (deed : Deed) (p : Path) {r : Walked}
+module _ {b : List ℕ} {t : Place Node} (tree : Encodes b t) (a : Account) (deed : Deed) (p : Path) {r : code.Result Spot Cause}
     (same : outcome r ≡ may_do_at a deed t p) where
-  pub came_there : {row above : ℕ} → r ≡ To row above → Came b t p (may_do a deed t p) row above
+  pub came_there : {there : Spot} → r ≡ Ok there → Came b t p (may_do a deed t p) there.row there.above
   came_there e = came_to tree (may_do a deed t p) p same (leads a deed t p) e
 
   module _ {B : Type 0} (k : Place Node → Result B) where
     -- a refused decision is the refusal of all that follows
-    pub decided_refused : {cause : Cause} → r ≡ Refused cause → (may_do a deed t p >>= k) ≡ refused cause
+    pub decided_refused : {cause : Cause} → r ≡ Err cause → (may_do a deed t p >>= k) ≡ refused cause
     decided_refused {cause} e = ap (λ (x : Result (Place Node)). x >>= k) (came_not tree (may_do a deed t p) p same e) ∙ refused_bind cause k
 
     -- after one that is not it goes on at the row's place
-    pub decided_there : {row above : ℕ} (e : r ≡ To row above) → (may_do a deed t p >>= k) ≡ k (came_there e).place
+    pub decided_there : {there : Spot} (e : r ≡ Ok there) → (may_do a deed t p >>= k) ≡ k (came_there e).place
     decided_there e = let c = came_there e in ap (λ (x : Result (Place Node)). x >>= k) c.walked ∙ done_bind c.place k
 
   module _ {steps : Result (Outcome (Place Node))} (k : Place Node → Outcome (Place Node))
       (checked : steps ≡ (may_do a deed t p >>= λ d. done (k d))) where
-    pub refused_there : {cause : Cause} → r ≡ Refused cause → FollowsSilently steps b (TheVariants.Refused cause) b
-    refused_there e = refusal_follows b (checked ∙ decided_refused (λ d. done (k d)) e)
+    pub refused_there : {cause : Cause} {x : Answer} → r ≡ Err cause → IsErrAnd x (λ e. e ≡ For cause) → FollowsSilently steps b x b
+    refused_there e passed = passed_follows b passed (checked ∙ decided_refused (λ d. done (k d)) e)
 
-    done_there : {row above : ℕ} (e : r ≡ To row above) → steps ≡ done (k (came_there e).place)
+    done_there : {there : Spot} (e : r ≡ Ok there) → steps ≡ done (k (came_there e).place)
     done_there e = checked ∙ decided_there (λ d. done (k d)) e
 
-  module _ {steps : Result (Outcome (Place Node))} {row above : ℕ} (e : r ≡ To row above) where
+  module _ {steps : Result (Outcome (Place Node))} {there : Spot} (e : r ≡ Ok there) where
     -- one node changed
     pub changed_there : (g : Node → Node) → steps ≡ (may_do a deed t p >>= λ d. done (changed t p g))
-        → (b' : List ℕ) → ((d : Place Node) → At b t p row d → b' ≡ encode_tree (update p (alter g) t)) → FollowsSilently steps b TheVariants.Done b'
+        → (b' : List ℕ) → ((d : Place Node) → At b t p there.row d → b' ≡ encode_tree (update p (alter g) t)) → FollowsSilently steps b (Ok None) b'
     changed_there g checked b' is =
         let c = came_there e in
         silence_follows b b' (done_there (λ d. changed t p g) checked e) (is c.place c.at)
 
     -- the text of the place told
     pub told_there : steps ≡ (may_do a deed t p >>= λ d. done (told t d))
-        → (s s' : List ℕ) (n : ℕ) → Answers (row_text b row) s n s' → Follows steps b s (TheVariants.Text n) b s'
+        → (s s' : List ℕ) (n : ℕ) → Answers (row_text b there.row) s n s' → Follows steps b s (Ok (Some n)) b s'
     told_there checked s s' n is =
         let c = came_there e in
         let text = answers_with s (text_there c.at) is in
         text_follows b s s' (text_of c.place) n (done_there (told t) checked e) tree.bytes text.0 text.1
 
-module _ {b : List ℕ} (s : Text) (whole : Whole b) (reads : PathText s) (a : Account) (deed : Deed) {r : Walked}
-    (decided : Whichever b s (λ t p. outcome r ≡ may_do_at a deed t p)) {row above : ℕ} (e : r ≡ To row above) where
+module _ {b : List ℕ} (s : Text) (whole : Whole b) (reads : PathText s) (a : Account) (deed : Deed) {r : code.Result Spot Cause}
+    (decided : Whichever b s (λ t p. outcome r ≡ may_do_at a deed t p)) {there : Spot} (e : r ≡ Ok there) where
   -- a row that was decided on is one of the tree's
-  pub row_used : Used b row
+  pub row_used : Used b there.row
   row_used = at_used (came_there whole.1 a deed reads.0 (decided whole.0 reads.0 whole.1 reads.1) e).at
 
-  pub row_there : HasRow b row
+  pub row_there : HasRow b there.row
   row_there = used_row row_used

@@ -1,4 +1,5 @@
-// One attribute of a place changed, if the caller may: the checks over the tree, then a change that cannot fail.
+// One attribute of a place changed, if the caller may: the checks over the tree, then a change that cannot fail. The four are written
+// out, since one function over a change handed to it would be no shorter: beside the checks each is its own change, for its own steps.
 ghost use Rattle.std.specs.Prelude.{◌≤◌, length};
 ghost use Rattle.tree.specs.Layout.{content_width};
 ghost use Rattle.tree.specs.TreeBytes.{Whole, PathText};
@@ -10,7 +11,6 @@ use crate::checks::may_do;
 use accounts::{Caller, Gid, Uid};
 use node_fields::{set_content, set_group, set_mode, set_owner};
 use shell::Answer;
-use walks::Walked;
 
 // `write,path,content`.
 pub fn write(tree: &mut [u8], caller: Caller, path: &[u8], content: &[u8]) -> Answer
@@ -19,13 +19,9 @@ pub fn write(tree: &mut [u8], caller: Caller, path: &[u8], content: &[u8]) -> An
     requires content_len_bound { length content.now ≤ content_width }
     ensures { FollowsAt (λ t p. run_write caller 0 t p content.now) tree.old path.now result tree.new }
 {
-    match may_do(tree, caller.account, path, Deed::Write) {
-        Walked::To { row, above: _ } => {
-            set_content(tree, row, content);
-            Answer::Done
-        }
-        Walked::Refused(cause) => Answer::Refused(cause),
-    }
+    let spot = may_do(tree, caller.account, path, Deed::Write)?;
+    set_content(tree, spot.row, content);
+    Ok(None)
 }
 
 // `chmod,path,mode`.
@@ -34,13 +30,9 @@ pub fn chmod(tree: &mut [u8], caller: Caller, path: &[u8], mode: u16) -> Answer
     requires path_text { PathText path.now }
     ensures { FollowsAt (λ t p. run_chmod caller 0 t p mode) tree.old path.now result tree.new }
 {
-    match may_do(tree, caller.account, path, Deed::Chmod(mode)) {
-        Walked::To { row, above: _ } => {
-            set_mode(tree, row, mode);
-            Answer::Done
-        }
-        Walked::Refused(cause) => Answer::Refused(cause),
-    }
+    let spot = may_do(tree, caller.account, path, Deed::Chmod(mode))?;
+    set_mode(tree, spot.row, mode);
+    Ok(None)
 }
 
 // `chgrp,path,gid`.
@@ -49,13 +41,9 @@ pub fn chgrp(tree: &mut [u8], caller: Caller, path: &[u8], group: Gid) -> Answer
     requires path_text { PathText path.now }
     ensures { FollowsAt (λ t p. run_chgrp caller 0 t p group) tree.old path.now result tree.new }
 {
-    match may_do(tree, caller.account, path, Deed::Chgrp(group)) {
-        Walked::To { row, above: _ } => {
-            set_group(tree, row, group);
-            Answer::Done
-        }
-        Walked::Refused(cause) => Answer::Refused(cause),
-    }
+    let spot = may_do(tree, caller.account, path, Deed::Chgrp(group))?;
+    set_group(tree, spot.row, group);
+    Ok(None)
 }
 
 // `chown,path,uid`.
@@ -64,11 +52,7 @@ pub fn chown(tree: &mut [u8], caller: Caller, path: &[u8], owner: Uid) -> Answer
     requires path_text { PathText path.now }
     ensures { FollowsAt (λ t p. run_chown caller 0 t p owner) tree.old path.now result tree.new }
 {
-    match may_do(tree, caller.account, path, Deed::Chown) {
-        Walked::To { row, above: _ } => {
-            set_owner(tree, row, owner);
-            Answer::Done
-        }
-        Walked::Refused(cause) => Answer::Refused(cause),
-    }
+    let spot = may_do(tree, caller.account, path, Deed::Chown)?;
+    set_owner(tree, spot.row, owner);
+    Ok(None)
 }

@@ -12,7 +12,7 @@ use crate::checks::may_do;
 use accounts::Caller;
 use shell::Answer;
 use tree::{Kind, content_at, kind_at};
-use walks::{Walked, child_names};
+use walks::child_names;
 
 // Writes the content of a row over the answer, and tells how many bytes it takes.
 fn give_content(tree: &[u8], row: usize, answer: &mut [u8]) -> usize
@@ -45,8 +45,6 @@ pub fn read(tree: &[u8], caller: Caller, path: &[u8], answer: &mut [u8]) -> Answ
     ensures { Whichever tree.now path.now
         (λ t p. Follows (run_read caller 0 t p) tree.now answer.old result tree.now answer.new) }
 {
-    match may_do(tree, caller.account, path, Deed::Read) {
-        Walked::To { row, above: _ } => Answer::Text(give_text(tree, row, answer)),
-        Walked::Refused(cause) => Answer::Refused(cause),
-    }
+    let spot = may_do(tree, caller.account, path, Deed::Read)?;
+    Ok(Some(give_text(tree, spot.row, answer)))
 }

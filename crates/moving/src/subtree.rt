@@ -15,7 +15,7 @@ use crate::relabel::relabel;
 use accounts::{Account, Groups, Uid};
 use buffers::write_many;
 use edits::{put_rows, take_rows};
-use gaps::{Room, last_name, room_for};
+use gaps::{last_name, room_for};
 use tree::{FEW_ROWS, FIRST, HALF_ROWS, MANY_ROWS, MOST_ROWS, ROW, SOME_ROWS, subtree_end};
 
 // The bytes of the arrays that hold rows on the way.
@@ -54,12 +54,9 @@ fn put_held(tree: &mut [u8], to: &[u8], n: usize, held: &mut [u8])
         uid: Uid(0),
         groups: Groups(0),
     };
-    match room_for(tree, root, to) {
-        Room::At { row: _, at, depth } => {
-            relabel(held, n, depth, last_name(to));
-            put_rows(tree, at, n, held);
-        }
-        Room::Refused(_) => {}
+    if let Ok(gap) = room_for(tree, root, to) {
+        relabel(held, n, gap.depth, last_name(to));
+        put_rows(tree, gap.at, n, held);
     }
 }
 

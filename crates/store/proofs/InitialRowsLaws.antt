@@ -1,7 +1,8 @@
 -- The initial tree as the code writes it: a row for each directory, put in where root finds room for it.
 --
 -- In order: a directory put in below `/`; `/` and `/rep`; the home of an account; the accounts one after another.
-use Rattle.std.specs.Prelude.{◌≡◌, Bool, true, ℕ, suc, ◌+◌, ◌-◌, ◌≤◌, ◌<◌, ◌/◌, ◌%◌, eqb, length}
+use Rattle.std.specs.Prelude.{◌≡◌, Bool, true, ℕ, suc, ◌+◌, ◌-◌, ◌≤◌, ◌<◌, ◌/◌, ◌%◌, eqb, length, Ok, Err}
+use Rattle.std.specs.Prelude as code
 use Rattle.std.proofs.Math.Path.{refl, ap}
 use Rattle.std.proofs.Common.{sym, ◌∙◌, arith, add-one}
 use mathlib.Core.List.{List, [], ◌∷◌, map}
@@ -23,7 +24,7 @@ use Rattle.syntax.proofs.FormLaws.{no_answer, answered}
 use Rattle.setup.specs.Setup.{Person, Setup, accounts, person, is_setup}
 use Rattle.tree.specs.declared.Cause.{Cause}
 use Rattle.tree.specs.Layout.{name_width}
-use Rattle.tree.specs.Result.{done}
+use Rattle.tree.specs.Result.{outcome, done}
 use Rattle.tree.proofs.ResultLaws.{not_done}
 use Rattle.tree.specs.Forest.{Forest, no_nodes, Place, insert, put, leaf}
 use Rattle.tree.specs.Node.{Node}
@@ -39,9 +40,8 @@ use Rattle.tree.specs.Encoding.{row_bytes, encode_tree}
 use Rattle.edits.specs.declared.Fresh.{Fresh}
 use Rattle.edits.specs.Changes.{rows_put, fresh_node, fresh_row}
 use Rattle.edits.specs.WrittenLaws.{fresh_node_is}
-use Rattle.gaps.specs.declared.Room.{Room}
-use Rattle.gaps.specs.declared.Room.TheVariants
-use Rattle.gaps.specs.Gaps.{gap_from, gap_told, behind_slash}
+use Rattle.gaps.specs.declared.Gap.{Gap}
+use Rattle.gaps.specs.Gaps.{gap_from, behind_slash}
 use Rattle.gaps.specs.GapsLaws.{last_in_text, last_fits, Standing, room_to, room_not, stands_insertable, stands_child}
 use Rattle.store.specs.declared.Person.{Person as Slot}
 use Rattle.store.specs.Initial.{directory_of, top_node, rep_node, home_node, home_name, with_home, homes, topped, initial_tree}
@@ -77,17 +77,17 @@ module _ (b : List ℕ) (s : Text) (n : Name) (t : Place Node) (h : OpensAt b s 
   unfolding parent last is_top
   top_room a top = root_room a t (root ▹ n) top tree.whole (place_at_root t) (top_directory t tree.whole) h.opens.ready.free refl
 
-  module _ (a : Account) {r : Room} (told : Whichever b s (λ t p. gap_told r ≡ gap_from t p (room (by_modes a) t p))) where
+  module _ (a : Account) {r : code.Result Gap Cause} (told : Whichever b s (λ t p. outcome r ≡ gap_from t p (room (by_modes a) t p))) where
     -- so it is not refused
-    pub not_refused : is_root a.uid ≡ true → {k : Cause} → r ≡ TheVariants.Refused k → ⊥
+    pub not_refused : is_root a.uid ≡ true → {k : Cause} → r ≡ Err k → ⊥
     not_refused top e = not_done (sym (room_not tree a (root ▹ n) (told t (root ▹ n) tree h.reads) e) ∙ top_room a top)
 
-    module _ {row at k : ℕ} (e : r ≡ TheVariants.At row at k) where
-      stands : Standing b t (root ▹ n) a row at k
+    module _ {g : Gap} (e : r ≡ Ok g) where
+      stands : Standing b t (root ▹ n) a g.row g.at g.depth
       stands = room_to tree a (root ▹ n) (told t (root ▹ n) tree h.reads) e
 
       -- where room is found, the row may be put in
-      pub spot_opens : Insertable b at 1
+      pub spot_opens : Insertable b g.at 1
       spot_opens = stands_insertable stands 1 (omega (arith, h.opens.ready.room))
 
       -- with its name
@@ -95,10 +95,10 @@ module _ (b : List ℕ) (s : Text) (n : Name) (t : Place Node) (h : OpensAt b s 
       spot_named = last_fits s h.reads stands.roomed.below_top
 
       -- and is then the directory put in
-      pub directory_put : (m : Name) → m ≡ behind_slash s → (f : Fresh) → rows_put b at 1 (row_bytes (fresh_row k m f)) ≡ encode_tree (put n (leaf (fresh_node f)) t)
+      pub directory_put : (m : Name) → m ≡ behind_slash s → (f : Fresh) → rows_put b g.at 1 (row_bytes (fresh_row g.depth m f)) ≡ encode_tree (put n (leaf (fresh_node f)) t)
       unfolding parent last
       directory_put m q f =
-          ap (λ (x : Name). rows_put b at 1 (row_bytes (fresh_row k x f))) (q ∙ last_in_text s h.reads)
+          ap (λ (x : Name). rows_put b g.at 1 (row_bytes (fresh_row g.depth x f))) (q ∙ last_in_text s h.reads)
           ∙ stands_child stands s h.reads f (omega (arith, h.opens.ready.room))
           ∙ ap encode_tree (update_root (put n (leaf (fresh_node f))) t)
 

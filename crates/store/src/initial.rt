@@ -13,7 +13,7 @@ ghost use Rattle.store.specs.InitialRows.{slot_value, slot_in_range, Opens, Open
 use crate::Person;
 use accounts::{Account, Gid, Groups, Uid};
 use edits::{Fresh, plant, put_child};
-use gaps::{Room, last_name, room_for};
+use gaps::{last_name, room_for};
 use tree::Kind;
 
 // The mode of a home, 0755.
@@ -35,9 +35,8 @@ fn put_directory(tree: &mut [u8], path: &[u8], owner: Uid, group: Gid, mode: u16
         mode,
         revision: 0,
     };
-    match room_for(tree, root, path) {
-        Room::At { row: _, at, depth } => put_child(tree, at, depth, last_name(path), node),
-        Room::Refused(_) => {}
+    if let Ok(gap) = room_for(tree, root, path) {
+        put_child(tree, gap.at, gap.depth, last_name(path), node);
     }
 }
 

@@ -1,5 +1,5 @@
 -- `attributes::changes::chmod` meets its contract: refused as the decision is, else the mode of that place is changed.
-use mathlib.Core.Path.{◌∙◌}
+use Rattle.std.proofs.Common.{◌∙◌, refl}
 use Rattle.tree.specs.Node.{set_mode}
 use Rattle.node_fields.specs.FieldEditLaws.{mode_law}
 use Rattle.attributes.specs.declared.Deed.TheVariants.{Chmod}
@@ -8,19 +8,19 @@ use Rattle.attributes.proofs.changes.chmod.Goals as goal
 
 pub set_mode-requires : goal.set_mode-requires
 set_mode-requires c =
-    let decided = c.may_do.ensures in
-    row_there c.args.path.now c.requires.whole c.requires.path_text c.args.caller.account (Chmod c.args.mode) decided c.in-To.is
+    let decided = c.in_ok-spot.ensures in
+    row_there c.args.path.now c.requires.whole c.requires.path_text c.args.caller.account (Chmod c.args.mode) decided refl
 
-pub returns-in-To : goal.returns-in-To
-returns-in-To c t p e q =
+pub returns : goal.returns
+returns c t p e q =
     let x = c.args.mode in
-    let decided = c.may_do.ensures t p e q in
+    let decided = c.in_ok-spot.ensures t p e q in
     let change = c.set_mode in
-    changed_there e c.args.caller.account (Chmod x) p decided c.in-To.is
+    changed_there e c.args.caller.account (Chmod x) p decided refl
     (set_mode x) (chmod_checked c.args.caller 0 t p x) change.new.tree (λ d at. change.ensures ∙ mode_law at x)
 
-pub returns-in-Refused : goal.returns-in-Refused
-returns-in-Refused c t p e q =
+pub returns-in_err-spot : goal.returns-in_err-spot
+returns-in_err-spot c t p e q =
     let x = c.args.mode in
-    let decided = c.may_do.ensures t p e q in
-    refused_there e c.args.caller.account (Chmod x) p decided _ (chmod_checked c.args.caller 0 t p x) c.in-Refused.is
+    let decided = c.in_err-spot.ensures t p e q in
+    refused_there e c.args.caller.account (Chmod x) p decided _ (chmod_checked c.args.caller 0 t p x) refl c.from_residual.ensures.1

@@ -1,5 +1,5 @@
 -- `store::initial::put_directory` meets its contract: root finds the room, and the row is put in there.
-use mathlib.Core.Path.{ap, ◌∙◌}
+use mathlib.Core.Path.{ap, refl, ◌∙◌}
 use native.Mathlib.Omega.{arith}
 use lib.ListN.{length}
 use Rattle.accounts.proofs.AccessLaws.{is_root_is}
@@ -19,22 +19,22 @@ pub put_child-requires : goal.put_child-requires
 put_child-requires c =
     let b = c.args.tree.now in
     let p = c.args.path.now in
-    let told = c.room_for.ensures in
-    let e = c.in-At.is in record {
+    let told = c.in-Ok.ensures in
+    let e = refl in record {
       insertable = spot_opens b p c.requires.0 c.requires.1 c.requires.2 _ told e;
       name_len_bound = omega (arith, ap length c.last_name.ensures, spot_named b p c.requires.0 c.requires.1 c.requires.2 _ told e);
     }
 
-pub returns-in-At : goal.returns-in-At
-returns-in-At c n t h =
+pub returns-in-Ok : goal.returns-in-Ok
+returns-in-Ok c n t h =
     let a = c.args in
-    let told = c.room_for.ensures in
-    let e = c.in-At.is in
+    let told = c.in-Ok.ensures in
+    let e = refl in
     let name = c.last_name in
     c.put_child.ensures ∙ directory_put a.tree.now a.path.now n t h _ told e name.result.now name.ensures _
     ∙ ap (λ (x : Node). encode_tree (put n (leaf x) t)) (directory_is a.owner a.group a.mode)
 
-pub returns-in-Refused : goal.returns-in-Refused
-returns-in-Refused c n t h =
+pub returns-in_default : goal.returns-in_default
+returns-in_default c n t h =
     let a = c.args in
-    absurd (not_refused a.tree.now a.path.now n t h _ c.room_for.ensures (is_root_is (record { 0 = 0 })) c.in-Refused.is)
+    absurd (not_refused a.tree.now a.path.now n t h _ c.in_default.ensures (is_root_is (record { 0 = 0 })) refl)
