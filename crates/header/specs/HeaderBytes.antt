@@ -14,7 +14,7 @@ use Rattle.syntax.specs.Path.{Path, is_path, path_text}
 use Rattle.setup.specs.Setup.{Grant, Setup, is_setup}
 use Rattle.tree.specs.declared.Cause.TheVariants.{UnknownCaller}
 use Rattle.tree.specs.Result.{Result, refused, done, ◌>>=◌, Outcome}
-use Rattle.shell.specs.declared.Answer.{Answer}
+use Rattle.shell.specs.Replies.{Answer}
 use Rattle.shell.specs.CommandBytes.{CarriesSilently}
 use Rattle.store.specs.HeaderLayout.{password_offset, password_width, grant_start}
 use Rattle.store.specs.State.{Registry, set_session, set_directory, is_registry}

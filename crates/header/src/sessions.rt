@@ -7,7 +7,7 @@ ghost use Rattle.header.specs.HeaderBytes.{Headed, Whose, session_held, BoundedS
 
 use crate::grants::is_granted;
 use accounts::{Role, Session, Uid};
-use shell::Answer;
+use shell::{Answer, Refusal};
 use store::SESSIONS;
 use tree::Cause;
 
@@ -54,11 +54,11 @@ pub fn login(header: &mut [u8], uid: Uid, role: Role, password: &[u8]) -> Answer
     ensures { LogsIn header.old uid role password.now result header.new }
 {
     if !is_granted(header, uid, role, password) {
-        return Answer::Refused(Cause::NoGrant);
+        return Err(Refusal::For(Cause::NoGrant));
     }
     let session = session_of(header, uid).log_in(role);
     set_session(header, uid, session);
-    Answer::Done
+    Ok(None)
 }
 
 // `logout`: the session becomes none.
@@ -69,5 +69,5 @@ pub fn logout(header: &mut [u8], uid: Uid) -> Answer
 {
     let session = session_of(header, uid).log_out();
     set_session(header, uid, session);
-    Answer::Done
+    Ok(None)
 }
