@@ -1,5 +1,6 @@
 -- What the code of `add` goes by: the room for the entry by the code's answer, and in a session the machine's steps are those of AddSteps.
-use Rattle.std.specs.Prelude.{◌≡◌, List, Bool, ℕ, ◌+◌, ◌≤◌, ◌<◌}
+use Rattle.std.specs.Prelude.{◌≡◌, List, Bool, ℕ, ◌+◌, ◌≤◌, ◌<◌, Ok, Err}
+use Rattle.std.specs.Prelude as code
 use Rattle.std.proofs.Common.{sym, ◌∙◌, ap, add-zero, arith}
 use Rattle.std.proofs.Math.Option.{none, some}
 use borrow.Author.Tests.{leb-true, le-leb, lt-leb}
@@ -12,8 +13,8 @@ use Rattle.syntax.specs.Path.{Path, EntryPath, last, is_top, in_rep, entry_locat
 use Rattle.setup.specs.Setup.{Setup}
 use Rattle.tree.specs.declared.Cause.{Cause}
 use Rattle.tree.specs.declared.Cause.TheVariants.{Full}
-use Rattle.tree.specs.Result.{Result, refused, done, Outcome}
-use Rattle.tree.proofs.ResultLaws.{bind_done, refused_before, done_then, refused_then, done_bind, refused_bind, require_true, require_false, then_then, then_bind, bind_bind}
+use Rattle.tree.specs.Result.{Result, outcome, refused, done, Outcome}
+use Rattle.tree.proofs.ResultLaws.{outcome_ok, outcome_err, bind_done, refused_before, done_then, refused_then, done_bind, refused_bind, require_true, require_false, then_then, then_bind, bind_bind}
 use Rattle.tree.specs.Outcomes.{gives, Ensures}
 use Rattle.tree.proofs.GivesLaws.{done_with, then_check, then_do}
 use Rattle.tree.specs.Forest.{Place}
@@ -23,10 +24,9 @@ use Rattle.tree.proofs.JudgeLaws.{room_by_modes, writable_by_modes}
 use Rattle.tree.specs.WellFormed.{nodes}
 use Rattle.tree.proofs.WellFormedLaws.{most_nodes_is}
 use Rattle.tree.specs.TreeBytes.{Encodes, At}
-use Rattle.gaps.specs.declared.Room.{Room}
-use Rattle.gaps.specs.declared.Room.TheVariants
-use Rattle.gaps.specs.Gaps.{gap_of, gap_from, gap_told}
-use Rattle.gaps.specs.GapsLaws.{told_refused, told_gap, Standing, room_to}
+use Rattle.gaps.specs.declared.Gap.{Gap}
+use Rattle.gaps.specs.Gaps.{gap_of, gap_from}
+use Rattle.gaps.specs.GapsLaws.{Standing, room_to}
 use Rattle.shell.specs.Steps.{fit}
 use Rattle.store.specs.State.{Store}
 use Rattle.machine.specs.Machine.{session, run_add}
@@ -61,19 +61,19 @@ module _ (a : Account) (t : Place Node) (e : EntryPath) where
       then_check Full tt _ λ g.
       gives (f, leb-true (nodes t + 1) 256 (rw most_nodes_is at g))
 
-  module _ {b : List ℕ} (tree : Encodes b t) {r : Room} (same : gap_told r ≡ gap_from t (entry_location e) (add_room a t e)) where
+  module _ {b : List ℕ} (tree : Encodes b t) {r : code.Result Gap Cause} (same : outcome r ≡ gap_from t (entry_location e) (add_room a t e)) where
     -- where the entry may stand, by the code's answer
-    pub add_stands : {row at k : ℕ} → r ≡ TheVariants.At row at k
-        → (g : Standing b t (entry_location e) a row at k) × ((add_room a t e ≡ done g.directory) × (nodes t + 1 ≤ 256))
-    add_stands {row} {at} {k} f =
-        let i = bind_done (add_room a t e) (λ d. done (gap_of t (entry_location e) d)) (sym same ∙ ap gap_told f ∙ told_gap row at k) in
+    pub add_stands : {s : Gap} → r ≡ Ok s
+        → (g : Standing b t (entry_location e) a s.row s.at s.depth) × ((add_room a t e ≡ done g.directory) × (nodes t + 1 ≤ 256))
+    add_stands {s} f =
+        let i = bind_done (add_room a t e) (λ d. done (gap_of t (entry_location e) d)) (sym same ∙ ap outcome f ∙ outcome_ok s) in
         let z = done_with room_ensures i.1 in
         let g = room_to tree a (entry_location e) (same ∙ ap (gap_from t (entry_location e)) (i.1 ∙ sym z.0)) f in
         (g, (i.1 ∙ sym z.0 ∙ g.found, z.1))
 
     -- or why it may not
-    pub add_not : {k : Cause} → r ≡ TheVariants.Refused k → add_room a t e ≡ refused k
-    add_not {k} f = refused_before (add_room a t e) (gap_of t (entry_location e)) (sym same ∙ ap gap_told f ∙ told_refused k)
+    pub add_not : {k : Cause} → r ≡ Err k → add_room a t e ≡ refused k
+    add_not {k} f = refused_before (add_room a t e) (gap_of t (entry_location e)) (sym same ∙ ap outcome f ∙ outcome_err k)
 
 -- what is known when the entry is made
 abbrev pub addition_of : {b : List ℕ} {t : Place Node} {w : Path} {e : EntryPath} {d : Place Node} {a : Account} {working row at k : ℕ} (s : Text) → At b t w working d

@@ -20,7 +20,7 @@ use Rattle.tree.specs.WellFormed.{most_nodes, nodes}
 use Rattle.tree.specs.TreeBytes.{Encodes, At}
 use Rattle.edits.specs.declared.Fresh.{Fresh}
 use Rattle.gaps.specs.GapsLaws.{Standing}
-use Rattle.shell.specs.declared.Answer.{Answer}
+use Rattle.shell.specs.Replies.{Answer}
 use Rattle.shell.specs.CommandBytes.{FollowsSilently}
 use Rattle.machine.specs.Working.{tagged}
 use Rattle.machine.specs.StoreMachine.{entry_mode, entry_node}

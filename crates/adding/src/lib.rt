@@ -7,26 +7,25 @@ ghost use Rattle.accounts.specs.Dominance.{BoundedRole};
 ghost use Rattle.syntax.specs.Path.{Path, EntryPath, entry_location, path, entry_path};
 ghost use Rattle.tree.specs.Layout.{row_width, name_width};
 ghost use Rattle.tree.specs.Encoding.{row_bytes, encode_tree};
+ghost use Rattle.tree.specs.Result.{outcome};
 ghost use Rattle.tree.specs.RowAt.{row_at};
 ghost use Rattle.tree.specs.TreeBytes.{HasRow, Whole, PathText, Whichever, EntryPathText, WhicheverEntry};
-ghost use Rattle.walks.specs.RowWalk.{spot, outcome};
-ghost use Rattle.gaps.specs.Gaps.{gap_from, gap_told};
+ghost use Rattle.gaps.specs.Gaps.{gap_from};
 ghost use Rattle.machine.specs.StoreMachine.{entry_mode};
 ghost use Rattle.walks.specs.WalkBytes.{spot_from};
-ghost use Rattle.entries.specs.EntrySteps.{passing};
 ghost use Rattle.adding.specs.AddSteps.{add_tests, add_walk, add_room, after_add, fresh_entry, filled_node, Addition, Adds};
 
 use accounts::{Account, Caller, Gid, Role, Uid};
 use buffers::{clear, write_padded};
 use edits::{Fresh, put_rows, write_head};
-use gaps::{Room, last_name, room_for};
+use gaps::{Gap, last_name, room_for};
 use node_fields::set_tag;
 use shell::Answer;
 use tree::{
     BEHIND_NAME, CONTENT, CONTENT_WIDTH, Cause, Kind, MOST_ROWS, NAME, NAME_WIDTH, ROW, TAG,
     content_at, count, kind_at,
 };
-use walks::{Walked, owns_at, readable_at, walk};
+use walks::{Spot, owns_at, readable_at, walk};
 
 // An entry begins with this revision.
 const FIRST_REVISION: u16 = 1;
@@ -35,50 +34,45 @@ const FIRST_REVISION: u16 = 1;
 const SERVICE: u8 = 16;
 
 // Whether a person may add a node: the owner or root, with the right to read it, and in a session whose role dominates the entry's.
-fn judge_add(tree: &[u8], person: Account, dominated: bool, row: usize, above: usize) -> Walked
+fn judge_add(tree: &[u8], person: Account, dominated: bool, row: usize) -> Result<(), Cause>
     requires { HasRow tree.now row }
-    ensures { outcome result ≡ passing (add_tests person dominated (row_at tree.now row).here) (spot row above) }
+    ensures { outcome result ≡ add_tests person dominated (row_at tree.now row).here }
 {
     if !owns_at(tree, row, person) {
-        return Walked::Refused(Cause::Reserved);
+        return Err(Cause::Reserved);
     }
     if !readable_at(tree, row, person) {
-        return Walked::Refused(Cause::Access);
+        return Err(Cause::Access);
     }
     if !dominated {
-        return Walked::Refused(Cause::Reserved);
+        return Err(Cause::Reserved);
     }
-    Walked::To { row, above }
+    Ok(())
 }
 
 // The person's walk to what is added.
-fn walk_add(tree: &[u8], person: Account, dominated: bool, working: &[u8]) -> Walked
+fn walk_add(tree: &[u8], person: Account, dominated: bool, working: &[u8]) -> Result<Spot, Cause>
     requires whole { Whole tree.now }
     requires path_text { PathText working.now }
     ensures { Whichever tree.now working.now (λ t w. outcome result ≡ spot_from t w (add_walk person dominated t w)) }
 {
-    match walk(tree, person, working) {
-        Walked::To { row, above } => judge_add(tree, person, dominated, row, above),
-        Walked::Refused(cause) => Walked::Refused(cause),
-    }
+    let spot = walk(tree, person, working)?;
+    judge_add(tree, person, dominated, spot.row)?;
+    Ok(spot)
 }
 
 // Where the account may put the entry in: room at its path, and fewer than 256 nodes.
-fn entry_room(tree: &[u8], account: Account, entry: &[u8]) -> Room
+fn entry_room(tree: &[u8], account: Account, entry: &[u8]) -> Result<Gap, Cause>
     requires whole { Whole tree.now }
     requires entry_path_text { EntryPathText entry.now }
     ensures { WhicheverEntry tree.now entry.now (λ t e.
-        gap_told result ≡ gap_from t (entry_location e) (add_room account t e)) }
+        outcome result ≡ gap_from t (entry_location e) (add_room account t e)) }
 {
-    match room_for(tree, account, entry) {
-        Room::Refused(cause) => Room::Refused(cause),
-        Room::At { row, at, depth } => {
-            if MOST_ROWS <= count(tree) {
-                return Room::Refused(Cause::Full);
-            }
-            Room::At { row, at, depth }
-        }
+    let gap = room_for(tree, account, entry)?;
+    if MOST_ROWS <= count(tree) {
+        return Err(Cause::Full);
     }
+    Ok(gap)
 }
 
 // A file's entry is 0440, a directory's 0770.
@@ -156,15 +150,8 @@ pub fn add(
     ensures { (w : Path) (e : EntryPath) → path working.now ≡ some w → entry_path entry.now ≡ some e
         → Adds tree.old caller account dominated role w e result tree.new }
 {
-    let person = caller.account;
-    match walk_add(tree, person, dominated, working) {
-        Walked::To { row, above: _ } => match entry_room(tree, account, entry) {
-            Room::At { row: _, at, depth } => {
-                file_entry(tree, row, at, depth, entry, role);
-                Answer::Done
-            }
-            Room::Refused(cause) => Answer::Refused(cause),
-        },
-        Walked::Refused(cause) => Answer::Refused(cause),
-    }
+    let spot = walk_add(tree, caller.account, dominated, working)?;
+    let gap = entry_room(tree, account, entry)?;
+    file_entry(tree, spot.row, gap.at, gap.depth, entry, role);
+    Ok(None)
 }

@@ -1,13 +1,15 @@
 -- What the commands on entries come to on the store's tree, for the person's account and the session's: the machine's steps with those two
 -- accounts in place of the session. Then where the code finds their nodes among the rows.
-use Rattle.std.specs.Prelude.{◌≡◌, List, Bool, false, not, ℕ, suc, eqb}
+use Rattle.std.specs.Prelude.{◌≡◌, List, Bool, false, not, ℕ, suc, eqb, Ok, Err, None}
+use Rattle.std.specs.Prelude as code
 use Rattle.std.proofs.Math.Option.{none, some}
 use Rattle.accounts.specs.declared.Account.{Account}
 use Rattle.accounts.specs.declared.Right.{Right}
 use Rattle.accounts.specs.declared.Right.TheVariants.{R, W}
 use Rattle.syntax.specs.Path.{Path, EntryPath, parent, in_rep, entry_location}
+use Rattle.tree.specs.declared.Cause.{Cause}
 use Rattle.tree.specs.declared.Cause.TheVariants.{Access, WrongKind, NotEmpty, Stale, Untagged, RevisionsSpent}
-use Rattle.tree.specs.Result.{Result, refused, done, ◌>>=◌, ◌>>◌, require, present, Outcome}
+use Rattle.tree.specs.Result.{Result, done, ◌>>=◌, ◌>>◌, require, present, outcome, Outcome}
 use Rattle.tree.specs.Forest.{Place, is_empty, update, alter, drop}
 use Rattle.tree.specs.Node.{is_directory, Tag, Node, allows, set_tag, set_content}
 use Rattle.tree.specs.Walk.{by_modes, walk}
@@ -15,14 +17,12 @@ use Rattle.tree.specs.WellFormed.{last_revision}
 use Rattle.tree.specs.RowPlaces.{index_of}
 use Rattle.tree.specs.Encoding.{encode_tree}
 use Rattle.tree.specs.TreeBytes.{At}
-use Rattle.shell.specs.declared.Answer.{Answer}
-use Rattle.shell.specs.declared.Answer.TheVariants.{Done}
-use Rattle.shell.specs.declared.Answer.TheVariants
+use Rattle.shell.specs.declared.Refusal.TheVariants.{For}
+use Rattle.shell.specs.Replies.{Answer}
 use Rattle.shell.specs.CommandBytes.{bytes_after}
 use Rattle.machine.specs.Working.{tagged}
 use Rattle.machine.specs.StoreMachine.{next_node}
-use Rattle.entries.specs.declared.Links.{Links}
-use Rattle.entries.specs.declared.Links.TheVariants.{To, Refused}
+pub use Rattle.entries.specs.declared.LinkRows.{LinkRows}
 
 -- ---- the steps
 
@@ -135,11 +135,6 @@ del_steps account t e = changing (del_walk account t e) (λ d. after_del t e)
 -- ---- among the rows
 
 -- the rows of a working file, of its entry, and of the directory above that
-pub record LinkRows : Type 0 where
-  pub working : ℕ
-  pub entry : ℕ
-  pub above : ℕ
-
 abbrev pub three_rows : ℕ → ℕ → ℕ → LinkRows
 three_rows working entry above = record { working = working; entry = entry; above = above }
 
@@ -154,19 +149,14 @@ link_rows_from t steps = steps >>= λ l. done (link_rows t l)
 abbrev pub passing : {A : Type 0} → Result (Unit {0}) → A → Result A
 passing tests x = tests >> done x
 
--- what the code's answer means
-unfoldable pub links_told : Links → Result LinkRows
-links_told (To working entry above) = done (three_rows working entry above)
-links_told (Refused cause) = refused cause
-
 -- what a command answers for it
-unfoldable pub links_answer : Links → Answer
-links_answer (To working entry above) = Done
-links_answer (Refused cause) = TheVariants.Refused cause
+unfoldable pub links_answer : code.Result LinkRows Cause → Answer
+links_answer (Ok rows) = Ok None
+links_answer (Err cause) = Err (For cause)
 
 -- the rows answered are those of the link that the steps of a commit come to, and the bytes those of the tree after them; refused, the bytes stay
-pub record FiledAt (b : List ℕ) (t : Place Node) (steps : Result Link) (r : Links) (b' : List ℕ) : Type 0 where
-  pub links : links_told r ≡ link_rows_from t steps
+pub record FiledAt (b : List ℕ) (t : Place Node) (steps : Result Link) (r : code.Result LinkRows Cause) (b' : List ℕ) : Type 0 where
+  pub links : outcome r ≡ link_rows_from t steps
   pub bytes : b' ≡ bytes_after encode_tree b (changing steps (after_commit t))
 
 -- in the bytes b of the tree t the rows are those of a working file and of the entry that its tag leads to, both files

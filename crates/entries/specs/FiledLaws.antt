@@ -1,12 +1,13 @@
 -- What `commit` of a file found answers and leaves, as its code comes to it.
-use Rattle.std.specs.Prelude.{◌≡◌, List, ℕ, ◌<◌}
+use Rattle.std.specs.Prelude.{◌≡◌, List, ℕ, ◌<◌, Ok}
+use Rattle.std.specs.Prelude as code
 use Rattle.std.proofs.Common.{sym, ◌∙◌}
 use Rattle.std.proofs.Math.Path.{ap}
 use Rattle.accounts.specs.declared.Account.{Account}
 use Rattle.accounts.specs.declared.Right.TheVariants.{R}
 use Rattle.syntax.specs.Path.{Path}
 use Rattle.tree.specs.declared.Cause.{Cause}
-use Rattle.tree.specs.Result.{Result, refused, done}
+use Rattle.tree.specs.Result.{Result, refused, done, outcome}
 use Rattle.tree.specs.Forest.{Place}
 use Rattle.tree.specs.Node.{Node}
 use Rattle.tree.specs.WellFormed.{last_revision}
@@ -15,9 +16,8 @@ use Rattle.tree.specs.RowPlaces.{index_of}
 use Rattle.tree.specs.RowAt.{row_at}
 use Rattle.tree.specs.TreeBytes.{At}
 use Rattle.shell.specs.CommandBytes.{bytes_after}
-use Rattle.entries.specs.declared.Links.{Links}
-use Rattle.entries.specs.declared.Links.TheVariants.{To}
-use Rattle.entries.specs.EntrySteps.{Link, commit_at, after_commit, link_rows_from, links_told, FiledAt, Linked}
+use Rattle.entries.specs.declared.LinkRows.{LinkRows}
+use Rattle.entries.specs.EntrySteps.{Link, commit_at, after_commit, link_rows_from, FiledAt, Linked}
 use Rattle.entries.specs.LinkLaws.{links_to, link_facts, linked, commit_parts, revision_below}
 use Rattle.entries.specs.EntryStepsLaws.{comes_to, comes_not}
 
@@ -31,8 +31,8 @@ pub record Fileable (person account : Account) (b : List ℕ) (t : Place Node) (
   pub own : working ≡ row
   pub below : (row_at b entry).here.revision < last_revision
 
-pub fileable : (person account : Account) {b : List ℕ} {t : Place Node} {p : Path} {row : ℕ} {d : Place Node} {r : Links} {i k a : ℕ} → At b t p row d
-    → links_told r ≡ link_rows_from t (commit_at person account t p d) → r ≡ To i k a → Fileable person account b t p row d i k
+pub fileable : (person account : Account) {b : List ℕ} {t : Place Node} {p : Path} {row : ℕ} {d : Place Node} {r : code.Result LinkRows Cause} {s : LinkRows} → At b t p row d
+    → outcome r ≡ link_rows_from t (commit_at person account t p d) → r ≡ Ok s → Fileable person account b t p row d s.working s.entry
 fileable person account {t = t} {p = p} {d = d} at o e =
     let x = links_to t (commit_at person account t p d) o e in
     let y = commit_parts person account t p d x.1 in
@@ -50,11 +50,11 @@ fileable person account {t = t} {p = p} {d = d} at o e =
 
 -- ---- by the code
 
-module _ {b : List ℕ} {t : Place Node} {steps : Result Link} {q r : Links} (o : links_told q ≡ link_rows_from t steps) (e : q ≡ r) where
+module _ {b : List ℕ} {t : Place Node} {steps : Result Link} {r : code.Result LinkRows Cause} (o : outcome r ≡ link_rows_from t steps) where
   pub is_filed : {b' : List ℕ} {l : Link} → steps ≡ done l → b' ≡ encode_tree (after_commit t l) → FiledAt b t steps r b'
   unfolding bytes_after
-  is_filed c h = record { links = ap links_told (sym e) ∙ o; bytes = rw (comes_to steps (after_commit t) c) h }
+  is_filed c h = record { links = o; bytes = rw (comes_to steps (after_commit t) c) h }
 
   pub is_kept : {k : Cause} → steps ≡ refused k → FiledAt b t steps r b
   unfolding bytes_after
-  is_kept c = record { links = ap links_told (sym e) ∙ o; bytes = rw (comes_not steps (after_commit t) c) }
+  is_kept c = record { links = o; bytes = rw (comes_not steps (after_commit t) c) }

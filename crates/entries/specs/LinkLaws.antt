@@ -2,14 +2,15 @@
 -- steps lead to, and each change of the bytes is that of the tree.
 --
 -- In order:
---   tests before an answer: tests_then;
+--   tests before an answer: tests_then, passing_barred, passing_done;
 --   the walk to a node that passes tests, as to a file: judged-came to file-walked;
 --   from a working file to its entry: has-tag to entry-refused;
 --   with the person's tests before: link-at-came, link-at-refused; and the person's walk: link-came, link-refused;
 --   what an answer says, links-not, links-to, and what a link is: Link-facts to link-linked;
 --   `commit`: commit-came to revision-below;
 --   the changes: commit-law, up-law.
-use Rattle.std.specs.Prelude.{◌≡◌, refl, true, false, not, ℕ, suc, ◌<◌, eqb, length}
+use Rattle.std.specs.Prelude.{◌≡◌, refl, true, false, not, ℕ, suc, ◌<◌, eqb, length, Ok, Err}
+use Rattle.std.specs.Prelude as code
 use Rattle.std.proofs.Math.Path.{sym, ap}
 use Rattle.std.proofs.Common.{◌∙◌, arith, leb-true, le-leb}
 use mathlib.Core.List.{List}
@@ -25,8 +26,8 @@ use Rattle.syntax.proofs.PathLaws.{entry_reads}
 use Rattle.tree.specs.declared.Cause.{Cause}
 use Rattle.tree.specs.declared.Cause.TheVariants.{Access, WrongKind, Stale, Untagged, RevisionsSpent}
 use Rattle.tree.specs.Layout.{revision_offset, tag_revision_offset, content_offset}
-use Rattle.tree.specs.Result.{Result, refused, done, ◌>>=◌, ◌>>◌, require, present}
-use Rattle.tree.proofs.ResultLaws.{not_done, by_result, present_some, present_of, present_none, required, bind_done, then_done, refused_before, done_then, refused_then, done_bind, refused_bind, then_bind}
+use Rattle.tree.specs.Result.{Result, outcome, refused, done, ◌>>=◌, ◌>>◌, require, present}
+use Rattle.tree.proofs.ResultLaws.{outcome_ok, outcome_err, present_some, present_of, present_none, required, bind_done, then_done, refused_before, done_then, refused_then, done_bind, refused_bind, then_bind}
 use Rattle.tree.specs.Forest.{Place, update, alter}
 use Rattle.tree.specs.Node.{is_directory, Tag, Node, allows, set_revision, set_tag, set_content}
 use Rattle.tree.proofs.NodeLaws.{node_ranges, node_of_revision, node_of_tag, node_of_content, kind_of_set_revision, kind_of_set_tag, kind_of_set_content}
@@ -45,23 +46,28 @@ use Rattle.tree.proofs.TagBytesLaws.{tag_reads, tag_written, tag_blank}
 use Rattle.edits.specs.Changes.{field_put, content_field}
 use Rattle.node_fields.specs.FieldEditLaws.{revision_law, tag_revision_law, copy_content_law}
 use Rattle.copying.proofs.CopyRowLaws.{row_held}
-use Rattle.walks.specs.declared.Walked.{Walked}
-use Rattle.walks.specs.declared.Walked.TheVariants
-use Rattle.walks.specs.RowWalk.{Spot, spot, outcome}
-use Rattle.walks.specs.RowWalkLaws.{outcome_at, outcome_refused}
+use Rattle.walks.specs.declared.Spot.{Spot}
+use Rattle.walks.specs.RowWalk.{spot}
 use Rattle.walks.specs.WalkBytes.{spot_of, Came, spot_from}
 use Rattle.walks.specs.WalkBytesLaws.{came_to, came_not, came_spot}
 use Rattle.machine.specs.Working.{tagged}
 use Rattle.machine.specs.StoreMachine.{next_node}
-use Rattle.entries.specs.declared.Links.{Links}
-use Rattle.entries.specs.declared.Links.TheVariants.{To, Refused}
-use Rattle.entries.specs.EntrySteps.{file_tests, judged_walk, file_walk, Link, link_on, link_at, link, commit_tests, commit_at, after_commit, after_up, LinkRows, link_rows, three_rows, link_rows_from, passing, links_told, Linked}
+use Rattle.entries.specs.declared.LinkRows.{LinkRows}
+use Rattle.entries.specs.EntrySteps.{file_tests, judged_walk, file_walk, Link, link_on, link_at, link, commit_tests, commit_at, after_commit, after_up, link_rows, three_rows, link_rows_from, passing, Linked}
 
 -- ---- steps and tests
 
 -- tests before an answer, and before the step to it
 pub tests_then : {A B : Type 0} (r : Result (Unit {0})) (d : A) (f : A → B) → (r >> done (f d)) ≡ ((r >> done d) >>= λ y. done (f y))
 tests_then {B = B} r d f = sym (then_bind r (done d) (λ y. done (f y)) ∙ ap (λ (k : Result B). r >> k) (done_bind d (λ y. done (f y))))
+
+-- what comes of an answer where tests that were done as code refuse it, and where they pass
+module _ {A : Type 0} {tests : Result (Unit {0})} (x : A) where
+  pub passing_barred : {k : Cause} → outcome (Err k) ≡ tests → refused k ≡ passing tests x
+  passing_barred {k} e = rw (← e, outcome_err, refused_then)
+
+  pub passing_done : outcome (Ok tt) ≡ tests → done x ≡ passing tests x
+  passing_done e = rw (← e, outcome_ok, done_then)
 
 -- a place has a row, and its node is in range
 module _ {b : List ℕ} {t : Place Node} {p : Path} {i : ℕ} {d : Place Node} (a : At b t p i d) where
@@ -99,19 +105,12 @@ module _ (a : Account) (tests : Node → Result (Unit {0})) (t : Place Node) (p 
       let q : d ≡ w.0 = cc v.1 in
       rw q (w.1, v.0)
 
-  module _ {b : List ℕ} (tree : Encodes b t) {r : Walked} (o : outcome r ≡ spot_from t p (judged_walk a tests t p)) where
-    pub judged_to : {row above : ℕ} → r ≡ TheVariants.To row above → Came b t p (judged_walk a tests t p) row above
+  module _ {b : List ℕ} (tree : Encodes b t) {r : code.Result Spot Cause} (o : outcome r ≡ spot_from t p (judged_walk a tests t p)) where
+    pub judged_to : {s : Spot} → r ≡ Ok s → Came b t p (judged_walk a tests t p) s.row s.above
     judged_to e = came_to tree (judged_walk a tests t p) p o (λ d w. walked_at t (by_modes a) p d (judged_walked w).0) e
 
-    pub judged_not : {k : Cause} → r ≡ TheVariants.Refused k → judged_walk a tests t p ≡ refused k
+    pub judged_not : {k : Cause} → r ≡ Err k → judged_walk a tests t p ≡ refused k
     judged_not e = came_not tree (judged_walk a tests t p) p o e
-
--- tests that are refused before an answer
-tests_refused : {A : Type 0} (r : Result (Unit {0})) (x : A) {k : Cause} → passing r x ≡ refused k → r ≡ refused k
-tests_refused r x {k} e =
-    by_result r
-    (λ c q. let s : refused c ≡ refused k = rw (q, refused_then) at e in let z : c ≡ k = cc in q ∙ ap refused z)
-    (λ u q. not_done (sym (rw (q, done_then) at e)))
 
 -- the tests of a file pass at a file
 file_plain : (a : Account) (right : Right) (n : Node) → file_tests a right n ≡ done tt → is_directory n.kind ≡ false
@@ -160,20 +159,20 @@ module _ {b : List ℕ} {t : Place Node} {p : Path} {i : ℕ} {d : Place Node} (
         let none_there : d.here.tag ≡ none = by_option d.here.tag (λ e. e) (λ g e. absurd (tag_written a g e (no_bytes (tag_text_at b i) z))) in
         sym (ap (link_rows_from t) (link_on_missing account t p d none_there) ∙ refused_bind Untagged (λ (l : Link). done (link_rows t l)))
 
-    module _ (n : length (tag_text_at b i) ≡ 0 → ⊥) {r : Walked}
+    module _ (n : length (tag_text_at b i) ≡ 0 → ⊥) {r : code.Result Spot Cause}
         (o : (q : Path) → path (tag_text_at b i) ≡ some q → outcome r ≡ spot_from t q (file_walk account R t q)) where
       -- the entry's row
-      pub entry_came : {row above : ℕ} → r ≡ TheVariants.To row above → links_told (To i row above) ≡ link_rows_from t (link_on account t p d)
-      unfolding links_told link_rows
-      entry_came {row} {above} e =
+      pub entry_came : {s : Spot} → r ≡ Ok s → done (three_rows i s.row s.above) ≡ link_rows_from t (link_on account t p d)
+      unfolding link_rows
+      entry_came {s} e =
           let g = has_tag n in
           let c = judged_to account (file_tests account R) t (entry_location g.0.path) a.tree (o (entry_location g.0.path) (tag_located g.0 g.1)) e in
           let l : Link = record { path = p; found = d; tag = g.0; filed = c.place } in
           let on = link_on_done account t p d g.1 c.walked in
-          let rows : links_told (To i row above) ≡ done (link_rows t l) = λ j. done (record { working = a.row j; entry = c.at.row j; above = c.over_at.row j }) in
+          let rows : done (three_rows i s.row s.above) ≡ done (link_rows t l) = λ j. done (record { working = a.row j; entry = c.at.row j; above = c.over_at.row j }) in
           rows ∙ sym (ap (λ (x : Result Link). x >>= λ y. done (link_rows t y)) on ∙ done_bind l (λ y. done (link_rows t y)))
 
-      pub entry_refused : {k : Cause} → r ≡ TheVariants.Refused k → refused k ≡ link_rows_from t (link_on account t p d)
+      pub entry_refused : {k : Cause} → r ≡ Err k → refused k ≡ link_rows_from t (link_on account t p d)
       entry_refused {k} e =
           let g = has_tag n in
           let q = entry_location g.0.path in
@@ -182,20 +181,20 @@ module _ {b : List ℕ} {t : Place Node} {p : Path} {i : ℕ} {d : Place Node} (
 
 -- ---- the person's part before
 
-module _ (person account : Account) (right : Right) {b : List ℕ} {t : Place Node} {w : Path} {row : ℕ} {d : Place Node} (at : At b t w row d) {r : Walked}
-    (o : outcome r ≡ passing (file_tests person right (row_at b row).here) (spot row row)) where
+module _ (person account : Account) (right : Right) {b : List ℕ} {t : Place Node} {w : Path} {row : ℕ} {d : Place Node} (at : At b t w row d) {r : code.Result (Unit {0}) Cause}
+    (o : outcome r ≡ file_tests person right (row_at b row).here) where
   -- the tests at the row are those at its place, and after them comes the account's part
-  pub link_at_came : {i k : ℕ} {x : Result LinkRows} → r ≡ TheVariants.To i k → x ≡ link_rows_from t (link_on account t w d)
+  pub link_at_came : {x : Result LinkRows} → r ≡ Ok tt → x ≡ link_rows_from t (link_on account t w d)
       → x ≡ link_rows_from t (link_at person right account t w d)
   unfolding link_at
-  link_at_came {i} {k} e f =
-      let passed = (then_done (file_tests person right (row_at b row).here) (done (spot row row)) (sym o ∙ ap outcome e ∙ outcome_at i k)).0 in
+  link_at_came e f =
+      let passed = sym o ∙ ap outcome e ∙ outcome_ok tt in
       f ∙ rw (ap (file_tests person right) (sym (at_here at)) ∙ passed, done_then)
 
-  pub link_at_refused : {k : Cause} → r ≡ TheVariants.Refused k → refused k ≡ link_rows_from t (link_at person right account t w d)
+  pub link_at_refused : {k : Cause} → r ≡ Err k → refused k ≡ link_rows_from t (link_at person right account t w d)
   unfolding link_at
   link_at_refused {k} e =
-      let barred = tests_refused (file_tests person right (row_at b row).here) (spot row row) (sym o ∙ ap outcome e ∙ outcome_refused k) in
+      let barred = sym o ∙ ap outcome e ∙ outcome_err k in
       rw (ap (file_tests person right) (sym (at_here at)) ∙ barred, refused_then) (sym (refused_bind k (λ (l : Link). done (link_rows t l))))
 
 module _ (person account : Account) (right : Right) (t : Place Node) (w : Path) where
@@ -210,16 +209,14 @@ module _ (person account : Account) (right : Right) (t : Place Node) (w : Path) 
   link_refused {k} e = rw (e, refused_bind) (sym (refused_bind k (λ (l : Link). done (link_rows t l))))
 
 -- what an answer says of the steps to a link
-module _ (t : Place Node) (steps : Result Link) {r : Links} (o : links_told r ≡ link_rows_from t steps) where
-  pub links_not : {k : Cause} → r ≡ Refused k → steps ≡ refused k
-  unfolding links_told
-  links_not e = refused_before steps (link_rows t) (sym o ∙ ap links_told e)
+module _ (t : Place Node) (steps : Result Link) {r : code.Result LinkRows Cause} (o : outcome r ≡ link_rows_from t steps) where
+  pub links_not : {k : Cause} → r ≡ Err k → steps ≡ refused k
+  links_not {k} e = refused_before steps (link_rows t) (sym o ∙ ap outcome e ∙ outcome_err k)
 
-  pub links_to : {i k a : ℕ} → r ≡ To i k a → (l : Link) × (steps ≡ done l) × (link_rows t l ≡ three_rows i k a)
-  unfolding links_told
-  links_to {i} {k} {a} e =
-      let v = bind_done steps (λ l. done (link_rows t l)) (sym o ∙ ap links_told e) in
-      let q : link_rows t v.0 ≡ three_rows i k a = cc v.2 in
+  pub links_to : {s : LinkRows} → r ≡ Ok s → (l : Link) × (steps ≡ done l) × (link_rows t l ≡ s)
+  links_to {s} e =
+      let v = bind_done steps (λ l. done (link_rows t l)) (sym o ∙ ap outcome e ∙ outcome_ok s) in
+      let q : link_rows t v.0 ≡ s = cc v.2 in
       (v.0, v.1, q)
 
 -- what a link is: the working file found, and where the account's walk leads
@@ -251,10 +248,10 @@ link_facts person account right t w d {l} e =
       original_plain = file_plain account R z.0.here g.1;
     })
 
-module _ (person account : Account) (right : Right) {b : List ℕ} {t : Place Node} {w : Path} {j : ℕ} {d : Place Node} (at : At b t w j d) {l : Link} {i k a : ℕ}
-    (e : link_at person right account t w d ≡ done l) (rows : link_rows t l ≡ three_rows i k a) where
+module _ (person account : Account) (right : Right) {b : List ℕ} {t : Place Node} {w : Path} {j : ℕ} {d : Place Node} (at : At b t w j d) {l : Link} {s : LinkRows}
+    (e : link_at person right account t w d ≡ done l) (rows : link_rows t l ≡ s) where
   -- its rows are linked
-  pub linked : Linked b t l i k
+  pub linked : Linked b t l s.working s.entry
   unfolding link_rows
   linked =
       let f = link_facts person account right t w d e in
@@ -271,7 +268,7 @@ module _ (person account : Account) (right : Right) {b : List ℕ} {t : Place No
       }
 
   -- and the third is that of the directory above the entry
-  pub linked_above : (o : Place Node) × (walk (by_modes account) t (in_rep l.tag.path.folder) ≡ done o) × At b t (in_rep l.tag.path.folder) a o
+  pub linked_above : (o : Place Node) × (walk (by_modes account) t (in_rep l.tag.path.folder) ≡ done o) × At b t (in_rep l.tag.path.folder) s.above o
   unfolding link_rows entry_location parent
   linked_above =
       let p = in_rep l.tag.path.folder in
@@ -279,8 +276,8 @@ module _ (person account : Account) (right : Right) {b : List ℕ} {t : Place No
       (v.0, v.1, record { tree = at.tree; there = walked_at t (by_modes account) p v.0 v.1; row = sym (ap (λ (x : LinkRows). x.above) rows) })
 
 -- the rows of a link that a walk led to
-pub link_linked : (person account : Account) (right : Right) {b : List ℕ} {t : Place Node} (w : Path) {l : Link} {i k a : ℕ} → Encodes b t
-    → link person right account t w ≡ done l → link_rows t l ≡ three_rows i k a → Linked b t l i k
+pub link_linked : (person account : Account) (right : Right) {b : List ℕ} {t : Place Node} (w : Path) {l : Link} {s : LinkRows} → Encodes b t
+    → link person right account t w ≡ done l → link_rows t l ≡ s → Linked b t l s.working s.entry
 unfolding link
 link_linked person account right {t = t} w tree e rows =
     let x = bind_done (walk (by_modes person) t w) (λ d. link_at person right account t w d) e in
@@ -290,11 +287,11 @@ link_linked person account right {t = t} w tree e rows =
 
 module _ (person account : Account) {b : List ℕ} {t : Place Node} {w : Path} {j : ℕ} {d : Place Node} (at : At b t w j d) where
   -- the tests at the rows are those at the nodes
-  pub commit_came : {l : Link} {i k a : ℕ} {x : Result LinkRows} → link_at person R account t w d ≡ done l → link_rows t l ≡ three_rows i k a
-      → x ≡ passing (commit_tests account (row_at b a).here (tag_number_at b i) (row_at b k).here.revision) (three_rows i k a)
+  pub commit_came : {l : Link} {s : LinkRows} {x : Result LinkRows} → link_at person R account t w d ≡ done l → link_rows t l ≡ s
+      → x ≡ passing (commit_tests account (row_at b s.above).here (tag_number_at b s.working) (row_at b s.entry).here.revision) s
       → x ≡ link_rows_from t (commit_at person account t w d)
   unfolding commit_at
-  commit_came {l} {i} {k} {a} e rows o =
+  commit_came {l} {s} e rows o =
       let x = linked person account R at e rows in
       let above = linked_above person account R at e rows in
       let v = above.0 in

@@ -1,5 +1,6 @@
 -- What the code of `del` goes by: tests at a row are those at its place, and the row taken out is the entry's.
-use Rattle.std.specs.Prelude.{◌≡◌, List, Bool, true, not}
+use Rattle.std.specs.Prelude.{◌≡◌, List, Bool, true, not, Ok, Err}
+use Rattle.std.specs.Prelude as code
 use Rattle.std.proofs.Common.{sym, ◌∙◌, arith}
 use Rattle.std.proofs.Math.Path.{ap}
 use Prim.Native.Nat.{ℕ, suc}
@@ -10,7 +11,7 @@ use Rattle.syntax.specs.Path.{EntryPath, parent, in_rep, entry_location}
 use Rattle.syntax.proofs.FormLaws.{answered}
 use Rattle.tree.specs.declared.Cause.{Cause}
 use Rattle.tree.specs.declared.Cause.TheVariants.{Access, NotEmpty}
-use Rattle.tree.specs.Result.{Result, refused, done, ◌>>=◌, ◌>>◌, require}
+use Rattle.tree.specs.Result.{Result, outcome, refused, done, ◌>>=◌, ◌>>◌, require}
 use Rattle.tree.proofs.ResultLaws.{required, bind_done, then_done, done_bind, refused_bind}
 use Rattle.tree.specs.Forest.{Forest, Place, is_empty, size}
 use Rattle.tree.proofs.ForestLaws.{empty_is_nil}
@@ -25,11 +26,10 @@ use Rattle.tree.specs.TreeBytes.{Stretch, Encodes}
 use Rattle.tree.proofs.TreeBytesLaws.{at_within, at_here}
 use Rattle.edits.specs.Changes.{rows_taken}
 use Rattle.edits.specs.EditLaws.{take_law}
-use Rattle.walks.specs.declared.Walked.{Walked}
-use Rattle.walks.specs.declared.Walked.TheVariants.{To, Refused}
 use Rattle.walks.specs.RowBelow.{has_children_in}
 use Rattle.walks.specs.RowBelowLaws.{at_has_children}
-use Rattle.walks.specs.RowWalk.{Spot, spot, outcome}
+use Rattle.walks.specs.declared.Spot.{Spot}
+use Rattle.walks.specs.RowWalk.{spot}
 use Rattle.walks.specs.WalkBytes.{spot_of, Came, spot_from}
 use Rattle.walks.specs.WalkBytesLaws.{came_to, came_not, came_spot}
 use Rattle.entries.specs.EntrySteps.{del_tests, del_walk, after_del, passing}
@@ -85,11 +85,11 @@ module _ (a : Account) (t : Place Node) (e : EntryPath) where
       let q : d ≡ m = cc z.1 in
       rw q (x.1, required (is_empty m.below) NotEmpty second.1)
 
-  module _ {b : List ℕ} (tree : Encodes b t) {r : Walked} (o : outcome r ≡ spot_from t (entry_location e) (del_walk a t e)) where
-    pub del_to : {row above : ℕ} → r ≡ To row above → Came b t (entry_location e) (del_walk a t e) row above
+  module _ {b : List ℕ} (tree : Encodes b t) {r : code.Result Spot Cause} (o : outcome r ≡ spot_from t (entry_location e) (del_walk a t e)) where
+    pub del_to : {s : Spot} → r ≡ Ok s → Came b t (entry_location e) (del_walk a t e) s.row s.above
     del_to f = came_to tree (del_walk a t e) (entry_location e) o (λ d w. walked_at t (by_modes a) (entry_location e) d (del_walked w).0) f
 
-    pub del_not : {k : Cause} → r ≡ Refused k → del_walk a t e ≡ refused k
+    pub del_not : {k : Cause} → r ≡ Err k → del_walk a t e ≡ refused k
     del_not f = came_not tree (del_walk a t e) (entry_location e) o f
 
   module _ {b : List ℕ} {row above : ℕ} (c : Came b t (entry_location e) (del_walk a t e) row above) where

@@ -3,13 +3,14 @@ ghost use Rattle.std.specs.Prelude.{◌≡◌, ◌<◌};
 ghost use Rattle.tree.specs.Forest.{Place};
 ghost use Rattle.tree.specs.Node.{Node};
 ghost use Rattle.tree.specs.Encoding.{encode_tree};
+ghost use Rattle.tree.specs.Result.{outcome};
 ghost use Rattle.tree.specs.RowAt.{row_at, tag_number_at};
 ghost use Rattle.tree.specs.WellFormed.{last_revision};
 ghost use Rattle.tree.specs.TreeBytes.{HasRow, Whole, PathText, SomePlace, WhicheverPlace};
 ghost use Rattle.shell.specs.CommandBytes.{FollowsAt};
-ghost use Rattle.entries.specs.EntrySteps.{commit_tests, commit_at, after_commit, after_up, up_steps, three_rows, link_rows_from, passing, links_told, Link, Linked, SomeLink, FiledAt};
+ghost use Rattle.entries.specs.EntrySteps.{commit_tests, commit_at, after_commit, after_up, up_steps, link_rows_from, Link, Linked, SomeLink, FiledAt};
 
-use crate::Links;
+use crate::LinkRows;
 use crate::tagged::{linked_at, linked_rows};
 use accounts::{Account, Caller, Right};
 use node_fields::{copy_content, set_revision, set_tag_revision};
@@ -18,43 +19,39 @@ use tree::{Cause, LAST_REVISION, revision_at, tag_revision_at};
 use walks::may_at;
 
 // Whether the working file may be filed: w above the entry, the entry's revision the tag's, and not the last.
-fn judge_commit(tree: &[u8], account: Account, working: usize, entry: usize, above: usize) -> Links
-    requires has_row { HasRow tree.now working }
-    requires has_row_2 { HasRow tree.now entry }
-    requires has_row_3 { HasRow tree.now above }
-    ensures { links_told result ≡ passing (commit_tests account (row_at tree.now above).here (tag_number_at tree.now working)
-        (row_at tree.now entry).here.revision) (three_rows working entry above) }
+fn judge_commit(tree: &[u8], account: Account, rows: LinkRows) -> Result<(), Cause>
+    requires has_row { HasRow tree.now rows.working }
+    requires has_row_2 { HasRow tree.now rows.entry }
+    requires has_row_3 { HasRow tree.now rows.above }
+    ensures { outcome result ≡ commit_tests account (row_at tree.now rows.above).here (tag_number_at tree.now rows.working)
+        (row_at tree.now rows.entry).here.revision }
 {
-    if !may_at(tree, above, account, Right::W) {
-        return Links::Refused(Cause::Access);
+    if !may_at(tree, rows.above, account, Right::W) {
+        return Err(Cause::Access);
     }
-    let revision = revision_at(tree, entry);
-    if tag_revision_at(tree, working) != revision {
-        return Links::Refused(Cause::Stale);
+    let revision = revision_at(tree, rows.entry);
+    if tag_revision_at(tree, rows.working) != revision {
+        return Err(Cause::Stale);
     }
     if revision == LAST_REVISION {
-        return Links::Refused(Cause::RevisionsSpent);
+        return Err(Cause::RevisionsSpent);
     }
-    Links::To {
-        working,
-        entry,
-        above,
-    }
+    Ok(())
 }
 
 // What `commit` of the file at a row is about, or why it is refused.
-fn commit_rows(tree: &[u8], person: Account, account: Account, row: usize) -> Links
+fn commit_rows(
+    tree: &[u8],
+    person: Account,
+    account: Account,
+    row: usize,
+) -> Result<LinkRows, Cause>
     requires { SomePlace tree.now row }
-    ensures { WhicheverPlace tree.now row (λ t p d. links_told result ≡ link_rows_from t (commit_at person account t p d)) }
+    ensures { WhicheverPlace tree.now row (λ t p d. outcome result ≡ link_rows_from t (commit_at person account t p d)) }
 {
-    match linked_at(tree, person, Right::R, account, row) {
-        Links::To {
-            working,
-            entry,
-            above,
-        } => judge_commit(tree, account, working, entry, above),
-        Links::Refused(cause) => Links::Refused(cause),
-    }
+    let rows = linked_at(tree, person, Right::R, account, row)?;
+    judge_commit(tree, account, rows)?;
+    Ok(rows)
 }
 
 // The entry takes the working file's content and the next revision, and so does the tag.
@@ -80,26 +77,19 @@ fn bring_up(tree: &mut [u8], working: usize, entry: usize)
 }
 
 // `commit` of the file at a row: its entry takes its content. Answers the rows that it linked, or why not: a directory is of the wrong kind.
-pub fn commit_at(tree: &mut [u8], person: Account, account: Account, row: usize) -> Links
+pub fn commit_at(
+    tree: &mut [u8],
+    person: Account,
+    account: Account,
+    row: usize,
+) -> Result<LinkRows, Cause>
     requires { SomePlace tree.old row }
     ensures { WhicheverPlace tree.old row (λ t p d.
         FiledAt tree.old t (commit_at person account t p d) result tree.new) }
 {
-    match commit_rows(tree, person, account, row) {
-        Links::To {
-            working,
-            entry,
-            above,
-        } => {
-            file_content(tree, working, entry);
-            Links::To {
-                working,
-                entry,
-                above,
-            }
-        }
-        Links::Refused(cause) => Links::Refused(cause),
-    }
+    let rows = commit_rows(tree, person, account, row)?;
+    file_content(tree, rows.working, rows.entry);
+    Ok(rows)
 }
 
 // `up,w`: a working file takes the content of its entry.
@@ -108,16 +98,7 @@ pub fn up(tree: &mut [u8], caller: Caller, account: Account, working: &[u8]) -> 
     requires path_text { PathText working.now }
     ensures { FollowsAt (up_steps caller.account account) tree.old working.now result tree.new }
 {
-    let person = caller.account;
-    match linked_rows(tree, person, Right::W, account, working) {
-        Links::To {
-            working: row,
-            entry,
-            above: _,
-        } => {
-            bring_up(tree, row, entry);
-            Answer::Done
-        }
-        Links::Refused(cause) => Answer::Refused(cause),
-    }
+    let rows = linked_rows(tree, caller.account, Right::W, account, working)?;
+    bring_up(tree, rows.working, rows.entry);
+    Ok(None)
 }

@@ -7,15 +7,11 @@ mod tagged;
 
 pub use filing::{commit_at, up};
 pub use removal::del;
-use tree::Cause;
 
-// The rows of a working file, of the entry that its tag leads to, and of the directory above that; or why a command may not go on.
-#[derive(Clone, Copy)]
-pub enum Links {
-    To {
-        working: usize,
-        entry: usize,
-        above: usize,
-    },
-    Refused(Cause),
+// The rows of a working file, of the entry that its tag leads to, and of the directory above that.
+#[derive(Clone, Copy, PartialEq, Eq, Debug)]
+pub struct LinkRows {
+    pub working: usize,
+    pub entry: usize,
+    pub above: usize,
 }

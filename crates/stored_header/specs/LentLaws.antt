@@ -7,8 +7,7 @@ use Rattle.std.proofs.Math.ListN.{take-append-drop}
 use Rattle.tree.specs.Result.{Result, refused, done, Outcome}
 use Rattle.tree.proofs.ResultLaws.{refused_bind, done_bind}
 use Rattle.tree.specs.TreeBytes.{Encodes}
-use Rattle.shell.specs.declared.Answer.{Answer}
-use Rattle.shell.specs.Replies.{reply, answer_of, written}
+use Rattle.shell.specs.Replies.{Answer, reply, answer_of, written}
 use Rattle.shell.specs.CommandBytes.{bytes_after, Carries, Follows}
 use Rattle.store.specs.HeaderLayout.{header_width}
 use Rattle.store.specs.State.{Store, State}

@@ -1,6 +1,7 @@
 -- The bytes of a store as one state, and what the code promises of its header: who calls, the sessions, the working directories,
 -- the roles.
 use Rattle.std.specs.Prelude.{◌≡◌, List, ℕ, length, take, drop, get_or}
+use Rattle.std.specs.Prelude as code
 use Rattle.std.proofs.Math.Option.{none, some}
 use Rattle.buffers.specs.Text.{Text}
 use Rattle.accounts.specs.declared.Account.{Account}
@@ -16,13 +17,13 @@ use Rattle.commands.specs.declared.AccountCommand.{AccountCommand as AccountPart
 use Rattle.commands.specs.Command.{AccountAction}
 use Rattle.commands.specs.Meaning.{AccountMeans}
 use Rattle.setup.specs.Setup.{Setup}
-use Rattle.tree.specs.Result.{Result, Outcome}
+use Rattle.tree.specs.declared.Cause.{Cause}
+use Rattle.tree.specs.Result.{Result, outcome, Outcome}
 use Rattle.tree.specs.TreeBytes.{Encodes}
-use Rattle.walks.specs.declared.Walked.{Walked}
-use Rattle.walks.specs.RowWalk.{outcome}
+use Rattle.walks.specs.declared.Spot.{Spot}
 use Rattle.attributes.specs.declared.Deed.TheVariants.{Enter}
 use Rattle.attributes.specs.Checks.{may_do_at}
-use Rattle.shell.specs.declared.Answer.{Answer}
+use Rattle.shell.specs.Replies.{Answer}
 use Rattle.shell.specs.CommandBytes.{Carries, CarriesSilently}
 use Rattle.store.specs.HeaderLayout.{header_width}
 use Rattle.store.specs.State.{working_directory, set_directory, Store, State, state_of}
@@ -81,7 +82,7 @@ abbrev pub RowsOf : List ℕ → Dominance → Type 0
 RowsOf b r = (s : State) → Stored b s → r.rows ≡ rows_of s.setup.pairs
 
 -- whether an account may enter the directory at a path, whichever store's bytes these are and whatever path the text reads as
-abbrev pub Entering : List ℕ → Account → Text → Walked → Type 0
+abbrev pub Entering : List ℕ → Account → Text → code.Result Spot Cause → Type 0
 Entering b a t r = (s : State) (p : Path) → Stored b s → path t ≡ some p → outcome r ≡ may_do_at a Enter s.store.tree p
 
 -- the store with another working directory for an account

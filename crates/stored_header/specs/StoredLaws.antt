@@ -1,6 +1,7 @@
 -- The parts of a store that was read, and what follows for the store where `login` or `logout` follows its steps on the header, and
 -- where `cd` was decided on the tree.
-use Rattle.std.specs.Prelude.{◌≡◌, true, ℕ, ◌-◌, ◌≤◌, length, take}
+use Rattle.std.specs.Prelude.{◌≡◌, true, ℕ, ◌-◌, ◌≤◌, length, take, Ok, Err, None, IsErrAnd}
+use Rattle.std.specs.Prelude as code
 use Rattle.std.proofs.Math.Path.{sym, ap, ap₂}
 use Rattle.std.proofs.Common.{◌∙◌, length-drop, take_at, length-take-le, take_all}
 use mathlib.Core.List.{List, ◌++◌}
@@ -16,22 +17,19 @@ use Rattle.syntax.proofs.PathLaws.{path_is_path}
 use Rattle.syntax.proofs.ParentLaws.{text_of_path}
 use Rattle.setup.specs.Setup.{Setup}
 use Rattle.tree.specs.declared.Cause.{Cause}
-use Rattle.tree.specs.Result.{Result, refused, done, ◌>>=◌, Outcome}
+use Rattle.tree.specs.Result.{Result, outcome, refused, done, ◌>>=◌, Outcome}
 use Rattle.tree.specs.Forest.{Place}
 use Rattle.tree.specs.Node.{Node}
 use Rattle.tree.specs.Encoding.{encode_tree}
 use Rattle.tree.proofs.ResultLaws.{refused_bind, done_bind}
 use Rattle.tree.specs.TreeBytes.{Encodes, Whole, PathText}
-use Rattle.walks.specs.declared.Walked.{Walked}
-use Rattle.walks.specs.declared.Walked.TheVariants.{To, Refused}
-use Rattle.walks.specs.RowWalk.{outcome}
+use Rattle.walks.specs.declared.Spot.{Spot}
 use Rattle.attributes.specs.declared.Deed.TheVariants.{Enter}
 use Rattle.attributes.specs.Checks.{may_do, may_do_at}
 use Rattle.attributes.specs.ChecksLaws.{enter_checked, decided_refused, decided_there}
-use Rattle.shell.specs.declared.Answer.{Answer}
-use Rattle.shell.specs.declared.Answer.TheVariants
-use Rattle.shell.proofs.CommandBytesLaws.{refusal_follows, silence_follows}
-use Rattle.shell.specs.Replies.{reply, answer_of, written}
+use Rattle.shell.specs.declared.Refusal.TheVariants.{For}
+use Rattle.shell.proofs.CommandBytesLaws.{passed_follows, silence_follows}
+use Rattle.shell.specs.Replies.{Answer, reply, answer_of, written}
 use Rattle.shell.specs.CommandBytes.{bytes_after, CarriesSilently}
 use Rattle.store.specs.HeaderLayout.{header_width}
 use Rattle.store.specs.State.{Registry, set_directory, Store, State, well_formed}
@@ -161,11 +159,12 @@ module _ {b : List ℕ} {s : State} (h : Stored b s) where
   unfolding encode
   directory_bytes uid p H e = ap₂ ◌++◌ e h.tree.bytes
 
-  module _ (c : Caller) (p : Path) {r : Walked} (same : outcome r ≡ may_do_at c.account Enter s.store.tree p) where
-    pub cd_refused : {cause : Cause} → r ≡ Refused cause
-        → CarriesSilently (bytes_with s.setup) (run_cd store s.setup s.store c p) b (TheVariants.Refused cause) b
-    cd_refused e = refusal_follows b (cd_checked s.setup s.store c p ∙ decided_refused h.tree c.account Enter p same (cd_goes_on c p s.store) e)
+  module _ (c : Caller) (p : Path) {r : code.Result Spot Cause} (same : outcome r ≡ may_do_at c.account Enter s.store.tree p) where
+    pub cd_refused : {cause : Cause} {x : Answer} → r ≡ Err cause → IsErrAnd x (λ e. e ≡ For cause)
+        → CarriesSilently (bytes_with s.setup) (run_cd store s.setup s.store c p) b x b
+    cd_refused e passed =
+        passed_follows b passed (cd_checked s.setup s.store c p ∙ decided_refused h.tree c.account Enter p same (cd_goes_on c p s.store) e)
 
-    pub cd_carries : {row above : ℕ} → r ≡ To row above → (b' : List ℕ) → b' ≡ bytes_with s.setup (moved_to c.account.uid p s.store)
-        → CarriesSilently (bytes_with s.setup) (run_cd store s.setup s.store c p) b TheVariants.Done b'
+    pub cd_carries : {there : Spot} → r ≡ Ok there → (b' : List ℕ) → b' ≡ bytes_with s.setup (moved_to c.account.uid p s.store)
+        → CarriesSilently (bytes_with s.setup) (run_cd store s.setup s.store c p) b (Ok None) b'
     cd_carries e b' q = silence_follows b b' (cd_checked s.setup s.store c p ∙ decided_there h.tree c.account Enter p same (cd_goes_on c p s.store) e) q

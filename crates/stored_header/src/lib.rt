@@ -16,7 +16,8 @@ use header::{
 use shell::Answer;
 use store::HEADER;
 use syntax::Span;
-use walks::Walked;
+use tree::Cause;
+use walks::Spot;
 
 // Who an account number is, by the store's header.
 pub fn caller_in(store: &[u8], uid: Uid) -> Known
@@ -80,7 +81,7 @@ fn log_out(store: &mut [u8], caller: Caller) -> Answer
 }
 
 // Whether an account may enter the directory at a path, or why it may not.
-fn may_enter(store: &[u8], account: Account, path: &[u8]) -> Walked
+fn may_enter(store: &[u8], account: Account, path: &[u8]) -> Result<Spot, Cause>
     requires some_store { SomeStore store.now }
     requires path_text { PathText path.now }
     ensures { Entering store.now account path.now result }
@@ -106,13 +107,9 @@ fn change_directory(store: &mut [u8], caller: Caller, path: &[u8]) -> Answer
     ensures { CdDone caller path.now store.old result store.new }
 {
     let account = caller.account;
-    match may_enter(store, account, path) {
-        Walked::To { row: _, above: _ } => {
-            put_directory(store, account.uid, path);
-            Answer::Done
-        }
-        Walked::Refused(cause) => Answer::Refused(cause),
-    }
+    may_enter(store, account, path)?;
+    put_directory(store, account.uid, path);
+    Ok(None)
 }
 
 // A command about the caller's session and working directory.

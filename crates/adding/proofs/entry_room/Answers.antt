@@ -1,11 +1,11 @@
 -- `adding::entry_room` meets its contract: no room, 256 nodes, or the room.
-use mathlib.Core.Path.{sym, ◌∙◌, ap}
-use native.Mathlib.Omega.{arith}
+use Rattle.std.proofs.Common.{arith, sym, ap, ◌∙◌, refl}
 use Rattle.syntax.specs.Path.{entry_location}
 use Rattle.syntax.proofs.PathLaws.{entry_reads}
+use Rattle.tree.proofs.ResultLaws.{outcome_err, outcome_passed}
 use Rattle.tree.proofs.TreeBytesLaws.{encoded_count}
-use Rattle.gaps.specs.Gaps.{gap_from, gap_told}
-use Rattle.gaps.specs.GapsLaws.{told_not, room_to, room_not}
+use Rattle.gaps.specs.Gaps.{gap_from}
+use Rattle.gaps.specs.GapsLaws.{gap_not, room_to, room_not}
 use Rattle.adding.specs.AddSteps.{add_room}
 use Rattle.adding.specs.AddLaws.{add_stops, add_full, add_goes}
 use Rattle.adding.proofs.entry_room.Goals as goal
@@ -16,27 +16,28 @@ room_for-requires c = record {
   path_text = (entry_location c.requires.entry_path_text.0, entry_reads c.args.entry.now c.requires.entry_path_text.0 c.requires.entry_path_text.1);
 }
 
+pub returns-in_err-gap : goal.returns-in_err-gap
+returns-in_err-gap c t e tree read =
+    let a = c.args in
+    let p = entry_location e in
+    let told = c.in_err-gap.ensures t p tree (entry_reads a.entry.now e read) in
+    outcome_passed c.from_residual.result c.from_residual.ensures.1
+    ∙ sym (gap_not t p (add_room a.account t e) (add_stops a.account t e (room_not tree a.account p told refl)))
+
 pub returns-then-count-ge-MOST_ROWS : goal.returns-then-count-ge-MOST_ROWS
-returns-then-count-ge-MOST_ROWS c = let a = c.args in
-    λ t e tree read.
+returns-then-count-ge-MOST_ROWS c t e tree read =
+    let a = c.args in
     let p = entry_location e in
-    let told = c.room_for.ensures t p tree (entry_reads a.entry.now e read) in
-    let g = room_to tree a.account p told c.in-At.is in
-    told_not t p (add_room a.account t e)
-    (add_full a.account t e g.found (omega (arith, c.if-count-ge-MOST_ROWS.true, c.count.ensures, encoded_count tree)))
+    let g = room_to tree a.account p (c.in_ok-gap.ensures t p tree (entry_reads a.entry.now e read)) refl in
+    outcome_err _
+    ∙ sym (gap_not t p (add_room a.account t e)
+    (add_full a.account t e g.found (omega (arith, c.if-count-ge-MOST_ROWS.true, c.count.ensures, encoded_count tree))))
 
-pub returns-in-Refused : goal.returns-in-Refused
-returns-in-Refused c = let a = c.args in
-    λ t e tree read.
+pub returns : goal.returns
+returns c t e tree read =
+    let a = c.args in
     let p = entry_location e in
-    let told = c.room_for.ensures t p tree (entry_reads a.entry.now e read) in
-    told_not t p (add_room a.account t e) (add_stops a.account t e (room_not tree a.account p told c.in-Refused.is))
-
-pub returns-else-count-ge-MOST_ROWS : goal.returns-else-count-ge-MOST_ROWS
-returns-else-count-ge-MOST_ROWS c = let a = c.args in
-    λ t e tree read.
-    let p = entry_location e in
-    let told = c.room_for.ensures t p tree (entry_reads a.entry.now e read) in
-    let g = room_to tree a.account p told c.in-At.is in
+    let told = c.in_ok-gap.ensures t p tree (entry_reads a.entry.now e read) in
+    let g = room_to tree a.account p told refl in
     let fits = add_goes a.account t e g.found (omega (arith, c.if-count-ge-MOST_ROWS.false, c.count.ensures, encoded_count tree)) in
-    sym (ap gap_told c.in-At.is) ∙ told ∙ ap (gap_from t p) (g.found ∙ sym fits)
+    told ∙ ap (gap_from t p) (g.found ∙ sym fits)
