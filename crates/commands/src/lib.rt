@@ -3,7 +3,6 @@
 
 mod making;
 mod parser;
-mod parts;
 mod shapes;
 mod words;
 
@@ -12,7 +11,6 @@ use arguments::ArgumentKind;
 use line_fields::Fields;
 pub use making::command_of;
 pub use parser::parse;
-pub use parts::part;
 use syntax::Span;
 
 // A command of the shell, whose paths and contents are parts of a text.

@@ -5,7 +5,7 @@ ghost use Rattle.entry_runner.specs.EntryDone.{ActsBy, EntryDone};
 
 use crate::lent::{add_in, co_in, del_in, up_in};
 use accounts::{Account, Caller, Dominance, Session};
-use commands::{EntryCommand, part};
+use commands::EntryCommand;
 use directory_commits::commit;
 use shell::Answer;
 
@@ -36,25 +36,25 @@ pub fn entry_command(
             caller,
             account,
             session.dominates(dominance, role),
-            part(line, working),
-            part(line, entry),
+            working.of(line),
+            entry.of(line),
             role,
         ),
         EntryCommand::Co { entry, to } => co_in(
             store,
             caller,
             account,
-            part(line, entry),
-            part(line, to),
+            entry.of(line),
+            to.of(line),
         ),
         EntryCommand::Commit { working } => commit(
             store,
             caller,
             account,
-            part(line, working),
+            working.of(line),
             answer,
         ),
-        EntryCommand::Up { working } => up_in(store, caller, account, part(line, working)),
-        EntryCommand::Del { entry } => del_in(store, account, part(line, entry)),
+        EntryCommand::Up { working } => up_in(store, caller, account, working.of(line)),
+        EntryCommand::Del { entry } => del_in(store, account, entry.of(line)),
     }
 }

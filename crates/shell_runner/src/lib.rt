@@ -8,7 +8,7 @@ ghost use Rattle.shell_runner.specs.ShellDone.{ShellDone};
 
 use accounts::Caller;
 use attributes::{chgrp, chmod, chown, read, write};
-use commands::{ShellCommand, part};
+use commands::ShellCommand;
 use nodes::{create, mv, rm};
 use shell::Answer;
 use tree::Kind;
@@ -31,28 +31,28 @@ pub fn shell_command(
             tree,
             caller,
             Kind::File,
-            part(line, path),
+            path.of(line),
             mode,
         ),
         ShellCommand::Mkdir { path, mode } => create(
             tree,
             caller,
             Kind::Directory,
-            part(line, path),
+            path.of(line),
             mode,
         ),
-        ShellCommand::Read { path } => read(tree, caller, part(line, path), answer),
+        ShellCommand::Read { path } => read(tree, caller, path.of(line), answer),
         ShellCommand::Write { path, content } => write(
             tree,
             caller,
-            part(line, path),
-            part(line, content),
+            path.of(line),
+            content.of(line),
         ),
-        ShellCommand::Rm { path } => rm(tree, caller, Kind::File, part(line, path)),
-        ShellCommand::Rmdir { path } => rm(tree, caller, Kind::Directory, part(line, path)),
-        ShellCommand::Mv { from, to } => mv(tree, caller, part(line, from), part(line, to)),
-        ShellCommand::Chmod { path, mode } => chmod(tree, caller, part(line, path), mode),
-        ShellCommand::Chgrp { path, group } => chgrp(tree, caller, part(line, path), group),
-        ShellCommand::Chown { path, owner } => chown(tree, caller, part(line, path), owner),
+        ShellCommand::Rm { path } => rm(tree, caller, Kind::File, path.of(line)),
+        ShellCommand::Rmdir { path } => rm(tree, caller, Kind::Directory, path.of(line)),
+        ShellCommand::Mv { from, to } => mv(tree, caller, from.of(line), to.of(line)),
+        ShellCommand::Chmod { path, mode } => chmod(tree, caller, path.of(line), mode),
+        ShellCommand::Chgrp { path, group } => chgrp(tree, caller, path.of(line), group),
+        ShellCommand::Chown { path, owner } => chown(tree, caller, path.of(line), owner),
     }
 }

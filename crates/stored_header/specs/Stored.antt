@@ -29,7 +29,6 @@ use Rattle.store.specs.HeaderLayout.{header_width}
 use Rattle.store.specs.State.{working_directory, set_directory, Store, State, state_of}
 use Rattle.store.specs.StoreBytes.{store_width, encode}
 use Rattle.store.specs.Callers.{caller}
-use Rattle.header.specs.declared.Known.{Known}
 use Rattle.header.specs.HeaderBytes.{Heads, known, session_held}
 use Rattle.machine.specs.Machine.{run_login, run_logout, run_cd, run_account}
 use Rattle.machine.specs.StoreMachine.{store}
@@ -68,7 +67,7 @@ InSessionSilently c account steps b r b' = (j : Acting c account) → Stored b (
     → CarriesSilently (bytes_with j.setup) (steps j.setup j.state) b r b'
 
 -- the answer is whom the setup knows, whichever store's bytes these are
-abbrev pub CallerTold : List ℕ → Uid → Known → Type 0
+abbrev pub CallerTold : List ℕ → Uid → code.Option Caller → Type 0
 CallerTold b uid r = (s : State) → Stored b s → known r ≡ caller s.setup uid
 
 -- the session of an account, its working directory's text, and the rows of the setup's pairs, whichever store's bytes these are

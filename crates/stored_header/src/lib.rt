@@ -9,10 +9,8 @@ ghost use Rattle.stored_header.specs.Stored.{SomeStore, CallerTold, SessionOf, D
 
 use accounts::{Account, Caller, Dominance, Role, Session, Uid};
 use attributes::{Deed, may_do};
-use commands::{AccountCommand, part};
-use header::{
-    Known, caller_of, directory_of, dominance_of, login, logout, session_of, set_directory,
-};
+use commands::AccountCommand;
+use header::{caller_of, directory_of, dominance_of, login, logout, session_of, set_directory};
 use shell::Answer;
 use store::HEADER;
 use syntax::Span;
@@ -20,7 +18,7 @@ use tree::Cause;
 use walks::Spot;
 
 // Who an account number is, by the store's header.
-pub fn caller_in(store: &[u8], uid: Uid) -> Known
+pub fn caller_in(store: &[u8], uid: Uid) -> Option<Caller>
     requires { SomeStore store.now }
     ensures { CallerTold store.now uid result }
 {
@@ -66,7 +64,7 @@ fn log_in(store: &mut [u8], caller: Caller, role: Role, line: &[u8], password: S
         &mut store[..HEADER],
         account.uid,
         role,
-        part(line, password),
+        password.of(line),
     )
 }
 
@@ -127,6 +125,6 @@ pub fn account_command(
     match command {
         AccountCommand::Login { role, password } => log_in(store, caller, role, line, password),
         AccountCommand::Logout => log_out(store, caller),
-        AccountCommand::Cd { path } => change_directory(store, caller, part(line, path)),
+        AccountCommand::Cd { path } => change_directory(store, caller, path.of(line)),
     }
 }

@@ -6,9 +6,9 @@ use Rattle.commands.specs.MeaningLaws.{means_as, part_read}
 use Rattle.shell_runner.specs.ShellDoneLaws.{same_shell, content_room}
 use Rattle.shell_runner.proofs.shell_command.Goals as goal
 
-pub part-requires : goal.part-requires
+pub of-requires : goal.of-requires
 unfolding ShellMeans
-part-requires c =
+of-requires c =
     (means_as ShellMeans c.in-Create.is c.requires.some_shell_command.1.means).1.inside
 
 pub create-requires : goal.create-requires
@@ -17,12 +17,12 @@ create-requires c =
     let i = means_as ShellMeans c.in-Create.is c.requires.some_shell_command.1.means in
     record {
       whole = c.requires.whole;
-      path_text = (i.0, part_read _ c.part.ensures i.1);
+      path_text = (i.0, part_read _ c.of.ensures i.1);
     }
 
-pub part-requires-in-Mkdir : goal.part-requires-in-Mkdir
+pub of-requires-in-Mkdir : goal.of-requires-in-Mkdir
 unfolding ShellMeans
-part-requires-in-Mkdir c =
+of-requires-in-Mkdir c =
     (means_as ShellMeans c.in-Mkdir.is c.requires.some_shell_command.1.means).1.inside
 
 pub create-requires-in-Mkdir : goal.create-requires-in-Mkdir
@@ -31,12 +31,12 @@ create-requires-in-Mkdir c =
     let i = means_as ShellMeans c.in-Mkdir.is c.requires.some_shell_command.1.means in
     record {
       whole = c.requires.whole;
-      path_text = (i.0, part_read _ c.part-in-Mkdir.ensures i.1);
+      path_text = (i.0, part_read _ c.of-in-Mkdir.ensures i.1);
     }
 
-pub part-requires-in-Read : goal.part-requires-in-Read
+pub of-requires-in-Read : goal.of-requires-in-Read
 unfolding ShellMeans
-part-requires-in-Read c =
+of-requires-in-Read c =
     (means_as ShellMeans c.in-Read.is c.requires.some_shell_command.1.means).1.inside
 
 pub read-requires : goal.read-requires
@@ -45,18 +45,18 @@ read-requires c =
     let i = means_as ShellMeans c.in-Read.is c.requires.some_shell_command.1.means in
     record {
       whole = c.requires.whole;
-      path_text = (i.0, part_read _ c.part-in-Read.ensures i.1);
+      path_text = (i.0, part_read _ c.of-in-Read.ensures i.1);
       all_names_width_in_bounds = omega arith;
     }
 
-pub part-requires-in-Write : goal.part-requires-in-Write
+pub of-requires-in-Write : goal.of-requires-in-Write
 unfolding ShellMeans
-part-requires-in-Write c =
+of-requires-in-Write c =
     (means_as ShellMeans c.in-Write.is c.requires.some_shell_command.1.means).1.inside
 
-pub part-requires-in-Write-2 : goal.part-requires-in-Write-2
+pub of-requires-in-Write-2 : goal.of-requires-in-Write-2
 unfolding ShellMeans
-part-requires-in-Write-2 c =
+of-requires-in-Write-2 c =
     (means_as ShellMeans c.in-Write.is c.requires.some_shell_command.1.means).2
 
 pub write-requires : goal.write-requires
@@ -66,13 +66,13 @@ write-requires c =
     let i = means_as ShellMeans c.in-Write.is n.means in
     record {
       whole = c.requires.whole;
-      path_text = (i.0, part_read _ c.part-in-Write.ensures i.1);
-      content_len_bound = rw c.part-in-Write-2.ensures (content_room n.in_range i.3);
+      path_text = (i.0, part_read _ c.of-in-Write.ensures i.1);
+      content_len_bound = rw c.of-in-Write-2.ensures (content_room n.in_range i.3);
     }
 
-pub part-requires-in-Rm : goal.part-requires-in-Rm
+pub of-requires-in-Rm : goal.of-requires-in-Rm
 unfolding ShellMeans
-part-requires-in-Rm c =
+of-requires-in-Rm c =
     (means_as ShellMeans c.in-Rm.is c.requires.some_shell_command.1.means).1.inside
 
 pub rm-requires : goal.rm-requires
@@ -81,12 +81,12 @@ rm-requires c =
     let i = means_as ShellMeans c.in-Rm.is c.requires.some_shell_command.1.means in
     record {
       whole = c.requires.whole;
-      path_text = (i.0, part_read _ c.part-in-Rm.ensures i.1);
+      path_text = (i.0, part_read _ c.of-in-Rm.ensures i.1);
     }
 
-pub part-requires-in-Rmdir : goal.part-requires-in-Rmdir
+pub of-requires-in-Rmdir : goal.of-requires-in-Rmdir
 unfolding ShellMeans
-part-requires-in-Rmdir c =
+of-requires-in-Rmdir c =
     (means_as ShellMeans c.in-Rmdir.is c.requires.some_shell_command.1.means).1.inside
 
 pub rm-requires-in-Rmdir : goal.rm-requires-in-Rmdir
@@ -95,17 +95,17 @@ rm-requires-in-Rmdir c =
     let i = means_as ShellMeans c.in-Rmdir.is c.requires.some_shell_command.1.means in
     record {
       whole = c.requires.whole;
-      path_text = (i.0, part_read _ c.part-in-Rmdir.ensures i.1);
+      path_text = (i.0, part_read _ c.of-in-Rmdir.ensures i.1);
     }
 
-pub part-requires-in-Mv : goal.part-requires-in-Mv
+pub of-requires-in-Mv : goal.of-requires-in-Mv
 unfolding ShellMeans
-part-requires-in-Mv c =
+of-requires-in-Mv c =
     (means_as ShellMeans c.in-Mv.is c.requires.some_shell_command.1.means).2.inside
 
-pub part-requires-in-Mv-2 : goal.part-requires-in-Mv-2
+pub of-requires-in-Mv-2 : goal.of-requires-in-Mv-2
 unfolding ShellMeans
-part-requires-in-Mv-2 c =
+of-requires-in-Mv-2 c =
     (means_as ShellMeans c.in-Mv.is c.requires.some_shell_command.1.means).3.inside
 
 pub mv-requires : goal.mv-requires
@@ -114,13 +114,13 @@ mv-requires c =
     let i = means_as ShellMeans c.in-Mv.is c.requires.some_shell_command.1.means in
     record {
       whole = c.requires.whole;
-      path_text = (i.0, part_read _ c.part-in-Mv.ensures i.2);
-      path_text_2 = (i.1, part_read _ c.part-in-Mv-2.ensures i.3);
+      path_text = (i.0, part_read _ c.of-in-Mv.ensures i.2);
+      path_text_2 = (i.1, part_read _ c.of-in-Mv-2.ensures i.3);
     }
 
-pub part-requires-in-Chmod : goal.part-requires-in-Chmod
+pub of-requires-in-Chmod : goal.of-requires-in-Chmod
 unfolding ShellMeans
-part-requires-in-Chmod c =
+of-requires-in-Chmod c =
     (means_as ShellMeans c.in-Chmod.is c.requires.some_shell_command.1.means).1.inside
 
 pub chmod-requires : goal.chmod-requires
@@ -129,12 +129,12 @@ chmod-requires c =
     let i = means_as ShellMeans c.in-Chmod.is c.requires.some_shell_command.1.means in
     record {
       whole = c.requires.whole;
-      path_text = (i.0, part_read _ c.part-in-Chmod.ensures i.1);
+      path_text = (i.0, part_read _ c.of-in-Chmod.ensures i.1);
     }
 
-pub part-requires-in-Chgrp : goal.part-requires-in-Chgrp
+pub of-requires-in-Chgrp : goal.of-requires-in-Chgrp
 unfolding ShellMeans
-part-requires-in-Chgrp c =
+of-requires-in-Chgrp c =
     (means_as ShellMeans c.in-Chgrp.is c.requires.some_shell_command.1.means).1.inside
 
 pub chgrp-requires : goal.chgrp-requires
@@ -143,12 +143,12 @@ chgrp-requires c =
     let i = means_as ShellMeans c.in-Chgrp.is c.requires.some_shell_command.1.means in
     record {
       whole = c.requires.whole;
-      path_text = (i.0, part_read _ c.part-in-Chgrp.ensures i.1);
+      path_text = (i.0, part_read _ c.of-in-Chgrp.ensures i.1);
     }
 
-pub part-requires-in-Chown : goal.part-requires-in-Chown
+pub of-requires-in-Chown : goal.of-requires-in-Chown
 unfolding ShellMeans
-part-requires-in-Chown c =
+of-requires-in-Chown c =
     (means_as ShellMeans c.in-Chown.is c.requires.some_shell_command.1.means).1.inside
 
 pub chown-requires : goal.chown-requires
@@ -157,7 +157,7 @@ chown-requires c =
     let i = means_as ShellMeans c.in-Chown.is c.requires.some_shell_command.1.means in
     record {
       whole = c.requires.whole;
-      path_text = (i.0, part_read _ c.part-in-Chown.ensures i.1);
+      path_text = (i.0, part_read _ c.of-in-Chown.ensures i.1);
     }
 
 pub returns-in-Create : goal.returns-in-Create
@@ -165,7 +165,7 @@ unfolding ShellMeans run_shell
 returns-in-Create c t k e m =
     let a = c.args in
     let i = means_as ShellMeans c.in-Create.is m.means in
-    let q = part_read _ c.part.ensures i.1 in
+    let q = part_read _ c.of.ensures i.1 in
     same_shell a.caller t i.2 (c.create.ensures t i.0 e q a.answer.now)
 
 pub returns-in-Mkdir : goal.returns-in-Mkdir
@@ -173,7 +173,7 @@ unfolding ShellMeans run_shell
 returns-in-Mkdir c t k e m =
     let a = c.args in
     let i = means_as ShellMeans c.in-Mkdir.is m.means in
-    let q = part_read _ c.part-in-Mkdir.ensures i.1 in
+    let q = part_read _ c.of-in-Mkdir.ensures i.1 in
     same_shell a.caller t i.2 (c.create-in-Mkdir.ensures t i.0 e q a.answer.now)
 
 pub returns-in-Read : goal.returns-in-Read
@@ -181,23 +181,23 @@ unfolding ShellMeans run_shell
 returns-in-Read c t k e m =
     let a = c.args in
     let i = means_as ShellMeans c.in-Read.is m.means in
-    same_shell a.caller t i.2 (c.read.ensures t i.0 e (part_read _ c.part-in-Read.ensures i.1))
+    same_shell a.caller t i.2 (c.read.ensures t i.0 e (part_read _ c.of-in-Read.ensures i.1))
 
 pub returns-in-Write : goal.returns-in-Write
 unfolding ShellMeans run_shell
 returns-in-Write c t k e m =
     let a = c.args in
     let i = means_as ShellMeans c.in-Write.is m.means in
-    let q = part_read _ c.part-in-Write.ensures i.1 in
+    let q = part_read _ c.of-in-Write.ensures i.1 in
     let done = c.write.ensures t i.0 e q a.answer.now in
-    same_shell a.caller t i.3 (rw c.part-in-Write-2.ensures at done)
+    same_shell a.caller t i.3 (rw c.of-in-Write-2.ensures at done)
 
 pub returns-in-Rm : goal.returns-in-Rm
 unfolding ShellMeans run_shell
 returns-in-Rm c t k e m =
     let a = c.args in
     let i = means_as ShellMeans c.in-Rm.is m.means in
-    let q = part_read _ c.part-in-Rm.ensures i.1 in
+    let q = part_read _ c.of-in-Rm.ensures i.1 in
     same_shell a.caller t i.2 (c.rm.ensures t i.0 e q a.answer.now)
 
 pub returns-in-Rmdir : goal.returns-in-Rmdir
@@ -205,7 +205,7 @@ unfolding ShellMeans run_shell
 returns-in-Rmdir c t k e m =
     let a = c.args in
     let i = means_as ShellMeans c.in-Rmdir.is m.means in
-    let q = part_read _ c.part-in-Rmdir.ensures i.1 in
+    let q = part_read _ c.of-in-Rmdir.ensures i.1 in
     same_shell a.caller t i.2 (c.rm-in-Rmdir.ensures t i.0 e q a.answer.now)
 
 pub returns-in-Mv : goal.returns-in-Mv
@@ -213,8 +213,8 @@ unfolding ShellMeans run_shell
 returns-in-Mv c t k e m =
     let a = c.args in
     let i = means_as ShellMeans c.in-Mv.is m.means in
-    let from = part_read _ c.part-in-Mv.ensures i.2 in
-    let to = part_read _ c.part-in-Mv-2.ensures i.3 in
+    let from = part_read _ c.of-in-Mv.ensures i.2 in
+    let to = part_read _ c.of-in-Mv-2.ensures i.3 in
     same_shell a.caller t i.4 (c.mv.ensures t i.0 i.1 e from to a.answer.now)
 
 pub returns-in-Chmod : goal.returns-in-Chmod
@@ -222,7 +222,7 @@ unfolding ShellMeans run_shell
 returns-in-Chmod c t k e m =
     let a = c.args in
     let i = means_as ShellMeans c.in-Chmod.is m.means in
-    let q = part_read _ c.part-in-Chmod.ensures i.1 in
+    let q = part_read _ c.of-in-Chmod.ensures i.1 in
     same_shell a.caller t i.2 (c.chmod.ensures t i.0 e q a.answer.now)
 
 pub returns-in-Chgrp : goal.returns-in-Chgrp
@@ -230,7 +230,7 @@ unfolding ShellMeans run_shell
 returns-in-Chgrp c t k e m =
     let a = c.args in
     let i = means_as ShellMeans c.in-Chgrp.is m.means in
-    let q = part_read _ c.part-in-Chgrp.ensures i.1 in
+    let q = part_read _ c.of-in-Chgrp.ensures i.1 in
     same_shell a.caller t i.2 (c.chgrp.ensures t i.0 e q a.answer.now)
 
 pub returns-in-Chown : goal.returns-in-Chown
@@ -238,5 +238,5 @@ unfolding ShellMeans run_shell
 returns-in-Chown c t k e m =
     let a = c.args in
     let i = means_as ShellMeans c.in-Chown.is m.means in
-    let q = part_read _ c.part-in-Chown.ensures i.1 in
+    let q = part_read _ c.of-in-Chown.ensures i.1 in
     same_shell a.caller t i.2 (c.chown.ensures t i.0 e q a.answer.now)

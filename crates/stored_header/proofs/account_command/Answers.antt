@@ -22,9 +22,9 @@ log_out-requires c = record {
   uid_bound = c.requires.uid_bound;
 }
 
-pub part-requires : goal.part-requires
+pub of-requires : goal.of-requires
 unfolding AccountMeans
-part-requires c =
+of-requires c =
     (means_as AccountMeans c.in-Cd.is c.requires.some_account_command.1).1.inside
 
 pub change_directory-requires : goal.change_directory-requires
@@ -33,7 +33,7 @@ change_directory-requires c =
     let i = means_as AccountMeans c.in-Cd.is c.requires.some_account_command.1 in
     record {
       some_store = c.requires.some_store;
-      path_text = (i.0, part_read c.part.result.now c.part.ensures i.1);
+      path_text = (i.0, part_read c.of.result.now c.of.ensures i.1);
       uid_bound = c.requires.uid_bound;
     }
 
@@ -50,6 +50,6 @@ returns-in-Logout c s k h m = rw (means_as AccountMeans c.in-Logout.is m) (c.log
 pub returns-in-Cd : goal.returns-in-Cd
 unfolding AccountMeans run_account
 returns-in-Cd c s k h m =
-    let part = c.part in
+    let part = c.of in
     let i = means_as AccountMeans c.in-Cd.is m in
     rw i.2 (c.change_directory.ensures s i.0 h (part_read part.result.now part.ensures i.1))

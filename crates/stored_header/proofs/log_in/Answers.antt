@@ -13,8 +13,8 @@ slice_bounds-login-end c = long_enough c.requires.some_store
 pub slice_bounds-login-end-2 : goal.slice_bounds-login-end-2
 slice_bounds-login-end-2 c = sym (header_length c.requires.some_store)
 
-pub part-requires : goal.part-requires
-part-requires c = c.requires.inside
+pub of-requires : goal.of-requires
+of-requires c = c.requires.inside
 
 pub login-requires : goal.login-requires
 login-requires c = record {
@@ -28,5 +28,5 @@ returns c s z h e =
     let a = c.args in
     let l = c.login in
     let H = take header_width a.store.now in
-    let logs = subst (λ (x : Text). LogsIn H a.caller.account.uid a.role x l.result l.new.header) c.part.ensures l.ensures in
+    let logs = subst (λ (x : Text). LogsIn H a.caller.account.uid a.role x l.result l.new.header) c.of.ensures l.ensures in
     login_carries h a.caller z _ l.result l.new.header (logs s.setup s.store.registry h.header z e)

@@ -11,38 +11,38 @@ use Rattle.entry_runner.proofs.command.entry_command.Goals as goal
 pub dominates-requires : goal.dominates-requires
 dominates-requires c = tt
 
-pub part-requires : goal.part-requires
+pub of-requires : goal.of-requires
 unfolding EntryMeans
-part-requires c =
+of-requires c =
     (means_as EntryMeans c.in-Add.is c.requires.some_entry_command.1).3.inside
 
-pub part-requires-in-Add : goal.part-requires-in-Add
+pub of-requires-in-Add : goal.of-requires-in-Add
 unfolding EntryMeans
-part-requires-in-Add c =
+of-requires-in-Add c =
     (means_as EntryMeans c.in-Add.is c.requires.some_entry_command.1).4.inside
 
 pub add_in-requires : goal.add_in-requires
 unfolding EntryMeans
 add_in-requires c =
     let i = means_as EntryMeans c.in-Add.is c.requires.some_entry_command.1 in
-    let e = part_read _ c.part-in-Add.ensures i.4 in
+    let e = part_read _ c.of-in-Add.ensures i.4 in
     let a = c.requires.acts_by in
     let told = c.dominates.ensures ∙ session_tells a.0 i.2 i.5 a.2 a.3 ∙ ap (dominates a.0.setup.pairs a.0.role.role) i.5 in
     record {
       acts_told = (a.0, a.1, told);
-      path_text = (i.0, part_read _ c.part.ensures i.3);
+      path_text = (i.0, part_read _ c.of.ensures i.3);
       entry_path_text = (i.1, e);
       role_bound = role_low i.2 i.5;
     }
 
-pub part-requires-in-Co : goal.part-requires-in-Co
+pub of-requires-in-Co : goal.of-requires-in-Co
 unfolding EntryMeans
-part-requires-in-Co c =
+of-requires-in-Co c =
     (means_as EntryMeans c.in-Co.is c.requires.some_entry_command.1).2.inside
 
-pub part-requires-in-Co-2 : goal.part-requires-in-Co-2
+pub of-requires-in-Co-2 : goal.of-requires-in-Co-2
 unfolding EntryMeans
-part-requires-in-Co-2 c =
+of-requires-in-Co-2 c =
     (means_as EntryMeans c.in-Co.is c.requires.some_entry_command.1).3.inside
 
 pub co_in-requires : goal.co_in-requires
@@ -51,13 +51,13 @@ co_in-requires c =
     let i = means_as EntryMeans c.in-Co.is c.requires.some_entry_command.1 in
     record {
       acts_in = (c.requires.acts_by.0, c.requires.acts_by.1);
-      entry_path_text = (i.0, part_read _ c.part-in-Co.ensures i.2);
-      path_text = (i.1, part_read _ c.part-in-Co-2.ensures i.3);
+      entry_path_text = (i.0, part_read _ c.of-in-Co.ensures i.2);
+      path_text = (i.1, part_read _ c.of-in-Co-2.ensures i.3);
     }
 
-pub part-requires-in-Commit : goal.part-requires-in-Commit
+pub of-requires-in-Commit : goal.of-requires-in-Commit
 unfolding EntryMeans
-part-requires-in-Commit c =
+of-requires-in-Commit c =
     (means_as EntryMeans c.in-Commit.is c.requires.some_entry_command.1).1.inside
 
 pub commit-requires : goal.commit-requires
@@ -66,13 +66,13 @@ commit-requires c =
     let i = means_as EntryMeans c.in-Commit.is c.requires.some_entry_command.1 in
     record {
       acts_in = (c.requires.acts_by.0, c.requires.acts_by.1);
-      path_text = (i.0, part_read _ c.part-in-Commit.ensures i.1);
+      path_text = (i.0, part_read _ c.of-in-Commit.ensures i.1);
       in_bounds = c.requires.in_bounds;
     }
 
-pub part-requires-in-Up : goal.part-requires-in-Up
+pub of-requires-in-Up : goal.of-requires-in-Up
 unfolding EntryMeans
-part-requires-in-Up c =
+of-requires-in-Up c =
     (means_as EntryMeans c.in-Up.is c.requires.some_entry_command.1).1.inside
 
 pub up_in-requires : goal.up_in-requires
@@ -81,12 +81,12 @@ up_in-requires c =
     let i = means_as EntryMeans c.in-Up.is c.requires.some_entry_command.1 in
     record {
       acts_in = (c.requires.acts_by.0, c.requires.acts_by.1);
-      path_text = (i.0, part_read _ c.part-in-Up.ensures i.1);
+      path_text = (i.0, part_read _ c.of-in-Up.ensures i.1);
     }
 
-pub part-requires-in-Del : goal.part-requires-in-Del
+pub of-requires-in-Del : goal.of-requires-in-Del
 unfolding EntryMeans
-part-requires-in-Del c =
+of-requires-in-Del c =
     (means_as EntryMeans c.in-Del.is c.requires.some_entry_command.1).1.inside
 
 pub del_in-requires : goal.del_in-requires
@@ -95,15 +95,15 @@ del_in-requires c =
     let i = means_as EntryMeans c.in-Del.is c.requires.some_entry_command.1 in
     record {
       acts_for_someone = (_, (c.requires.acts_by.0, c.requires.acts_by.1));
-      entry_path_text = (i.0, part_read _ c.part-in-Del.ensures i.1);
+      entry_path_text = (i.0, part_read _ c.of-in-Del.ensures i.1);
     }
 
 pub returns-in-Add : goal.returns-in-Add
 unfolding EntryMeans run_entry
 returns-in-Add c j k h m held rows =
     let i = means_as EntryMeans c.in-Add.is m in
-    let working = part_read _ c.part.ensures i.3 in
-    let entry = part_read _ c.part-in-Add.ensures i.4 in
+    let working = part_read _ c.of.ensures i.3 in
+    let entry = part_read _ c.of-in-Add.ensures i.4 in
     let own = c.dominates.ensures ∙ session_tells j i.2 i.5 held rows in
     rw i.6 (c.add_in.ensures i.0 i.1 i.2 working entry i.5 j h own c.args.answer.now)
 
@@ -111,21 +111,21 @@ pub returns-in-Co : goal.returns-in-Co
 unfolding EntryMeans run_entry
 returns-in-Co c j k h m held rows =
     let i = means_as EntryMeans c.in-Co.is m in
-    let entry = part_read _ c.part-in-Co.ensures i.2 in
-    let to = part_read _ c.part-in-Co-2.ensures i.3 in
+    let entry = part_read _ c.of-in-Co.ensures i.2 in
+    let to = part_read _ c.of-in-Co-2.ensures i.3 in
     rw i.4 (c.co_in.ensures i.0 i.1 entry to j h c.args.answer.now)
 
 pub returns-in-Commit : goal.returns-in-Commit
 unfolding EntryMeans run_entry
 returns-in-Commit c j k h m held rows =
     let i = means_as EntryMeans c.in-Commit.is m in
-    rw i.2 (c.commit.ensures i.0 (part_read _ c.part-in-Commit.ensures i.1) j h)
+    rw i.2 (c.commit.ensures i.0 (part_read _ c.of-in-Commit.ensures i.1) j h)
 
 pub returns-in-Up : goal.returns-in-Up
 unfolding EntryMeans run_entry
 returns-in-Up c j k h m held rows =
     let i = means_as EntryMeans c.in-Up.is m in
-    let working = part_read _ c.part-in-Up.ensures i.1 in
+    let working = part_read _ c.of-in-Up.ensures i.1 in
     rw i.2 (c.up_in.ensures i.0 working j h c.args.answer.now)
 
 pub returns-in-Del : goal.returns-in-Del
@@ -133,7 +133,7 @@ unfolding EntryMeans run_entry
 returns-in-Del c j k h m held rows =
     let a = c.args in
     let i = means_as EntryMeans c.in-Del.is m in
-    let entry = part_read _ c.part-in-Del.ensures i.1 in
+    let entry = part_read _ c.of-in-Del.ensures i.1 in
     rw i.2 (c.del_in.ensures a.caller i.0 entry j h a.answer.now)
 
 pub enum_known-command : goal.enum_known-command
