@@ -6,7 +6,8 @@
 --   commits one after another: passed_over, one_more;
 --   the step in a session: row_in to step-done;
 --   what holds at each turn: Going; at the first: begins; the row at hand: turn-place; at the last: comes-to-all; one more: goes_on, rises.
-use Rattle.std.specs.Prelude.{◌≡◌, refl, length}
+use Rattle.std.specs.Prelude.{◌≡◌, refl, length, Ok, Err}
+use Rattle.std.specs.Prelude as code
 use Rattle.std.proofs.Math.Path.{sym, ap}
 use Rattle.std.proofs.Common.{◌∙◌, arith}
 use mathlib.Core.List.{List, [], ◌∷◌}
@@ -19,7 +20,7 @@ use Rattle.syntax.specs.Path.{Path}
 use Rattle.setup.specs.Setup.{Setup}
 use Rattle.tree.specs.declared.Cause.{Cause}
 use Rattle.tree.specs.declared.Cause.TheVariants.{WrongKind}
-use Rattle.tree.specs.Result.{Result, refused, done, Outcome}
+use Rattle.tree.specs.Result.{Result, outcome, refused, done, Outcome}
 use Rattle.tree.proofs.ResultLaws.{not_done, by_result, bind_done, refused_before, done_bind, refused_bind, refused_then, require_false}
 use Rattle.tree.proofs.GivesLaws.{done_with}
 use Rattle.tree.specs.Forest.{Place, size}
@@ -49,9 +50,8 @@ use Rattle.machine.proofs.MachineKeepingLaws.{file_keeps}
 use Rattle.machine.proofs.SingleCommitsLaws.{file_outlines}
 use Rattle.stored_header.specs.Stored.{bytes_with}
 use Rattle.stored_header.specs.StoredLaws.{stored_bytes, stored_formed, formed_stored}
-use Rattle.entries.specs.declared.Links.{Links}
-use Rattle.entries.specs.declared.Links.TheVariants.{To, Refused}
-use Rattle.entries.specs.EntrySteps.{LinkRows, file_tests, link_at, commit_at, commit_steps, link_rows, link_rows_from, links_told}
+use Rattle.entries.specs.declared.LinkRows.{LinkRows}
+use Rattle.entries.specs.EntrySteps.{file_tests, link_at, commit_at, commit_steps, link_rows, link_rows_from}
 use Rattle.entries.specs.EntryStepsLaws.{found_acts}
 use Rattle.directory_commits.specs.declared.Step.{Step}
 use Rattle.directory_commits.specs.Steps.{row_after, count_of, RowIn, PlaceIn, with_tree, StepIn, SteppedIn}
@@ -60,15 +60,15 @@ use Rattle.directory_commits.specs.Commits.{PlaceRow, DirectoryRow, CommitsBelow
 -- ---- a single commit at a row
 
 -- what the answer says of the count
-count_refused : (r : Links) {k : Cause} → links_told r ≡ refused k → count_of r ≡ 0
-unfolding links_told count_of
-count_refused (To i k a) e = not_done (sym e)
-count_refused (Refused k) e = refl
+count_refused : (r : code.Result LinkRows Cause) {k : Cause} → outcome r ≡ refused k → count_of r ≡ 0
+unfolding outcome count_of
+count_refused (Ok s) e = not_done (sym e)
+count_refused (Err k) e = refl
 
-count_done : (r : Links) {l : LinkRows} → links_told r ≡ done l → count_of r ≡ 1
-unfolding links_told count_of
-count_done (To i k a) e = refl
-count_done (Refused k) e = not_done e
+count_done : (r : code.Result LinkRows Cause) {l : LinkRows} → outcome r ≡ done l → count_of r ≡ 1
+unfolding outcome count_of
+count_done (Ok s) e = refl
+count_done (Err k) e = not_done e
 
 module _ (person account : Account) (t : Place Node) (p : Path) (d : Place Node) where
   -- a directory is refused

@@ -5,7 +5,8 @@
 --   by the code's answer: commit-refused, file-row to directory-commits;
 --   a file's answer: links-reply, file-carries;
 --   a directory's: that its number fits, and stands in the answer: number_fits, directory-carries.
-use Rattle.std.specs.Prelude.{◌≡◌, refl, true, false, ℕ, ◌+◌, ◌≤◌}
+use Rattle.std.specs.Prelude.{◌≡◌, refl, true, false, ℕ, ◌+◌, ◌≤◌, Ok, Err, Some, IsErrAnd}
+use Rattle.std.specs.Prelude as code
 use Rattle.std.proofs.Math.Path.{sym, ap}
 use Rattle.std.proofs.Common.{◌∙◌}
 use mathlib.Core.List.{List, ◌++◌}
@@ -22,8 +23,8 @@ use Rattle.syntax.proofs.NumberLaws.{decimal_length}
 use Rattle.syntax.specs.Path.{Path}
 use Rattle.tree.specs.declared.Cause.{Cause}
 use Rattle.tree.specs.declared.Cause.TheVariants.{Access}
-use Rattle.tree.specs.Result.{Result, refused, done, Outcome}
-use Rattle.tree.proofs.ResultLaws.{by_result, bind_done, done_bind, refused_bind, done_then, refused_then, require_true, require_false}
+use Rattle.tree.specs.Result.{Result, outcome, refused, done, Outcome}
+use Rattle.tree.proofs.ResultLaws.{outcome_ok, outcome_err, by_result, bind_done, done_bind, refused_bind, done_then, refused_then, require_true, require_false}
 use Rattle.tree.proofs.GivesLaws.{done_with}
 use Rattle.tree.specs.Forest.{Place}
 use Rattle.tree.specs.Node.{Node, is_directory}
@@ -33,11 +34,10 @@ use Rattle.tree.proofs.SizeLaws.{tree_place}
 use Rattle.tree.proofs.UpdateLaws.{walked_at}
 use Rattle.tree.specs.Files.{files_below}
 use Rattle.tree.proofs.FilesLaws.{files_count}
-use Rattle.shell.specs.declared.Answer.{Answer}
-use Rattle.shell.specs.declared.Answer.TheVariants
-use Rattle.shell.specs.Replies.{reply, answer_of, written}
+use Rattle.shell.specs.declared.Refusal.TheVariants.{For}
+use Rattle.shell.specs.Replies.{Answer, reply, answer_of, written}
 use Rattle.shell.specs.CommandBytes.{bytes_after, Carries, CarriesSilently}
-use Rattle.shell.proofs.CommandBytesLaws.{refusal_follows}
+use Rattle.shell.proofs.CommandBytesLaws.{passed_follows}
 use Rattle.store.specs.State.{Store, state_of}
 use Rattle.machine.specs.Machine.{commit_found, commit_file, commit_directory, run_commit}
 use Rattle.machine.specs.StoreMachine.{store}
@@ -46,28 +46,27 @@ use Rattle.machine.proofs.ActingLaws.{file_registry}
 use Rattle.machine.specs.DirectoryCommit.{of_directory}
 use Rattle.machine.proofs.DirectoryCommitLaws.{each_counts, file_found}
 use Rattle.stored_header.specs.Stored.{Stored, bytes_with}
-use Rattle.entries.specs.declared.Links.{Links}
-use Rattle.entries.specs.declared.Links.TheVariants.{To, Refused}
-use Rattle.entries.specs.EntrySteps.{Link, commit_at, after_commit, changing, commit_steps, link_rows_from, links_told, links_answer}
+use Rattle.entries.specs.declared.LinkRows.{LinkRows}
+use Rattle.entries.specs.EntrySteps.{Link, commit_at, after_commit, changing, commit_steps, link_rows_from, links_answer}
 use Rattle.entries.specs.EntryStepsLaws.{comes_to, comes_not, found_acts}
 use Rattle.entries.specs.LinkLaws.{links_to, links_not}
 use Rattle.directory_commits.specs.declared.Step.{Step}
 use Rattle.directory_commits.specs.declared.Found.{Found}
-use Rattle.directory_commits.specs.declared.Found.TheVariants as found
-use Rattle.directory_commits.specs.Steps.{StepIn, RowFound, file_at, directory_at, found_steps, found_told}
+use Rattle.directory_commits.specs.declared.Found.TheVariants.{File, Directory}
+use Rattle.directory_commits.specs.Steps.{StepIn, found_steps}
 use Rattle.directory_commits.specs.Commits.{PlaceRow, DirectoryRow, CommitsBelow}
 use Rattle.directory_commits.specs.BelowLaws.{step_refused, step_done}
 
 -- ---- what was found
 
 -- what the person's walk to w comes to, by what `found_steps` says
-data Finding (a : Account) (t : Place Node) (w : Path) : Result RowFound → Type 0 where
+data Finding (a : Account) (t : Place Node) (w : Path) : Result Found → Type 0 where
   no_walk : {k : Cause} → walk (by_modes a) t w ≡ refused k → Finding a t w (refused k)
   shut : {d : Place Node} → walk (by_modes a) t w ≡ done d → is_directory d.here.kind ≡ true → (by_modes a).readable d.here ≡ false
       → Finding a t w (refused Access)
-  a_file : {d : Place Node} → walk (by_modes a) t w ≡ done d → is_directory d.here.kind ≡ false → Finding a t w (done (file_at (index_of t w)))
+  a_file : {d : Place Node} → walk (by_modes a) t w ≡ done d → is_directory d.here.kind ≡ false → Finding a t w (done (File (index_of t w)))
   a_directory : {d : Place Node} → walk (by_modes a) t w ≡ done d → is_directory d.here.kind ≡ true → (by_modes a).readable d.here ≡ true
-      → Finding a t w (done (directory_at (index_of t w)))
+      → Finding a t w (done (Directory (index_of t w)))
 
 found_what : (a : Account) (t : Place Node) (w : Path) → Finding a t w (found_steps a t w)
 unfolding found_steps
@@ -80,7 +79,7 @@ found_what a t w = by_result (walk (by_modes a) t w)
     (λ b. rw (q, done_bind, b) (a_file q b)))
 
 -- by the code's answer
-by_answer : (a : Account) (t : Place Node) (w : Path) {r : Result RowFound} → r ≡ found_steps a t w → Finding a t w r
+by_answer : (a : Account) (t : Place Node) (w : Path) {r : Result Found} → r ≡ found_steps a t w → Finding a t w r
 by_answer a t w e = rw e (found_what a t w)
 
 module _ {c : Caller} {account : Account} (j : Acting c account) (w : Path) where
@@ -107,11 +106,11 @@ module _ {c : Caller} {account : Account} (j : Acting c account) (w : Path) wher
   abbrev LeftOfDirectory : ℕ → Type 0
   LeftOfDirectory i = Left i (λ n. (is_directory n.kind ≡ true) × ((by_modes c.account).readable n ≡ true)) (λ d. done (of_directory store j.setup c j.state w d))
 
-  file_left : {i : ℕ} → Finding c.account j.state.tree w (done (file_at i)) → LeftOfFile i
+  file_left : {i : ℕ} → Finding c.account j.state.tree w (done (File i)) → LeftOfFile i
   unfolding run_commit
   file_left (a_file {d = d} q b) = record { place = d; walked = q; row = refl; kind = b; same = rw (j.session, done_bind, q, done_bind, b) }
 
-  directory_left : {i : ℕ} → Finding c.account j.state.tree w (done (directory_at i)) → LeftOfDirectory i
+  directory_left : {i : ℕ} → Finding c.account j.state.tree w (done (Directory i)) → LeftOfDirectory i
   unfolding run_commit commit_directory
   directory_left (a_directory {d = d} q b r) =
       record { place = d; walked = q; row = refl; kind = (b, r); same = rw (j.session, done_bind, q, done_bind, b, r, require_true, done_then) }
@@ -127,34 +126,31 @@ module _ {c : Caller} {account : Account} (j : Acting c account) (w : Path) wher
 -- ---- by the code's answer
 
 module _ {c : Caller} {account : Account} {b : List ℕ} (j : Acting c account) (h : Stored b (state_of j.setup j.state)) (w : Path)
-    {r : Found} (e : found_told r ≡ found_steps c.account j.state.tree w) where
-  pub commit_refused : {k : Cause} → r ≡ found.Refused k → CarriesSilently (bytes_with j.setup) (commits j w) b (TheVariants.Refused k) b
-  unfolding found_told
-  commit_refused q = refusal_follows b (refused_so j w (by_answer c.account j.state.tree w (ap found_told (sym q) ∙ e)))
+    {r : code.Result Found Cause} (e : outcome r ≡ found_steps c.account j.state.tree w) where
+  pub commit_refused : {k : Cause} {x : Answer} → r ≡ Err k → IsErrAnd x (λ e. e ≡ For k) → CarriesSilently (bytes_with j.setup) (commits j w) b x b
+  commit_refused {k} q passed = passed_follows b passed (refused_so j w (by_answer c.account j.state.tree w (sym (ap outcome q ∙ outcome_err k) ∙ e)))
 
   module _ {i : ℕ} where
-    left_file : r ≡ found.File i → LeftOfFile j w i
-    unfolding found_told
-    left_file q = file_left j w (by_answer c.account j.state.tree w (ap found_told (sym q) ∙ e))
+    left_file : r ≡ Ok (File i) → LeftOfFile j w i
+    left_file q = file_left j w (by_answer c.account j.state.tree w (sym (ap outcome q ∙ outcome_ok (File i)) ∙ e))
 
-    left_directory : r ≡ found.Directory i → LeftOfDirectory j w i
-    unfolding found_told
-    left_directory q = directory_left j w (by_answer c.account j.state.tree w (ap found_told (sym q) ∙ e))
+    left_directory : r ≡ Ok (Directory i) → LeftOfDirectory j w i
+    left_directory q = directory_left j w (by_answer c.account j.state.tree w (sym (ap outcome q ∙ outcome_ok (Directory i)) ∙ e))
 
     -- a file's row, and what its commit answers is what the command does
-    pub file_row : r ≡ found.File i → PlaceRow b c account i
+    pub file_row : r ≡ Ok (File i) → PlaceRow b c account i
     file_row q = place_row j w h (left_file q)
 
-    pub file_commits : (q : r ≡ found.File i) {x : Answer} {b' : List ℕ}
+    pub file_commits : (q : r ≡ Ok (File i)) {x : Answer} {b' : List ℕ}
         → ((y : PlaceRow b c account i) → CarriesSilently (bytes_with y.acting.setup) (commit_found store y.acting.setup y.acting.state c y.acting.role y.path y.place) b x b')
         → CarriesSilently (bytes_with j.setup) (commits j w) b x b'
     file_commits q f = rw (left_file q).same (f (place_row j w h (left_file q)))
 
     -- and so of a directory
-    pub directory_of : r ≡ found.Directory i → DirectoryRow b c account i
+    pub directory_of : r ≡ Ok (Directory i) → DirectoryRow b c account i
     directory_of q = directory_row j w h (left_directory q)
 
-    pub directory_commits : (q : r ≡ found.Directory i) {a a' : List ℕ} {x : Answer} {b' : List ℕ}
+    pub directory_commits : (q : r ≡ Ok (Directory i)) {a a' : List ℕ} {x : Answer} {b' : List ℕ}
         → ((y : DirectoryRow b c account i) → Carries (bytes_with y.at.acting.setup) (done (of_directory store y.at.acting.setup c y.at.acting.state y.at.path y.at.place)) b a x b' a')
         → Carries (bytes_with j.setup) (commits j w) b a x b' a'
     directory_commits q f = rw (left_directory q).same (f (directory_row j w h (left_directory q)))
@@ -162,10 +158,10 @@ module _ {c : Caller} {account : Account} {b : List ℕ} (j : Acting c account) 
 -- ---- a file
 
 -- what is answered for links is what is replied to the steps
-links_reply : (t : Place Node) (r : Links) (steps : Result Link) → links_told r ≡ link_rows_from t steps → links_answer r ≡ answer_of (reply (changing steps (after_commit t)))
+links_reply : (t : Place Node) (r : code.Result LinkRows Cause) (steps : Result Link) → outcome r ≡ link_rows_from t steps → links_answer r ≡ answer_of (reply (changing steps (after_commit t)))
 unfolding links_answer reply answer_of
-links_reply t (To i k a) steps e = rw (comes_to steps (after_commit t) (links_to t steps e refl).1)
-links_reply t (Refused k) steps e = rw (comes_not steps (after_commit t) (links_not t steps e refl))
+links_reply t (Ok s) steps e = rw (comes_to steps (after_commit t) (links_to t steps e refl).1)
+links_reply t (Err k) steps e = rw (comes_not steps (after_commit t) (links_not t steps e refl))
 
 module _ {c : Caller} {account : Account} {b : List ℕ} {i : ℕ} (x : PlaceRow b c account i) where
   module _ {s : Step} {b' : List ℕ} (f : StepIn c.account account b (state_of x.acting.setup x.acting.state) x.path i x.place s b') where
@@ -210,13 +206,13 @@ module _ {c : Caller} {account : Account} {b : List ℕ} {i : ℕ} (x : Director
 
   -- and stands in the answer
   pub directory_carries : {a a' : List ℕ} {r : ℕ} → Wrote (decimal_text n) a 0 a' r
-      → Carries (bytes_with x.at.acting.setup) (done (of_directory store x.at.acting.setup c x.at.acting.state x.at.path x.at.place)) b a (TheVariants.Text r) b' a'
+      → Carries (bytes_with x.at.acting.setup) (done (of_directory store x.at.acting.setup c x.at.acting.state x.at.path x.at.place)) b a (Ok (Some r)) b' a'
   unfolding reply answer_of written bytes_after
   directory_carries {a = a} o =
       let same = ap decimal_text f.count in
       let ends : 0 + length (decimal_text n) ≡ length (decimal_text n) = omega arith in
       record {
-        tells = ap TheVariants.Text (o.ends ∙ ends ∙ ap length same);
+        tells = ap (λ (m : ℕ). Ok (Some m)) (o.ends ∙ ends ∙ ap length same);
         bytes = f.bytes;
         text = o.holds ∙ over_front (decimal_text n) a ∙ ap (λ (t : List ℕ). t ++ drop (length t) a) same;
       }

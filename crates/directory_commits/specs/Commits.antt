@@ -10,7 +10,7 @@ use Rattle.tree.specs.Forest.{Place}
 use Rattle.tree.specs.Node.{Node, is_directory}
 use Rattle.tree.specs.Walk.{by_modes, walk}
 use Rattle.tree.specs.RowPlaces.{index_of}
-use Rattle.shell.specs.declared.Answer.{Answer}
+use Rattle.shell.specs.Replies.{Answer}
 use Rattle.shell.specs.CommandBytes.{Carries, CarriesSilently}
 use Rattle.store.specs.State.{state_of}
 use Rattle.machine.specs.Machine.{commit_found, run_commit}

@@ -1,11 +1,13 @@
 -- One row of a directory's commit, and what `commit` finds at a path: on a tree's bytes and on a store's.
-use Rattle.std.specs.Prelude.{◌≡◌, List, cond, ℕ, suc, ◌+◌}
+use Rattle.std.specs.Prelude.{◌≡◌, List, cond, ℕ, suc, ◌+◌, Ok, Err}
+use Rattle.std.specs.Prelude as code
 use Rattle.std.proofs.Math.Option.{some}
 use Rattle.buffers.specs.Text.{Text}
 use Rattle.accounts.specs.declared.Account.{Account}
 use Rattle.syntax.specs.Path.{Path, path}
+use Rattle.tree.specs.declared.Cause.{Cause}
 use Rattle.tree.specs.declared.Cause.TheVariants.{Access}
-use Rattle.tree.specs.Result.{Result, refused, done, ◌>>=◌, ◌>>◌, require}
+use Rattle.tree.specs.Result.{Result, outcome, done, ◌>>=◌, ◌>>◌, require}
 use Rattle.tree.specs.Forest.{Place, place_at, size}
 use Rattle.tree.specs.Node.{Node, is_directory}
 use Rattle.tree.specs.Walk.{by_modes, walk}
@@ -13,12 +15,11 @@ use Rattle.tree.specs.RowPlaces.{index_of}
 use Rattle.shell.specs.CommandBytes.{bytes_after}
 use Rattle.store.specs.State.{State}
 use Rattle.stored_header.specs.Stored.{Stored, bytes_with}
-use Rattle.entries.specs.declared.Links.{Links}
-use Rattle.entries.specs.declared.Links.TheVariants
-use Rattle.entries.specs.EntrySteps.{commit_at, commit_steps, link_rows_from, links_told, FiledAt}
+use Rattle.entries.specs.declared.LinkRows.{LinkRows}
+use Rattle.entries.specs.EntrySteps.{commit_at, commit_steps, link_rows_from, FiledAt}
 use Rattle.directory_commits.specs.declared.Step.{Step}
 use Rattle.directory_commits.specs.declared.Found.{Found}
-use Rattle.directory_commits.specs.declared.Found.TheVariants.{File, Directory, Refused}
+use Rattle.directory_commits.specs.declared.Found.TheVariants.{File, Directory}
 
 -- ---- one row
 
@@ -32,9 +33,9 @@ pub record Stepped (person account : Account) (b : List ℕ) (t : Place Node) (p
   pub filed : FiledAt b t (commit_at person account t p d) r.filed b'
 
 -- how many files were committed
-unfoldable pub count_of : Links → ℕ
-count_of (TheVariants.To working entry above) = 1
-count_of (TheVariants.Refused cause) = 0
+unfoldable pub count_of : code.Result LinkRows Cause → ℕ
+count_of (Ok rows) = 1
+count_of (Err cause) = 0
 
 -- ---- in a store
 
@@ -59,7 +60,7 @@ with_tree s t = bytes_with s.setup (record { tree = t; registry = s.store.regist
 -- the row to go on at, the rows that a single commit of d links, and the store's bytes after it
 pub record StepIn (person account : Account) (b : List ℕ) (s : State) (p : Path) (i : ℕ) (d : Place Node) (r : Step) (b' : List ℕ) : Type 0 where
   pub next : r.next ≡ row_after person i d
-  pub links : links_told r.filed ≡ link_rows_from s.store.tree (commit_at person account s.store.tree p d)
+  pub links : outcome r.filed ≡ link_rows_from s.store.tree (commit_at person account s.store.tree p d)
   pub bytes : b' ≡ bytes_after (with_tree s) b (commit_steps person account s.store.tree p d)
 
 -- whichever place the row is
@@ -68,23 +69,13 @@ SteppedIn person account b i r b' = (s : State) (p : Path) (d : Place Node) → 
 
 -- ---- what is found at a path
 
-pub data RowFound : Type 0 where
-  file_at : ℕ → RowFound
-  directory_at : ℕ → RowFound
-
 -- the person's walk; a directory that is not readable 5
-unfoldable pub found_steps : Account → Place Node → Path → Result RowFound
+unfoldable pub found_steps : Account → Place Node → Path → Result Found
 found_steps person t w = do
   d ← walk (by_modes person) t w
   let i = index_of t w
-  cond (is_directory d.here.kind) (require ((by_modes person).readable d.here) Access >> done (directory_at i)) (done (file_at i))
-
--- what the code's answer means
-unfoldable pub found_told : Found → Result RowFound
-found_told (File i) = done (file_at i)
-found_told (Directory i) = done (directory_at i)
-found_told (Refused cause) = refused cause
+  cond (is_directory d.here.kind) (require ((by_modes person).readable d.here) Access >> done (Directory i)) (done (File i))
 
 -- whichever store's bytes these are, and whatever path the text reads as
-abbrev pub Finds : List ℕ → Account → Text → Found → Type 0
-Finds b person text r = (s : State) (w : Path) → Stored b s → path text ≡ some w → found_told r ≡ found_steps person s.store.tree w
+abbrev pub Finds : List ℕ → Account → Text → code.Result Found Cause → Type 0
+Finds b person text r = (s : State) (w : Path) → Stored b s → path text ≡ some w → outcome r ≡ found_steps person s.store.tree w

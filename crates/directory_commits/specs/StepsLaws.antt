@@ -1,7 +1,9 @@
 -- How the code of `commit` comes to what Steps says: the row to go on at, the rows and the step in a store whose tree is lent, and what a walk found.
-use Rattle.std.specs.Prelude.{◌≡◌, List, ◌++◌, Bool, true, ℕ, ◌+◌, ◌≤◌, length, take}
+use Rattle.std.specs.Prelude as code
+use Rattle.std.specs.Prelude.{refl, Ok, Err, is_ok, ◌≡◌, List, ◌++◌, Bool, true, ℕ, ◌+◌, ◌≤◌, length, take}
 use Rattle.std.proofs.Common.{sym, ◌∙◌, ap₂, arith, take-append-drop}
 use Rattle.std.proofs.Math.Path.{ap}
+use Rattle.std.specs.Int.{from_bool}
 use Rattle.std.proofs.Math.Bool.{false}
 use Rattle.std.proofs.Math.Numerals.{add-one}
 use Rattle.buffers.specs.Cases.{case}
@@ -31,10 +33,11 @@ use Rattle.store.specs.StoreBytes.{encode}
 use Rattle.stored_header.specs.Stored.{Stored}
 use Rattle.stored_header.specs.StoredLaws.{lent_tree, lent_is, lent_encodes, long_enough}
 use Rattle.stored_header.specs.LentLaws.{tree_back, back_is}
+use Rattle.entries.specs.declared.LinkRows.{LinkRows}
 use Rattle.entries.specs.EntrySteps.{commit_steps}
 use Rattle.directory_commits.specs.declared.Step.{Step}
-use Rattle.directory_commits.specs.declared.Found.TheVariants.{File, Directory, Refused}
-use Rattle.directory_commits.specs.Steps.{row_after, Stepped, RowIn, PlaceIn, with_tree, StepIn, found_steps, found_told}
+use Rattle.directory_commits.specs.declared.Found.TheVariants.{File, Directory}
+use Rattle.directory_commits.specs.Steps.{row_after, count_of, Stepped, RowIn, PlaceIn, with_tree, StepIn, found_steps}
 
 -- ---- the row to go on at
 
@@ -60,6 +63,12 @@ module _ (a : Account) {b : List ℕ} {t : Place Node} {p : Path} {i : ℕ} {d :
   pub row_passed : (by_modes a).readable (row_at b i).here ≡ false → end_of_subtree (all_rows b) i ≡ row_after a i d
   unfolding row_after
   row_passed e = at_end at ∙ rw (readable_here e)
+
+-- one for rows that were linked, none for a refusal
+pub counted : (r : code.Result LinkRows Cause) {linked : Bool} {n : ℕ} → linked ≡ is_ok r → n ≡ from_bool linked → (n ≡ count_of r) × (n ≤ 1)
+unfolding count_of
+counted (Ok rows) l e = rw (e, l) (refl, omega arith)
+counted (Err cause) l e = rw (e, l) (refl, omega arith)
 
 -- ---- in a store
 
@@ -91,22 +100,22 @@ stepped_in person account {s = s} {p = p} {d = d} h f = record {
 
 module _ (a : Account) (t : Place Node) (w : Path) where
   -- no walk
-  pub not_found : {k : Cause} → walk (by_modes a) t w ≡ refused k → found_told (Refused k) ≡ found_steps a t w
-  unfolding found_steps found_told
+  pub not_found : {k : Cause} → walk (by_modes a) t w ≡ refused k → refused k ≡ found_steps a t w
+  unfolding found_steps
   not_found e = rw (e, refused_bind)
 
   module _ {b : List ℕ} {row above : ℕ} (c : Came b t w (walk (by_modes a) t w) row above) where
     -- a file at the row
-    pub file_found : (row_at b row).here.kind ≡ TheVariants.File → found_told (File row) ≡ found_steps a t w
-    unfolding found_steps found_told
+    pub file_found : (row_at b row).here.kind ≡ TheVariants.File → done (File row) ≡ found_steps a t w
+    unfolding found_steps
     file_found k = rw (c.walked, done_bind, ← at_here c.at, k, file_is_none, c.at.row)
 
     module _ (k : (row_at b row).here.kind ≡ TheVariants.Directory) where
       -- a directory that is readable, and one that is not
-      pub directory_found : (by_modes a).readable (row_at b row).here ≡ true → found_told (Directory row) ≡ found_steps a t w
-      unfolding found_steps found_told
+      pub directory_found : (by_modes a).readable (row_at b row).here ≡ true → done (Directory row) ≡ found_steps a t w
+      unfolding found_steps
       directory_found e = rw (c.walked, done_bind, ← at_here c.at, k, directory_is_one, e, require_true, done_then, c.at.row)
 
-      pub directory_shut : (by_modes a).readable (row_at b row).here ≡ false → found_told (Refused Access) ≡ found_steps a t w
-      unfolding found_steps found_told
+      pub directory_shut : (by_modes a).readable (row_at b row).here ≡ false → refused Access ≡ found_steps a t w
+      unfolding found_steps
       directory_shut e = rw (c.walked, done_bind, ← at_here c.at, k, directory_is_one, e, require_false, refused_then)

@@ -6,9 +6,9 @@ ghost use Rattle.directory_commits.specs.Commits.{DirectoryRow, BelowDone};
 use crate::Step;
 use crate::row::commit_step;
 use accounts::{Account, Caller};
-use entries::Links;
+use entries::LinkRows;
 use store::HEADER;
-use tree::subtree_end;
+use tree::{Cause, subtree_end};
 
 // Where the rows below a row end.
 fn end_in(store: &[u8], row: usize) -> usize
@@ -27,17 +27,10 @@ pub fn step_in(store: &mut [u8], person: Account, account: Account, row: usize) 
 }
 
 // How many files a step committed.
-fn committed(filed: Links) -> usize
+fn committed(filed: Result<LinkRows, Cause>) -> usize
     ensures { (result ≡ count_of filed) × (result ≤ 1) }
 {
-    match filed {
-        Links::To {
-            working: _,
-            entry: _,
-            above: _,
-        } => 1,
-        Links::Refused(_) => 0,
-    }
+    usize::from(filed.is_ok())
 }
 
 // Commits the files below the directory at a row, and tells how many.
@@ -49,10 +42,10 @@ pub fn commit_below(store: &mut [u8], caller: Caller, account: Account, row: usi
     let end = end_in(store, row);
     let mut at = row + 1;
     let mut count: usize = 0;
+    // No `for`: each step tells the row to go on at.
     while at < end {
         let step = step_in(store, person, account, at);
-        let filed = step.filed;
-        count += committed(filed);
+        count += committed(step.filed);
         at = step.next;
     }
     count

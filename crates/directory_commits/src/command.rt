@@ -8,7 +8,6 @@ use crate::Found;
 use crate::below::{commit_below, step_in};
 use crate::finding::found_in;
 use accounts::{Account, Caller};
-use entries::Links;
 use shell::Answer;
 use syntax::write_decimal;
 
@@ -25,7 +24,7 @@ fn commit_directory(
     ensures { DirectoryDone caller account store.old row answer.old result store.new answer.new }
 {
     let n = commit_below(store, caller, account, row);
-    Answer::Text(write_decimal(answer, 0, n))
+    Ok(Some(write_decimal(answer, 0, n)))
 }
 
 // The file at a row.
@@ -34,15 +33,8 @@ fn commit_file(store: &mut [u8], caller: Caller, account: Account, row: usize) -
     ensures { FileDone caller account store.old row result store.new }
 {
     let step = step_in(store, caller.account, account, row);
-    let filed = step.filed;
-    match filed {
-        Links::To {
-            working: _,
-            entry: _,
-            above: _,
-        } => Answer::Done,
-        Links::Refused(cause) => Answer::Refused(cause),
-    }
+    step.filed?;
+    Ok(None)
 }
 
 // `commit,w`: of a file, or of all files below a directory that the person may read.
@@ -58,9 +50,8 @@ pub fn commit(
     requires in_bounds { 4096 ≤ length answer.old }
     ensures { CommitDone caller account working.now store.old answer.old result store.new answer.new }
 {
-    match found_in(store, caller.account, working) {
+    match found_in(store, caller.account, working)? {
         Found::File(row) => commit_file(store, caller, account, row),
         Found::Directory(row) => commit_directory(store, caller, account, row, answer),
-        Found::Refused(cause) => Answer::Refused(cause),
     }
 }

@@ -7,7 +7,7 @@ mod finding;
 mod row;
 
 pub use command::commit;
-use entries::Links;
+use entries::LinkRows;
 pub use row::commit_step;
 use tree::Cause;
 
@@ -15,13 +15,12 @@ use tree::Cause;
 #[derive(Clone, Copy)]
 pub struct Step {
     pub next: usize,
-    pub filed: Links,
+    pub filed: Result<LinkRows, Cause>,
 }
 
-// What `commit` is asked for: the row of a file, or of a directory that the person may read; or why it is refused.
-#[derive(Clone, Copy)]
+// What `commit` is asked for: the row of a file, or of a directory that the person may read.
+#[derive(Clone, Copy, PartialEq, Eq, Debug)]
 pub enum Found {
     File(usize),
     Directory(usize),
-    Refused(Cause),
 }

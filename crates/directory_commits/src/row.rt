@@ -17,12 +17,8 @@ fn row_after(tree: &[u8], person: Account, row: usize) -> usize
 {
     match kind_at(tree, row) {
         Kind::File => row + 1,
-        Kind::Directory => {
-            if readable_at(tree, row, person) {
-                return row + 1;
-            }
-            subtree_end(tree, row)
-        }
+        Kind::Directory if readable_at(tree, row, person) => row + 1,
+        Kind::Directory => subtree_end(tree, row),
     }
 }
 

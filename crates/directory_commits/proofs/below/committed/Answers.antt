@@ -1,12 +1,6 @@
 -- `directory_commits::below::committed` meets its contract: one for rows that were linked, none for a refusal.
-use native.Mathlib.Omega.{arith}
-use Rattle.directory_commits.specs.Steps.{count_of}
+use Rattle.directory_commits.specs.StepsLaws.{counted}
 use Rattle.directory_commits.proofs.below.committed.Goals as goal
 
-pub returns-in-To : goal.returns-in-To
-unfolding count_of
-returns-in-To c = (rw c.in-To.is, omega arith)
-
-pub returns-in-Refused : goal.returns-in-Refused
-unfolding count_of
-returns-in-Refused c = (rw c.in-Refused.is, omega arith)
+pub returns : goal.returns
+returns c = counted c.args.filed c.is_ok.ensures.value c.from.ensures

@@ -1,4 +1,5 @@
 -- `directory_commits::command::commit` meets its contract: what was found at the path decides, and each case is the command from there on.
+use Rattle.std.proofs.Common.{refl, ap, Ok}
 use Rattle.directory_commits.specs.CommandLaws.{commit_refused, file_row, file_commits, directory_of, directory_commits}
 use Rattle.directory_commits.proofs.command.commit.Goals as goal
 
@@ -8,30 +9,30 @@ found_in-requires c = record {
   path_text = c.requires.path_text;
 }
 
+pub returns-in_err-row : goal.returns-in_err-row
+returns-in_err-row c w e j h =
+    commit_refused j h w (c.in_err-row.ensures _ w h e) refl c.from_residual.ensures.1 c.args.answer.now
+
 pub commit_file-requires : goal.commit_file-requires
 commit_file-requires c =
     let j = c.requires.acts_in in
     let w = c.requires.path_text in
-    file_row j.0 j.1 w.0 (c.found_in.ensures _ w.0 j.1 w.1) c.in-File.is
+    file_row j.0 j.1 w.0 (c.in_ok-row.ensures _ w.0 j.1 w.1) (ap Ok c.in-File.is)
 
 pub commit_directory-requires : goal.commit_directory-requires
 commit_directory-requires c =
     let j = c.requires.acts_in in
     let w = c.requires.path_text in
     record {
-      directory_row = directory_of j.0 j.1 w.0 (c.found_in.ensures _ w.0 j.1 w.1) c.in-Directory.is;
+      directory_row = directory_of j.0 j.1 w.0 (c.in_ok-row.ensures _ w.0 j.1 w.1) (ap Ok c.in-Directory.is);
       in_bounds = c.requires.in_bounds;
     }
 
 pub returns-in-File : goal.returns-in-File
 returns-in-File c w e j h =
-    file_commits j h w (c.found_in.ensures _ w h e) c.in-File.is
+    file_commits j h w (c.in_ok-row.ensures _ w h e) (ap Ok c.in-File.is)
     c.commit_file.ensures c.args.answer.now
 
 pub returns-in-Directory : goal.returns-in-Directory
 returns-in-Directory c w e j h =
-    directory_commits j h w (c.found_in.ensures _ w h e) c.in-Directory.is c.commit_directory.ensures
-
-pub returns-in-Refused : goal.returns-in-Refused
-returns-in-Refused c w e j h =
-    commit_refused j h w (c.found_in.ensures _ w h e) c.in-Refused.is c.args.answer.now
+    directory_commits j h w (c.in_ok-row.ensures _ w h e) (ap Ok c.in-Directory.is) c.commit_directory.ensures
