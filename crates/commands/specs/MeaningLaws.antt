@@ -4,7 +4,6 @@ use Rattle.std.proofs.Common.{sym, subst, ap, ◌∙◌}
 use Rattle.std.proofs.Math.Option.{Option, none, some, map}
 use Rattle.buffers.specs.Cases.{and_both}
 use Rattle.buffers.specs.Text.{Text}
-use Rattle.accounts.specs.declared.Uid.{Uid}
 use Rattle.accounts.specs.declared.Role.{Role}
 use Rattle.accounts.specs.Dominance.{BoundedRole}
 use Rattle.syntax.specs.declared.Span.{Span}

@@ -1,7 +1,7 @@
 -- Laws of the words of commands: the word that the code finds has the form that the listed forms give.
-use Rattle.std.specs.Prelude.{◌≡◌, refl, List, [], ◌∷◌, map, Bool, true, false, ℕ, ◌≤◌, leb, length, Option as Found, Some, None}
+use Rattle.std.specs.Prelude.{◌≡◌, refl, List, [], ◌∷◌, map, Bool, true, ◌≤◌, leb, length, Option as Found, Some, None}
 use Rattle.std.specs.List.{find}
-use Rattle.std.proofs.Common.{sym, ap, ◌∙◌, arith, leb-true}
+use Rattle.std.proofs.Common.{ap, arith, leb-true}
 use Rattle.std.proofs.Math.Option.{Option, none}
 use Rattle.buffers.specs.Cases.{case, and_both}
 use Rattle.buffers.specs.Text.{Text, same_text, every}

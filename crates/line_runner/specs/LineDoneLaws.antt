@@ -1,6 +1,6 @@
 -- What follows for a typed command where its paths are whole in its line or were made so in a second text, and where one would be too
 -- deep.
-use Rattle.std.specs.Prelude.{◌≡◌, List, true, false, ℕ, length}
+use Rattle.std.specs.Prelude.{◌≡◌, List, true, false, ℕ, length, Result as Told, Ok, Err}
 use Rattle.std.proofs.Common.{sym, ◌∙◌, ap}
 use Rattle.std.proofs.Math.Option.{some}
 use Rattle.buffers.specs.Text.{Text}
@@ -12,7 +12,7 @@ use Rattle.commands.specs.declared.Typed.{Typed}
 use Rattle.commands.specs.Command.{Command, TypedCommand}
 use Rattle.commands.specs.Parsed.{whole_meaning, TypedRead}
 use Rattle.commands.specs.Meaning.{TypedMeant}
-use Rattle.tree.specs.declared.Cause.TheVariants.{TooDeep}
+use Rattle.tree.specs.declared.Cause.{Cause}
 use Rattle.tree.specs.Result.{refused, done}
 use Rattle.tree.proofs.ResultLaws.{done_bind, refused_bind}
 use Rattle.shell.specs.declared.Answer.{Answer}
@@ -26,8 +26,6 @@ use Rattle.store.proofs.RegistryLaws.{working_directory_is_path}
 use Rattle.machine.specs.Machine.{run}
 use Rattle.machine.specs.StoreMachine.{store}
 use Rattle.stored_header.specs.Stored.{Stored, bytes_with}
-use Rattle.whole_paths.specs.declared.Whole.{Whole}
-use Rattle.whole_paths.specs.declared.Whole.TheVariants as w
 use Rattle.whole_paths.specs.WholeText.{text_width, any_short, whole_text, whole_or_deep}
 use Rattle.whole_paths.specs.WholeTextLaws.{unshort_done, deep_told, whole_told}
 use Rattle.line_runner.specs.LineDone.{WholeMeant, joins_and_runs}
@@ -66,11 +64,11 @@ module _ {b : List ℕ} {s : State} (h : Stored b s) (uid : Uid) {t : Text} {c :
   line_made e = made_of (unshort_done t c k e i m directory)
 
   -- with them in the second text, or one is too deep
-  module _ (d : Text) (same : d ≡ path_text directory) (x : List ℕ) (wide : length x ≡ text_width) {r : Whole} (told : r ≡ whole_or_deep d t c x) where
-    pub text_made : (y : Text) → y ≡ whole_text d t c x → {moved : Typed} → r ≡ w.In moved → MadeWhole directory k y moved
+  module _ (d : Text) (same : d ≡ path_text directory) (x : List ℕ) (wide : length x ≡ text_width) {r : Told Typed Cause} (told : r ≡ whole_or_deep d t c x) where
+    pub text_made : (y : Text) → y ≡ whole_text d t c x → {moved : Typed} → r ≡ Ok moved → MadeWhole directory k y moved
     text_made y left e = rw left (made_of (whole_told d directory (directory_reads h uid d same) t c i k m x wide (sym e ∙ told)))
 
-    pub text_too_deep : r ≡ w.TooDeep → whole_command directory k ≡ refused TooDeep
+    pub text_too_deep : {why : Cause} → r ≡ Err why → whole_command directory k ≡ refused why
     text_too_deep e = deep_told d directory (directory_reads h uid d same) t c i k m x wide (sym e ∙ told)
 
 -- ---- what is carried out
@@ -82,7 +80,7 @@ module _ (s : State) (c : Caller) (k : TypedCommand) where
       → Carries (bytes_with s.setup) (joins_and_runs s c k) b a r b' a'
   whole_carries l e f = rw (e, done_bind l (λ x. run store s.setup s.store c x)) f
 
-  -- a path that would be too deep is refused by 19
-  pub deep_carries : whole_command (working_directory c.account.uid s.store.registry) k ≡ refused TooDeep → (b a : List ℕ)
-      → Carries (bytes_with s.setup) (joins_and_runs s c k) b a (Refused TooDeep) b a
-  deep_carries e b a = refusal_follows b (rw e (refused_bind TooDeep (λ x. run store s.setup s.store c x))) a
+  -- what is refused as too deep is refused by 19
+  pub deep_carries : {why : Cause} → whole_command (working_directory c.account.uid s.store.registry) k ≡ refused why → (b a : List ℕ)
+      → Carries (bytes_with s.setup) (joins_and_runs s c k) b a (Refused why) b a
+  deep_carries {why} e b a = refusal_follows b (rw e (refused_bind why (λ x. run store s.setup s.store c x))) a

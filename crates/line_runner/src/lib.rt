@@ -12,7 +12,7 @@ use runner::run_command;
 use shell::Answer;
 use stored_header::directory_in;
 use tree::Cause;
-use whole_paths::{TEXT, Whole, any_short, make_whole};
+use whole_paths::{TEXT, any_short, make_whole};
 
 // A command whose paths are whole in a text.
 fn run_whole(
@@ -50,8 +50,8 @@ fn run_short(
     let mut text = [0u8; TEXT];
     let account = caller.account;
     match make_whole(directory_in(store, account.uid), line, typed, &mut text) {
-        Whole::In(moved) => run_whole(store, caller, &text, moved, answer),
-        Whole::TooDeep => Answer::Refused(Cause::TooDeep),
+        Ok(moved) => run_whole(store, caller, &text, moved, answer),
+        Err(why) => Answer::Refused(why),
     }
 }
 

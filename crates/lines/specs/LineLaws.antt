@@ -1,7 +1,7 @@
 -- Laws of a setup line: its form by its word, with two numbers and a password; the line that was told; and that a line told of a text
 -- is told of a longer one.
 use Rattle.std.specs.Prelude.{◌≡◌, refl, List, [], ◌∷◌, ◌++◌, true, false, ℕ, ◌+◌, ◌-◌, ◌%◌, ◌≤◌, ◌<◌, length, take, drop, get_or, Option as Found, Some, None}
-use Rattle.std.proofs.Common.{sym, ap, ◌∙◌, arith, ne_eqb, le-leb, length-append, length-drop, take-append-drop, length-take-le, take-add, drop_at, drop-cons}
+use Rattle.std.proofs.Common.{sym, ap, ◌∙◌, arith, ne_eqb, le-leb, length-append, length-drop, take-append-drop, length-take-le, take-add, drop_at}
 use Rattle.std.proofs.Math.Option.{Option, none, some, map}
 use Rattle.std.proofs.lemmas.Bool.{lt-leb}
 use Rattle.std.proofs.lemmas.List.{take-append-le, drop-append-le}
@@ -26,7 +26,7 @@ use Rattle.syntax.proofs.FieldLaws.{read_byte}
 use Rattle.syntax.specs.Path.{is_name}
 use Rattle.syntax.specs.Parts.{part, span_text, Inside, text_in}
 use Rattle.lines.specs.SetupLines.{LineOfSetup, p_line, g_line, r_line, l_line, longest_line, person_uid, person_or_root, person_gid, plain_role, setup_form, setup_forms, setup_line_of, setup_line}
-use Rattle.lines.specs.Line.{kind_form, line_form, both_between, line_told}
+use Rattle.lines.specs.Line.{kind_form, both_between, line_told}
 
 -- a word of one byte, and of another number of bytes
 pub one_byte : (w : Text) (b : ℕ) → length w ≡ 1 → get_or w 0 0 ≡ b → w ≡ b ∷ []

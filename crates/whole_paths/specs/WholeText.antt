@@ -1,6 +1,6 @@
 -- The second text of a command: its arguments once more, the working directory in front of short paths, and the command of which they are
 -- there.
-use Rattle.std.specs.Prelude.{List, [], ◌∷◌, ◌++◌, Bool, true, false, ◌&&◌, ◌||◌, not, cond, ℕ, ◌+◌, eqb, length, take}
+use Rattle.std.specs.Prelude.{List, [], ◌∷◌, ◌++◌, Bool, true, false, ◌&&◌, ◌||◌, not, cond, ℕ, ◌+◌, eqb, length, take, Result as Told, Ok, Err}
 use Rattle.std.proofs.Math.Option.{Option, none, some}
 use Rattle.buffers.specs.Text.{Text}
 use Rattle.buffers.specs.Over.{over}
@@ -13,10 +13,8 @@ use Rattle.arguments.specs.declared.ArgumentKind.TheVariants as a
 use Rattle.commands.specs.declared.Typed.{Typed}
 use Rattle.tree.specs.Result.{Result, refused, done}
 use Rattle.store.specs.HeaderLayout.{directory_width}
-use Rattle.whole_paths.specs.declared.Sought.{Sought}
-use Rattle.whole_paths.specs.declared.Sought.TheVariants.{Short, Deep}
-use Rattle.whole_paths.specs.declared.Whole.{Whole}
-use Rattle.whole_paths.specs.declared.Whole.TheVariants.{In, TooDeep}
+use Rattle.tree.specs.declared.Cause.{Cause}
+use Rattle.tree.specs.declared.Cause.TheVariants.{TooDeep}
 
 -- ---- one argument
 
@@ -53,11 +51,6 @@ is_short k x = is_path_kind k && not (begins_with_slash x)
 -- a path that does not read as one: behind the directory it has too many names
 unfoldable pub is_deep : ArgumentKind → Text → Bool
 is_deep k x = is_path_kind k && not (is_some (path x))
-
--- what is sought among paths
-unfoldable pub found : Sought → ArgumentKind → Text → Bool
-found Short = is_short
-found Deep = is_deep
 
 -- how much of a directory's text stands in front of a `/`: all, or nothing of `/` itself
 unfoldable pub front_length : Text → ℕ
@@ -137,8 +130,8 @@ module _ (d t : Text) (c : Typed) where
   whole_text b = over (part_width + part_width) third_text (over part_width second_text (over 0 first_text b))
 
   -- the code's answer
-  unfoldable pub whole_or_deep : List ℕ → Whole
-  whole_or_deep b = cond (any_deep (whole_text b) whole_typed) TooDeep (In whole_typed)
+  unfoldable pub whole_or_deep : List ℕ → Told Typed Cause
+  whole_or_deep b = cond (any_deep (whole_text b) whole_typed) (Err TooDeep) (Ok whole_typed)
 
 -- ---- what was done, if anything
 unfoldable pub made : {A : Type 0} → Result A → Option A

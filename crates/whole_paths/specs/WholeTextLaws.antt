@@ -1,6 +1,6 @@
 -- What callers go by: a typed command with no short path has its whole command in the line, and any other in the second text, unless a
 -- path there is too deep, and then it is refused so.
-use Rattle.std.specs.Prelude.{◌≡◌, List, [], ◌∷◌, ◌++◌, Bool, true, false, ◌||◌, ℕ, eqb, length, take, get_or}
+use Rattle.std.specs.Prelude.{◌≡◌, List, [], ◌∷◌, ◌++◌, Bool, true, false, ◌||◌, ℕ, eqb, length, take, get_or, Result as Told, Ok, Err}
 use Rattle.std.proofs.Math.Path.{refl, ap}
 use Rattle.std.proofs.Common.{sym, ◌∙◌, eqb-true}
 use Rattle.std.proofs.Math.Option.{none, some}
@@ -31,7 +31,6 @@ use Rattle.tree.specs.declared.Cause.TheVariants.{TooDeep}
 use Rattle.tree.specs.Result.{Result, refused, done}
 use Rattle.shell.specs.WholePaths.{whole_command}
 use Rattle.shell.proofs.WholePathsLaws.{whole_only_too_deep}
-use Rattle.whole_paths.specs.declared.Whole.TheVariants as answer
 use Rattle.whole_paths.specs.WholeText.{is_path_kind, is_short, is_deep, front_length, joined_text, argument_text, any_argument, any_short, any_deep, text_width, first_text, second_text, third_text, whole_typed, whole_text, whole_or_deep, made}
 use Rattle.whole_paths.specs.WrittenLaws.{short_written, text_written}
 use Rattle.whole_paths.specs.StandsLaws.{whole_inside, first_stands, second_stands, third_stands}
@@ -211,21 +210,24 @@ module _ (d : Text) (q : Path) (here : path d ≡ some q) where
     not_deep_done e = done_unless_deep written e
 
     -- so the code's answer tells
-    pub deep_told : answer.TooDeep ≡ whole_or_deep d t c b → whole_command q k ≡ refused TooDeep
+    pub deep_told : {why : Cause} → Err why ≡ whole_or_deep d t c b → whole_command q k ≡ refused why
     unfolding whole_or_deep
-    deep_told e = case (any_deep (whole_text d t c b) (whole_typed d t c)) deep_refused (λ h. differ (rw h at e))
+    deep_told {why} e = case (any_deep (whole_text d t c b) (whole_typed d t c)) (λ h. as_told (deep_refused h) (rw h at e)) (λ h. differ (rw h at e))
       where
-        differ : {P : Type 0} {m : Typed} → answer.TooDeep ≡ answer.In m → P
+        differ : {P : Type 0} {m : Typed} → ◌≡◌ {A = Told Typed Cause} (Err why) (Ok m) → P
         differ f = contra {b = true} refl (cc)
 
-    pub whole_told : {m : Typed} → answer.In m ≡ whole_or_deep d t c b
+        as_told : whole_command q k ≡ refused TooDeep → ◌≡◌ {A = Told Typed Cause} (Err why) (Err TooDeep) → whole_command q k ≡ refused why
+        as_told i f = let g : why ≡ TooDeep = cc in rw g i
+
+    pub whole_told : {m : Typed} → Ok m ≡ whole_or_deep d t c b
         → (l : Command) × (whole_command q k ≡ done l) × (whole_meaning (whole_text d t c b) m ≡ some l)
     unfolding whole_or_deep
     whole_told {m} e = case (any_deep (whole_text d t c b) (whole_typed d t c)) (λ h. differ (rw h at e)) (λ h. as_told (not_deep_done h) (rw h at e))
       where
-        differ : {P : Type 0} → answer.In m ≡ answer.TooDeep → P
+        differ : {P : Type 0} → ◌≡◌ {A = Told Typed Cause} (Ok m) (Err TooDeep) → P
         differ f = contra {b = true} refl (cc)
 
-        as_told : (l : Command) × (whole_command q k ≡ done l) × (whole_meaning (whole_text d t c b) (whole_typed d t c) ≡ some l) → answer.In m ≡ answer.In (whole_typed d t c)
+        as_told : (l : Command) × (whole_command q k ≡ done l) × (whole_meaning (whole_text d t c b) (whole_typed d t c) ≡ some l) → ◌≡◌ {A = Told Typed Cause} (Ok m) (Ok (whole_typed d t c))
             → (l : Command) × (whole_command q k ≡ done l) × (whole_meaning (whole_text d t c b) m ≡ some l)
         as_told i f = let g : m ≡ whole_typed d t c = cc in (i.0, i.1, rw g i.2)

@@ -1,22 +1,19 @@
 // Which arguments are paths, which have a text, and which paths are short or too deep.
-ghost use Rattle.std.specs.Prelude.{◌≡◌};
+ghost use Rattle.std.specs.Prelude.{◌≡◌, Bool};
+ghost use Rattle.buffers.specs.Text.{Text};
 ghost use Rattle.syntax.specs.Path.{begins_with_slash};
 ghost use Rattle.commands.specs.Parsed.{TypedRead};
-ghost use Rattle.whole_paths.specs.WholeText.{is_path_kind, has_text, is_short, is_deep, found, any_argument, any_short, ArgumentsInside};
+ghost use Rattle.whole_paths.specs.WholeText.{is_path_kind, has_text, is_short, is_deep, any_argument, any_short, ArgumentsInside};
 
-use crate::Sought;
 use arguments::ArgumentKind;
-use commands::{Typed, part};
+use commands::Typed;
 use syntax::is_path;
 
 // Whether an argument of this kind is a path, which may be short; an entry path is always whole.
 fn is_path_kind(kind: ArgumentKind) -> bool
     ensures { result ≡ is_path_kind kind }
 {
-    match kind {
-        ArgumentKind::Path => true,
-        _ => false,
-    }
+    matches!(kind, ArgumentKind::Path)
 }
 
 // Whether one of this kind is a text; any other is its number.
@@ -51,7 +48,7 @@ pub fn is_short(kind: ArgumentKind, s: &[u8]) -> bool
 }
 
 // Whether an argument is a path that does not read as one: behind the directory it has too many names.
-fn is_deep(kind: ArgumentKind, s: &[u8]) -> bool
+pub fn is_deep(kind: ArgumentKind, s: &[u8]) -> bool
     ensures { result ≡ is_deep kind s.now }
 {
     if is_path_kind(kind) {
@@ -60,33 +57,21 @@ fn is_deep(kind: ArgumentKind, s: &[u8]) -> bool
     false
 }
 
-// Whether an argument is what is sought.
-fn is_found(sought: Sought, kind: ArgumentKind, s: &[u8]) -> bool
-    ensures { result ≡ found sought kind s.now }
-{
-    match sought {
-        Sought::Short => is_short(kind, s),
-        Sought::Deep => is_deep(kind, s),
-    }
-}
-
-// Whether one of a command's arguments is.
-pub fn any_found(sought: Sought, text: &[u8], typed: Typed) -> bool
-    requires { ArgumentsInside text.now typed }
-    ensures { result ≡ any_argument (found sought) text.now typed }
+// Whether one of a command's arguments passes a test of its kind and text.
+pub fn any_found<F: Fn(ArgumentKind, &[u8]) -> bool>(test: F, text: &[u8], typed: Typed) -> bool
+    requires inside { ArgumentsInside text.now typed }
+    requires callable { F.IsAlwaysCallable test }
+    ensures { (passes : ArgumentKind → Text → Bool) → ((k : ArgumentKind) (x : _) (r : Bool) → F.post test k x r → r ≡ passes k x.now) → result ≡ any_argument passes text.now typed }
 {
     let shape = typed.shape;
     let f = typed.fields;
-    let first = shape.first;
-    if is_found(sought, first, part(text, f.first)) {
+    if test(shape.first, f.first.of(text)) {
         return true;
     }
-    let second = shape.second;
-    if is_found(sought, second, part(text, f.second)) {
+    if test(shape.second, f.second.of(text)) {
         return true;
     }
-    let third = shape.third;
-    is_found(sought, third, part(text, f.third))
+    test(shape.third, f.third.of(text))
 }
 
 // Whether an argument of a command is a short path.
@@ -94,5 +79,5 @@ pub fn any_short(line: &[u8], typed: Typed) -> bool
     requires { TypedRead line.now typed }
     ensures { result ≡ any_short line.now typed }
 {
-    any_found(Sought::Short, line, typed)
+    any_found(is_short, line, typed)
 }

@@ -4,11 +4,12 @@ ghost use Rattle.commands.specs.Parsed.{TypedRead};
 ghost use Rattle.tree.specs.TreeBytes.{PathText};
 ghost use Rattle.whole_paths.specs.WholeText.{text_width, whole_typed, whole_text, whole_or_deep};
 
-use crate::kinds::any_found;
+use crate::PART;
+use crate::kinds::{any_found, is_deep};
 use crate::writing::place;
-use crate::{PART, Sought, Whole};
 use commands::Typed;
 use line_fields::Fields;
+use tree::Cause;
 
 // Writes a command's arguments, each into its own room, and tells the command of which they are now.
 fn write_arguments(directory: &[u8], line: &[u8], typed: Typed, text: &mut [u8]) -> Typed
@@ -46,8 +47,13 @@ fn write_arguments(directory: &[u8], line: &[u8], typed: Typed, text: &mut [u8])
     }
 }
 
-// The typed command whose paths are whole in the text, or that one would be too deep.
-pub fn make_whole(directory: &[u8], line: &[u8], typed: Typed, text: &mut [u8]) -> Whole
+// The typed command whose paths are whole in the text, unless one would be too deep.
+pub fn make_whole(
+    directory: &[u8],
+    line: &[u8],
+    typed: Typed,
+    text: &mut [u8],
+) -> Result<Typed, Cause>
     requires path_text { PathText directory.now }
     requires typed_read { TypedRead line.now typed }
     requires text_len { length text.old ≡ text_width }
@@ -55,8 +61,8 @@ pub fn make_whole(directory: &[u8], line: &[u8], typed: Typed, text: &mut [u8]) 
     ensures text_after { text.new ≡ whole_text directory.now line.now typed text.old }
 {
     let moved = write_arguments(directory, line, typed, text);
-    if any_found(Sought::Deep, text, moved) {
-        return Whole::TooDeep;
+    if any_found(is_deep, text, moved) {
+        return Err(Cause::TooDeep);
     }
-    Whole::In(moved)
+    Ok(moved)
 }

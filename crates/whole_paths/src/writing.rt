@@ -7,7 +7,6 @@ ghost use Rattle.whole_paths.specs.WholeText.{front_length, joined_text, argumen
 use crate::kinds::{has_text, is_short};
 use arguments::ArgumentKind;
 use buffers::write;
-use commands::part;
 use syntax::Span;
 
 // How many bytes of a directory's text stand in front of a `/`: all, or none of `/` itself.
@@ -67,6 +66,6 @@ pub fn place(
     ensures value { result ≡ span_from at (argument_text directory.now kind (span_text line.now span)) }
     ensures text_after { text.new ≡ over at (argument_text directory.now kind (span_text line.now span)) text.old }
 {
-    let end = write_argument(directory, kind, part(line, span), text, at);
+    let end = write_argument(directory, kind, span.of(line), text, at);
     Span { start: at, end }
 }

@@ -19,20 +19,20 @@ run_whole-requires c =
     let x = c.make_whole in
     let h = c.requires.some_store in
     let t = c.requires.some_typed in
-    let i = text_made h.1 c.args.caller.account.uid t.meant t.read d.result.now (d.ensures h.0 h.1) _ refl x.ensures.value _ x.ensures.text_after c.in-In.is in
+    let i = text_made h.1 c.args.caller.account.uid t.meant t.read d.result.now (d.ensures h.0 h.1) _ refl x.ensures.value _ x.ensures.text_after c.in-Ok.is in
     record { some_store = h; some_whole = (i.command, i.meant); in_bounds = c.requires.in_bounds; uid_bound = c.requires.uid_bound }
 
-pub returns-in-In : goal.returns-in-In
-returns-in-In c s k h m =
+pub returns-in-Ok : goal.returns-in-Ok
+returns-in-Ok c s k h m =
     let d = c.directory_in in
     let x = c.make_whole in
-    let i = text_made h c.args.caller.account.uid m c.requires.some_typed.read d.result.now (d.ensures s h) _ refl x.ensures.value _ x.ensures.text_after c.in-In.is in
+    let i = text_made h c.args.caller.account.uid m c.requires.some_typed.read d.result.now (d.ensures s h) _ refl x.ensures.value _ x.ensures.text_after c.in-Ok.is in
     whole_carries s c.args.caller k i.command i.is_whole (c.run_whole.ensures s i.command h i.meant)
 
-pub returns-in-TooDeep : goal.returns-in-TooDeep
-returns-in-TooDeep c s k h m =
+pub returns-in-Err : goal.returns-in-Err
+returns-in-Err c s k h m =
     let d = c.directory_in in
     let x = c.make_whole in
     deep_carries s c.args.caller k
-    (text_too_deep h c.args.caller.account.uid m c.requires.some_typed.read d.result.now (d.ensures s h) _ refl x.ensures.value c.in-TooDeep.is)
+    (text_too_deep h c.args.caller.account.uid m c.requires.some_typed.read d.result.now (d.ensures s h) _ refl x.ensures.value c.in-Err.is)
     c.args.store.now c.args.answer.now

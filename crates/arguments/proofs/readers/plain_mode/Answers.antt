@@ -1,5 +1,5 @@
 -- `arguments::readers::plain_mode` meets its contract: of a mode that was read, set-gid decides.
-use Rattle.std.proofs.Common.{◌≡◌, ℕ, Bool, not, Option, Some, None, MatchOption, sym, ap, ◌∙◌, rules, tests}
+use Rattle.std.proofs.Common.{◌≡◌, ℕ, Bool, not, Option, Some, None, MatchOption, ap, ◌∙◌, rules, tests}
 use Rattle.std.specs.Bool.{then_some}
 use Rattle.buffers.specs.Cases.{case}
 use Rattle.buffers.specs.Options.{option_of}

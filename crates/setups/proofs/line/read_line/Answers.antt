@@ -1,7 +1,6 @@
 -- `setups::line::read_line` meets its contract: `end`, a line of each kind, or one of no form.
 use Rattle.std.specs.Prelude.{Some}
 use mathlib.Core.Path.{refl, sym, ap, ◌∙◌}
-use native.Mathlib.Omega.{arith}
 use Rattle.syntax.specs.Pieces.{bytes}
 use Rattle.syntax.specs.Parts.{part, span_text}
 use Rattle.setup.proofs.SetupLaws.{p_range, g_range, l_range}
