@@ -13,7 +13,7 @@ use Rattle.syntax.specs.Path.{Path, EntryPath, path, entry_path}
 use Rattle.commands.specs.declared.EntryCommand.{EntryCommand as EntryParts}
 use Rattle.commands.specs.Command.{EntryAction}
 use Rattle.commands.specs.Meaning.{EntryMeans}
-use Rattle.shell.specs.declared.Answer.{Answer}
+use Rattle.shell.specs.Replies.{Answer}
 use Rattle.shell.specs.CommandBytes.{Carries, CarriesSilently}
 use Rattle.store.specs.State.{state_of}
 use Rattle.header.specs.HeaderBytes.{session_held}

@@ -12,7 +12,7 @@ use Rattle.tree.specs.Result.{Result, Outcome}
 use Rattle.tree.specs.Forest.{Place}
 use Rattle.tree.specs.Node.{Node}
 use Rattle.tree.specs.TreeBytes.{Encodes}
-use Rattle.shell.specs.declared.Answer.{Answer}
+use Rattle.shell.specs.Replies.{Answer}
 use Rattle.shell.specs.CommandBytes.{CarriesSilently, FollowsSilently}
 use Rattle.store.specs.State.{state_of}
 use Rattle.header.specs.HeaderBytes.{session_held}

@@ -8,7 +8,7 @@ use Rattle.commands.specs.Command.{Command, TypedCommand, is_command}
 use Rattle.commands.specs.Parsed.{TypedRead, whole_meaning}
 use Rattle.commands.specs.Meaning.{TypedMeant}
 use Rattle.tree.specs.Result.{Result, ◌>>=◌, Outcome}
-use Rattle.shell.specs.declared.Answer.{Answer}
+use Rattle.shell.specs.Replies.{Answer}
 use Rattle.shell.specs.CommandBytes.{Carries}
 use Rattle.shell.specs.WholePaths.{whole_command}
 use Rattle.store.specs.State.{working_directory, Store, State}

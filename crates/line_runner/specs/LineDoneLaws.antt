@@ -15,7 +15,7 @@ use Rattle.commands.specs.Meaning.{TypedMeant}
 use Rattle.tree.specs.declared.Cause.{Cause}
 use Rattle.tree.specs.Result.{refused, done}
 use Rattle.tree.proofs.ResultLaws.{done_bind, refused_bind}
-use Rattle.shell.specs.declared.Answer.{Answer}
+use Rattle.shell.specs.Replies.{Answer}
 use Rattle.shell.specs.declared.Answer.TheVariants.{Refused}
 use Rattle.shell.specs.CommandBytes.{Carries}
 use Rattle.shell.proofs.CommandBytesLaws.{refusal_follows}

@@ -10,7 +10,7 @@ use Rattle.commands.specs.declared.ShellCommand.{ShellCommand as ShellParts}
 use Rattle.commands.specs.declared.EntryCommand.{EntryCommand as EntryParts}
 use Rattle.commands.specs.Command.{ShellAction, EntryAction, Command, shell}
 use Rattle.commands.specs.Meaning.{EntryMeans, ShellMeant, Meant}
-use Rattle.shell.specs.declared.Answer.{Answer}
+use Rattle.shell.specs.Replies.{Answer}
 use Rattle.shell.specs.CommandBytes.{Carries}
 use Rattle.store.specs.State.{State}
 use Rattle.header.specs.HeaderBytes.{session_held}

@@ -9,7 +9,7 @@ use Rattle.tree.proofs.ResultLaws.{bind_done, refused_bind, done_bind}
 use Rattle.tree.specs.Forest.{Place}
 use Rattle.tree.specs.Node.{Node}
 use Rattle.tree.specs.TreeBytes.{Encodes}
-use Rattle.shell.specs.declared.Answer.{Answer}
+use Rattle.shell.specs.Replies.{Answer}
 use Rattle.shell.specs.Steps.{run_shell}
 use Rattle.shell.specs.CommandBytes.{Carries, Follows}
 use Rattle.store.specs.State.{Store, State}

@@ -14,7 +14,8 @@ use Rattle.commands.specs.Command.{EntryAction, add, co, commit, up, del}
 use Rattle.tree.specs.declared.Cause.TheVariants.{NoSession}
 use Rattle.tree.specs.Result.{refused, done}
 use Rattle.tree.proofs.ResultLaws.{present_of, present_none, refused_bind}
-use Rattle.shell.specs.declared.Answer.TheVariants.{Refused}
+use Rattle.std.specs.Prelude.{Err}
+use Rattle.shell.specs.declared.Refusal.TheVariants.{For}
 use Rattle.store.specs.State.{State}
 use Rattle.header.specs.HeaderBytes.{session_held}
 use Rattle.header.specs.SessionBytesLaws.{role_is}
@@ -60,7 +61,7 @@ module _ {b : List ℕ} {s : State} (h : Stored b s) (c : Caller) where
   refused_without e (del p) = rw (no_session e) (refused_bind NoSession _)
 
   pub nobody_carries : (k : EntryAction) → nobody ≡ session_held held
-      → CarriesSilently (bytes_with s.setup) (run_entry store s.setup s.store c k) b (Refused NoSession) b
+      → CarriesSilently (bytes_with s.setup) (run_entry store s.setup s.store c k) b (Err (For NoSession)) b
   nobody_carries k e = refusal_follows b (refused_without (held_none held e) k)
 
   -- in one of a role it acts for the account that the rows tell of the role

@@ -7,7 +7,7 @@ ghost use Rattle.runner.specs.Runner.{HeldRole, SessionDone};
 use accounts::{Caller, Role, Session};
 use commands::EntryCommand;
 use entry_runner::entry_command;
-use shell::Answer;
+use shell::{Answer, Refusal};
 use stored_header::{dominance_in, session_in};
 use tree::Cause;
 
@@ -53,7 +53,7 @@ pub fn in_session(
 {
     let account = caller.account;
     match session_in(store, account.uid).0 {
-        None => Answer::Refused(Cause::NoSession),
+        None => Err(Refusal::For(Cause::NoSession)),
         Some(role) => as_role(store, caller, role, line, command, answer),
     }
 }
