@@ -21,7 +21,7 @@ use Rattle.setup.specs.Setup.{Setup}
 use Rattle.tree.specs.declared.Cause.{Cause}
 use Rattle.tree.specs.declared.Cause.TheVariants.{WrongKind}
 use Rattle.tree.specs.Result.{Result, outcome, refused, done, Outcome}
-use Rattle.tree.proofs.ResultLaws.{not_done, by_result, bind_done, refused_before, done_bind, refused_bind, refused_then, require_false}
+use Rattle.tree.proofs.ResultLaws.{outcome_ok, outcome_err, not_done, by_result, bind_done, refused_before, done_bind, refused_bind, refused_then, require_false}
 use Rattle.tree.proofs.GivesLaws.{done_with}
 use Rattle.tree.specs.Forest.{Place, size}
 use Rattle.tree.specs.Node.{Node, is_directory}
@@ -61,14 +61,14 @@ use Rattle.directory_commits.specs.Commits.{PlaceRow, DirectoryRow, CommitsBelow
 
 -- what the answer says of the count
 count_refused : (r : code.Result LinkRows Cause) {k : Cause} → outcome r ≡ refused k → count_of r ≡ 0
-unfolding outcome count_of
-count_refused (Ok s) e = not_done (sym e)
+unfolding count_of
+count_refused (Ok s) e = not_done (sym e ∙ outcome_ok s)
 count_refused (Err k) e = refl
 
 count_done : (r : code.Result LinkRows Cause) {l : LinkRows} → outcome r ≡ done l → count_of r ≡ 1
-unfolding outcome count_of
+unfolding count_of
 count_done (Ok s) e = refl
-count_done (Err k) e = not_done e
+count_done (Err k) e = not_done (sym (outcome_err k) ∙ e)
 
 module _ (person account : Account) (t : Place Node) (p : Path) (d : Place Node) where
   -- a directory is refused

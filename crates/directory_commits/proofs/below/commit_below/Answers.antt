@@ -22,9 +22,6 @@ pub step_in-step-requires : goal.step_in-step-requires
 step_in-step-requires c =
     turn_place c.requires (c.loop-at.invariant c.args.caller refl c.requires) (omega arith)
 
-pub committed-count-requires : goal.committed-count-requires
-committed-count-requires c = tt
-
 pub overflow_add-count : goal.overflow_add-count
 overflow_add-count c =
     let g = c.loop-at.invariant c.args.caller refl c.requires in
