@@ -13,10 +13,7 @@ pub fn asked_by(count: usize, first: &[u8]) -> Asked
     if count < 2 {
         return Asked::Run;
     }
-    if count > 2 {
-        return Asked::Wrong;
-    }
-    if same(first, b"--help") {
+    if count == 2 && same(first, b"--help") {
         return Asked::Help;
     }
     Asked::Wrong

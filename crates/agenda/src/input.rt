@@ -12,15 +12,15 @@ pub fn next_line(text: &[u8], at: usize, ended: bool) -> NextLine
     if at < text.len() {
         let end = piece_end(text, at, b'\n');
         if end < text.len() {
-            return NextLine::Line { end };
+            NextLine::Line { end }
+        } else if ended {
+            NextLine::Last
+        } else {
+            NextLine::More
         }
-        if ended {
-            return NextLine::Last;
-        }
-        return NextLine::More;
+    } else if ended {
+        NextLine::Nothing
+    } else {
+        NextLine::More
     }
-    if ended {
-        return NextLine::Nothing;
-    }
-    NextLine::More
 }

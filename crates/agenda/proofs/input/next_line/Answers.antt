@@ -24,9 +24,9 @@ returns-then-ended c =
     let p = c.piece_end-end in
     line_is_last a.text.now a.at p.result a.ended p.ensures.0 (omega arith) (omega arith) c.if-ended.true
 
-pub returns-then-at-text : goal.returns-then-at-text
+pub returns-else-ended : goal.returns-else-ended
 unfolding newline
-returns-then-at-text c =
+returns-else-ended c =
     let a = c.args in
     let p = c.piece_end-end in
     line_goes_on a.text.now a.at p.result a.ended p.ensures.0 (omega arith) c.if-ended.false
@@ -38,9 +38,9 @@ returns-then-ended-2 c =
     let t = a.text.now in
     line_is_none t a.at (a.at + piece_length newline (drop a.at t)) a.ended refl (omega arith) (omega arith) c.if-ended-2.true
 
-pub returns : goal.returns
+pub returns-else-ended-2 : goal.returns-else-ended-2
 unfolding newline
-returns c =
+returns-else-ended-2 c =
     let a = c.args in
     let t = a.text.now in
     line_goes_on t a.at (a.at + piece_length newline (drop a.at t)) a.ended refl (omega arith) c.if-ended-2.false
