@@ -28,7 +28,7 @@ use agenda::{
 use buffers::move_bytes;
 use failures::fail;
 use setups::{LineRead, begin_store, setup_line};
-use shell::Answer;
+use shell::{Answer, Refusal};
 use streams::{Stream, argument, argument_count, read, write_all};
 
 // Prints the first n bytes of a buffer, which are what is printed for a call, and answers whether all was printed; if not it says why.
@@ -110,7 +110,7 @@ fn refused(rt: &HostRuntime, at: Place, lines: usize, answer: &[u8], out: &mut [
     let n = refuse(lines + 1, answer, out);
     // A refusal is what is printed for a line that is answered so.
     let call = Call::Run { from: 0, end: 0 };
-    let wrong = Answer::WrongLine(lines + 1);
+    let wrong = Err(Refusal::WrongLine(lines + 1));
     let printed = print(rt, Stream::Output, out, n, call, wrong, answer);
     after_print(printed, false, at)
 }
