@@ -172,8 +172,7 @@ fn turn(
     }
 }
 
-// The whole program over its buffers. A proved loop has to end and an input need not, so this one counts down, from more
-// turns than any run uses.
+// The whole program over its buffers. A proved loop has to end and an input need not, so this one has more turns than any run uses.
 fn serve(rt: &HostRuntime, store: &mut [u8], window: &mut [u8], answer: &mut [u8], out: &mut [u8])
     requires { Wide (lent window.old store.old answer.old out.old) }
     ensures { Serves most_turns first_place (lent window.old (headed no_setup store.old) answer.old out.old)
@@ -187,9 +186,7 @@ fn serve(rt: &HostRuntime, store: &mut [u8], window: &mut [u8], answer: &mut [u8
         passing: false,
         phase: Phase::Setup { kind: 0, lines: 0 },
     };
-    let mut turns = u64::MAX;
-    while turns > 0 {
-        turns -= 1;
+    for _turn in 0..u64::MAX {
         match turn(rt, store, window, at, answer, out) {
             Step::On(then) => at = then,
             Step::Ended => return,
