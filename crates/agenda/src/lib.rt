@@ -72,7 +72,8 @@ pub enum Next {
     Over,
 }
 
-// What a turn comes to.
+// What a turn comes to. An enum of its own: as a Result of an Option the end would be `Ok(None)`, which says less, and nothing passes
+// a failure on by `?`.
 #[derive(Clone, Copy)]
 pub enum Step {
     // There is more to do, from this place on.

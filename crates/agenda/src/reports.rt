@@ -51,7 +51,8 @@ pub fn goes_on(call: Call, r: Answer) -> bool
     }
 }
 
-// What a turn that prints comes to, by whether its report was printed and whether there is more to do behind it.
+// What a turn that prints comes to, by whether its report was printed and whether there is more to do behind it. Two tests beside a
+// place, as `print_step` has them, of which theorems speak.
 #[tactic(auto, unfolding(crate::specs::Agenda::print_step))]
 pub fn after_print(printed: bool, more: bool, then: Place) -> Step
     ensures { result ≡ print_step printed more then }

@@ -9,7 +9,7 @@ ghost use Rattle.exports.specs.Exported.{value_told, HandedOver};
 
 use library::{listing, run, setup};
 use printing::number;
-use shell::Answer;
+use shell::{Answer, Refusal};
 
 // Where there is no value: so a done command without a text is told from one with an empty text.
 const NO_VALUE: u64 = 18446744073709551615;
@@ -18,26 +18,26 @@ const NO_VALUE: u64 = 18446744073709551615;
 const WRONG_SETUP: u32 = 17;
 
 // The number that an answer tells.
+#[tactic(auto, unfolding(shell::specs::Replies::told, tree::specs::Causes::wrong_setup))]
 fn number_of(r: Answer) -> u32
     ensures { result ≡ (told r).number }
 {
     match r {
-        Answer::Done => 0,
-        Answer::Text(_) => 0,
-        Answer::Refused(cause) => number(cause) as u32,
-        Answer::WrongLine(_) => WRONG_SETUP,
+        Ok(_) => 0,
+        Err(Refusal::For(cause)) => number(cause) as u32,
+        Err(Refusal::WrongLine(_)) => WRONG_SETUP,
     }
 }
 
 // The value beside it: a text's length, or the wrong line's number.
+#[tactic(auto, unfolding(shell::specs::Replies::told, crate::specs::Exported::value_told, crate::specs::Exported::no_value))]
 fn value_of(r: Answer) -> u64
     ensures { result ≡ value_told (told r).values }
 {
     match r {
-        Answer::Done => NO_VALUE,
-        Answer::Text(n) => n as u64,
-        Answer::Refused(_) => NO_VALUE,
-        Answer::WrongLine(n) => n as u64,
+        Ok(Some(n)) | Err(Refusal::WrongLine(n)) => n as u64,
+        Ok(None) => NO_VALUE,
+        Err(Refusal::For(_)) => NO_VALUE,
     }
 }
 

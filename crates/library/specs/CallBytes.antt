@@ -1,7 +1,6 @@
 -- What the code of a call promises: the answer and the lent bytes after it, put together as the specification's call has them.
 use Rattle.std.specs.Prelude.{List, ℕ}
-use Rattle.shell.specs.declared.Answer.{Answer}
-use Rattle.shell.specs.Replies.{told}
+use Rattle.shell.specs.Replies.{told, Answer}
 use Rattle.calls.specs.Calls.{SetUp, Called}
 
 -- what a setup answered, and the store's bytes after it

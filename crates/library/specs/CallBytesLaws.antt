@@ -2,7 +2,7 @@
 --
 -- In order: setup (unset-elsewhere, made-called); before a command or a listing (short-call, unsound-call, sound-call); a command
 -- carried out (carried-call) and a line of the listing written (line-called).
-use Rattle.std.specs.Prelude.{◌≡◌, List, ◌++◌, true, false, ℕ, ◌-◌, ◌≤◌, ◌<◌, length, take, drop, Ok, Err}
+use Rattle.std.specs.Prelude.{◌≡◌, List, ◌++◌, true, false, ℕ, ◌-◌, ◌≤◌, ◌<◌, length, take, drop, Ok, Err, Some, None}
 use Rattle.std.proofs.Math.Path.{refl, ap}
 use Rattle.std.proofs.Common.{sym, ◌∙◌, arith, length-drop, take_all}
 use Rattle.std.proofs.Math.Option.{none, some}
@@ -17,10 +17,8 @@ use Rattle.tree.specs.declared.Cause.TheVariants.{Missing, Unsound, ShortAnswer}
 use Rattle.tree.specs.Result.{Result, refused, done, ◌>>=◌, Outcome}
 use Rattle.tree.proofs.ResultLaws.{present_of, present_none, done_bind, refused_bind, done_then, refused_then, require_true, require_false}
 use Rattle.tree.specs.TreeBytes.{Encodes}
-use Rattle.shell.specs.declared.Answer.{Answer}
-use Rattle.shell.specs.declared.Answer.TheVariants.{Done, Refused, WrongLine}
-use Rattle.shell.specs.declared.Answer.TheVariants
-use Rattle.shell.specs.Replies.{reply, after, answer_of, written}
+use Rattle.shell.specs.declared.Refusal.TheVariants.{For, WrongLine}
+use Rattle.shell.specs.Replies.{reply, after, answer_of, written, Answer}
 use Rattle.shell.specs.CommandBytes.{bytes_after, Carries}
 use Rattle.store.specs.HeaderLayout.{header_width}
 use Rattle.store.specs.State.{Store, State}
@@ -38,8 +36,8 @@ use Rattle.library.specs.CallBytes.{set_up_as, called_as}
 
 -- the answer to a setup text that was read
 unfoldable pub setup_told : TextRead → Answer
-setup_told (Ok u) = Done
-setup_told (Err n) = WrongLine n.0
+setup_told (Ok u) = Ok None
+setup_told (Err n) = Err (WrongLine n.0)
 
 module _ (b : List ℕ) (text : Text) where
   -- what is made of a text is what the call says of its answer
@@ -49,7 +47,7 @@ module _ (b : List ℕ) (text : Text) where
   set_up_made (wrong_line n) = refl
 
   -- a buffer of another length is refused by 18
-  pub unset_elsewhere : (length b ≡ 65536 → ⊥) → set_up_as (Refused Unsound) b ≡ setup_call b text
+  pub unset_elsewhere : (length b ≡ 65536 → ⊥) → set_up_as (Err (For Unsound)) b ≡ setup_call b text
   unfolding setup_call store_width
   unset_elsewhere h = rw (ne_eqb (length b) 65536 h)
 
@@ -62,7 +60,7 @@ module _ (b : List ℕ) (text : Text) where
 
 module _ (b a : List ℕ) where
   -- what is refused leaves both buffers
-  pub refused_call : {r : Result (Outcome (List ℕ))} {k : Cause} → r ≡ refused k → called_as (Refused k) b a ≡ called b a r
+  pub refused_call : {r : Result (Outcome (List ℕ))} {k : Cause} → r ≡ refused k → called_as (Err (For k)) b a ≡ called b a r
   unfolding called answer_of written reply after
   refused_call e = rw e
 
@@ -94,9 +92,9 @@ carried_call u b a (done o) f = rw done_bind (λ i. called_as (f.tells i) (f.byt
 module _ (b a : List ℕ) (n : ℕ) (s : State) where
   -- a line of the listing in front of the answer buffer
   pub line_called : (x : Text) (m : ℕ) (a' : List ℕ) → get_elem? (listing s.store.tree) n ≡ some x → m ≡ length x → a' ≡ x ++ drop (length x) a
-      → called_as (TheVariants.Text m) b a' ≡ called b a (listing_on b n s)
+      → called_as (Ok (Some m)) b a' ≡ called b a (listing_on b n s)
   unfolding called reply after answer_of written listing_on
-  line_called x m a' e l q = rw (e, present_of, done_bind) (λ i. called_as (TheVariants.Text (l i)) b (q i))
+  line_called x m a' e l q = rw (e, present_of, done_bind) (λ i. called_as (Ok (Some (l i))) b (q i))
 
   -- past the last there is none
   pub no_listed_line : get_elem? (listing s.store.tree) n ≡ none → listing_on b n s ≡ refused Missing
@@ -106,11 +104,11 @@ module _ (b a : List ℕ) (n : ℕ) (s : State) where
 -- ---- a listing
 
 module _ (b a : List ℕ) (n : ℕ) where
-  pub listing_short : length a < 4096 → called_as (Refused ShortAnswer) b a ≡ listing_call b n a
+  pub listing_short : length a < 4096 → called_as (Err (For ShortAnswer)) b a ≡ listing_call b n a
   unfolding listing_call listing_result
   listing_short l = refused_call b a (short_call b a (listing_on b n) l)
 
-  pub listing_unsound : 4096 ≤ length a → is_some (decode b) ≡ false → called_as (Refused Unsound) b a ≡ listing_call b n a
+  pub listing_unsound : 4096 ≤ length a → is_some (decode b) ≡ false → called_as (Err (For Unsound)) b a ≡ listing_call b n a
   unfolding listing_call listing_result
   listing_unsound l e = refused_call b a (unsound_call b a (listing_on b n) l (is_none (decode b) e))
 

@@ -6,7 +6,7 @@ use Rattle.commands.specs.declared.Typed.{Typed}
 use Rattle.commands.specs.Command.{TypedCommand}
 use Rattle.commands.specs.Meaning.{TypedMeant}
 use Rattle.tree.specs.Result.{Result, ◌>>=◌, Outcome}
-use Rattle.shell.specs.declared.Answer.{Answer}
+use Rattle.shell.specs.Replies.{Answer}
 use Rattle.shell.specs.CommandBytes.{Carries}
 use Rattle.shell.specs.WholePaths.{whole_command}
 use Rattle.store.specs.State.{working_directory, Store, State}

@@ -1,5 +1,5 @@
 -- `run` where the code answers: at each refusal before the command, and where a command was carried out.
-use Rattle.std.specs.Prelude.{◌≡◌, List, false, ℕ, ◌≤◌, ◌<◌, length}
+use Rattle.std.specs.Prelude.{◌≡◌, List, false, ℕ, ◌≤◌, ◌<◌, length, Err}
 use Rattle.std.proofs.Common.{sym, ◌∙◌, ltb-true}
 use Rattle.std.proofs.Math.Path.{ap}
 use Rattle.std.proofs.Math.Option.{none, some}
@@ -12,8 +12,8 @@ use Rattle.commands.specs.Command.{TypedCommand, line}
 use Rattle.tree.specs.declared.Cause.TheVariants.{NoForm, UnknownCaller, Unsound, ShortAnswer}
 use Rattle.tree.specs.Result.{refused, done, ◌>>=◌}
 use Rattle.tree.proofs.ResultLaws.{present_of, present_none, done_bind, refused_bind}
-use Rattle.shell.specs.declared.Answer.{Answer}
-use Rattle.shell.specs.declared.Answer.TheVariants.{Refused}
+use Rattle.shell.specs.declared.Refusal.TheVariants.{For}
+use Rattle.shell.specs.Replies.{Answer}
 use Rattle.shell.specs.CommandBytes.{Carries}
 use Rattle.shell.proofs.CommandBytesLaws.{refusal_follows}
 use Rattle.store.specs.State.{State}
@@ -33,7 +33,7 @@ use Rattle.library.specs.CallerBytes.{calls_and_runs}
 module _ {b : List ℕ} {s : State} (h : Stored b s) (uid : Uid) where
   -- a number that the setup knows nobody by
   pub unknown_carries : (k : TypedCommand) (a : List ℕ) → refused UnknownCaller ≡ caller s.setup uid
-      → Carries (bytes_with s.setup) (calls_and_runs s uid k) b a (Refused UnknownCaller) b a
+      → Carries (bytes_with s.setup) (calls_and_runs s uid k) b a (Err (For UnknownCaller)) b a
   unknown_carries k a e = refusal_follows b (rw (← e) (refused_bind UnknownCaller _)) a
 
   -- a number that it knows somebody by, who is below 16
@@ -61,16 +61,16 @@ module _ (s : State) (t : Text) where
 -- ---- the call
 
 module _ (b a : List ℕ) (t : Text) where
-  pub run_short : length a < 4096 → called_as (Refused ShortAnswer) b a ≡ run_call b t a
+  pub run_short : length a < 4096 → called_as (Err (For ShortAnswer)) b a ≡ run_call b t a
   unfolding run_call run_result
   run_short l = refused_call b a (short_call b a (line_on t) l)
 
-  pub run_unsound : 4096 ≤ length a → is_some (decode b) ≡ false → called_as (Refused Unsound) b a ≡ run_call b t a
+  pub run_unsound : 4096 ≤ length a → is_some (decode b) ≡ false → called_as (Err (For Unsound)) b a ≡ run_call b t a
   unfolding run_call run_result
   run_unsound l e = refused_call b a (unsound_call b a (line_on t) l (is_none (decode b) e))
 
   module _ (s : State) (l : 4096 ≤ length a) (e : decode b ≡ some s) where
-    pub run_unformed : line t ≡ none → called_as (Refused NoForm) b a ≡ run_call b t a
+    pub run_unformed : line t ≡ none → called_as (Err (For NoForm)) b a ≡ run_call b t a
     unfolding run_call run_result
     run_unformed n = refused_call b a (sound_call b a (line_on t) s l e ∙ unformed_line s t n)
 

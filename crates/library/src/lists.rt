@@ -7,7 +7,7 @@ ghost use Rattle.library.specs.CallBytes.{called_as};
 
 use crate::LEAST_ROOM;
 use listing::write_line;
-use shell::Answer;
+use shell::{Answer, Refusal};
 use sound_store::holds_store;
 use store::HEADER;
 use tree::{Cause, count};
@@ -20,9 +20,9 @@ fn line_of(tree: &[u8], n: usize, answer: &mut [u8]) -> Answer
         → called_as result b answer.new ≡ called b answer.old (listing_on b n s) }
 {
     if count(tree) <= n {
-        return Answer::Refused(Cause::Missing);
+        return Err(Refusal::For(Cause::Missing));
     }
-    Answer::Text(write_line(tree, n, answer))
+    Ok(Some(write_line(tree, n, answer)))
 }
 
 // Line n of the listing, from 0, in front of the answer. It changes no store.
@@ -30,10 +30,10 @@ pub fn listing(store: &[u8], n: usize, answer: &mut [u8]) -> Answer
     ensures { called_as result store.now answer.new ≡ listing_call store.now n answer.old }
 {
     if answer.len() < LEAST_ROOM {
-        return Answer::Refused(Cause::ShortAnswer);
+        return Err(Refusal::For(Cause::ShortAnswer));
     }
     if !holds_store(store) {
-        return Answer::Refused(Cause::Unsound);
+        return Err(Refusal::For(Cause::Unsound));
     }
     line_of(&store[HEADER..], n, answer)
 }

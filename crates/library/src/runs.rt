@@ -9,9 +9,8 @@ ghost use Rattle.library.specs.CallerBytes.{CalledBy};
 use crate::LEAST_ROOM;
 use accounts::Uid;
 use commands::{CommandLine, Typed, parse};
-use header::Known;
 use line_runner::run_line;
-use shell::Answer;
+use shell::{Answer, Refusal};
 use sound_store::holds_store;
 use stored_header::caller_in;
 use tree::Cause;
@@ -24,8 +23,8 @@ fn by_caller(store: &mut [u8], uid: Uid, line: &[u8], typed: Typed, answer: &mut
     ensures { CalledBy uid line.now typed store.old answer.old result store.new answer.new }
 {
     match caller_in(store, uid) {
-        Known::Nobody => Answer::Refused(Cause::UnknownCaller),
-        Known::As(caller) => run_line(store, caller, line, typed, answer),
+        None => Err(Refusal::For(Cause::UnknownCaller)),
+        Some(caller) => run_line(store, caller, line, typed, answer),
     }
 }
 
@@ -34,13 +33,13 @@ pub fn run(store: &mut [u8], line: &[u8], answer: &mut [u8]) -> Answer
     ensures { called_as result store.new answer.new ≡ run_call store.old line.now answer.old }
 {
     if answer.len() < LEAST_ROOM {
-        return Answer::Refused(Cause::ShortAnswer);
+        return Err(Refusal::For(Cause::ShortAnswer));
     }
     if !holds_store(store) {
-        return Answer::Refused(Cause::Unsound);
+        return Err(Refusal::For(Cause::Unsound));
     }
     match parse(line) {
-        None => Answer::Refused(Cause::NoForm),
+        None => Err(Refusal::For(Cause::NoForm)),
         Some(CommandLine { caller, typed }) => by_caller(store, caller, line, typed, answer),
     }
 }

@@ -4,7 +4,7 @@ ghost use Rattle.calls.specs.Calls.{setup_call};
 ghost use Rattle.library.specs.CallBytes.{set_up_as};
 
 use setups::{WrongLine, make_store};
-use shell::Answer;
+use shell::{Answer, Refusal};
 use store::STORE;
 use tree::Cause;
 
@@ -13,10 +13,10 @@ pub fn setup(store: &mut [u8], text: &[u8]) -> Answer
     ensures { set_up_as result store.new ≡ setup_call store.old text.now }
 {
     if store.len() != STORE {
-        return Answer::Refused(Cause::Unsound);
+        return Err(Refusal::For(Cause::Unsound));
     }
     match make_store(store, text) {
-        Ok(()) => Answer::Done,
-        Err(WrongLine(number)) => Answer::WrongLine(number),
+        Ok(()) => Ok(None),
+        Err(WrongLine(number)) => Err(Refusal::WrongLine(number)),
     }
 }

@@ -16,7 +16,7 @@ use Rattle.tree.specs.declared.Cause.{Cause}
 use Rattle.tree.specs.Result.{refused, done}
 use Rattle.tree.proofs.ResultLaws.{done_bind, refused_bind}
 use Rattle.shell.specs.Replies.{Answer}
-use Rattle.shell.specs.declared.Answer.TheVariants.{Refused}
+use Rattle.shell.specs.declared.Refusal.TheVariants.{For}
 use Rattle.shell.specs.CommandBytes.{Carries}
 use Rattle.shell.proofs.CommandBytesLaws.{refusal_follows}
 use Rattle.shell.specs.WholePaths.{whole_command}
@@ -82,5 +82,5 @@ module _ (s : State) (c : Caller) (k : TypedCommand) where
 
   -- what is refused as too deep is refused by 19
   pub deep_carries : {why : Cause} → whole_command (working_directory c.account.uid s.store.registry) k ≡ refused why → (b a : List ℕ)
-      → Carries (bytes_with s.setup) (joins_and_runs s c k) b a (Refused why) b a
+      → Carries (bytes_with s.setup) (joins_and_runs s c k) b a (Err (For why)) b a
   deep_carries {why} e b a = refusal_follows b (rw e (refused_bind why (λ x. run store s.setup s.store c x))) a

@@ -49,10 +49,8 @@ fn run_short(
 {
     let mut text = [0u8; TEXT];
     let account = caller.account;
-    match make_whole(directory_in(store, account.uid), line, typed, &mut text) {
-        Ok(moved) => run_whole(store, caller, &text, moved, answer),
-        Err(why) => Answer::Refused(why),
-    }
+    let moved = make_whole(directory_in(store, account.uid), line, typed, &mut text)?;
+    run_whole(store, caller, &text, moved, answer)
 }
 
 // A command as its line has it.

@@ -1,5 +1,5 @@
 -- The program's buffers, and what its functions ask of them.
-use Rattle.std.specs.Prelude.{◌≡◌, List, ℕ, ◌≤◌, ◌<◌, ℤ, pos, negsuc, length}
+use Rattle.std.specs.Prelude.{◌≡◌, List, ℕ, ◌≤◌, ◌<◌, length, Option, Some, None}
 use Rattle.buffers.specs.Text.{Text}
 use Rattle.setups.specs.LineRead.{BegunStore}
 use Rattle.printing.specs.Printed.{in_front}
@@ -20,10 +20,10 @@ standard_output = Output
 abbrev pub standard_error : Stream
 standard_error = Error
 
--- what a read of at most n bytes answers: how many it gave, or -1
-abbrev pub Counted : ℕ → ℤ → Type 0
-Counted n (pos j) = j ≤ n
-Counted n (negsuc j) = j ≡ 0
+-- what a read of at most n bytes answers: how many it gave, or none where it failed
+abbrev pub Counted : ℕ → Option ℕ → Type 0
+Counted n (Some j) = j ≤ n
+Counted n None = Unit {0}
 
 -- what standard input is read into, the store, the library's answers, and what is printed
 pub record Buffers : Type 0 where

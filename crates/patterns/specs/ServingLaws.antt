@@ -1,5 +1,5 @@
 -- A run that came to its end, in which the reads gave the input, prints `transcript` of it.
-use Rattle.std.specs.Prelude.{◌≡◌, Bool, true, ℕ, suc, ◌+◌, ◌-◌, ltb, pos, drop}
+use Rattle.std.specs.Prelude.{◌≡◌, Bool, true, ℕ, suc, ◌+◌, ◌-◌, ltb, drop, Some}
 use Rattle.std.proofs.Math.Path.{refl, sym, ap, subst}
 use Rattle.std.proofs.Common.{◌∙◌, take-add, length-take-le}
 use mathlib.Core.List.{List, [], ◌++◌, append-nil, append_assoc}
@@ -211,7 +211,7 @@ module _ (at : Place) (s : Buffers) (u : Text) (h : Talking (at_talk at s u)) wh
         let x = d.0.behind in
         let q = go.2 in
         let w = d.0.holds in
-        let fits : ReadFits at (pos n) = subst (ReadFits at) go.1 d.0.fits in
+        let fits : ReadFits at (Some n) = subst (ReadFits at) go.1 d.0.fits in
         let wide : length (w₁ n x u₁) ≡ length s.window = sym (ap length w) ∙ d.0.long in
         let read : part (w₁ n x u₁) (at.to - at.from) ((at.to - at.from) + n) ++ u₁ ≡ u = rw (w, q) at took.bytes in
         rest_from q (d.1 ∙ ap (with_window s) w) refl (record {

@@ -1,6 +1,6 @@
 -- What a turn of the program does with its place and its buffers, and its turns one after another. Free are what `read` answers and leaves,
 -- and whether `write` prints what it is handed: each is named where it stands.
-use Rattle.std.specs.Prelude.{◌≡◌, List, ◌++◌, Bool, false, ℕ, zero, suc, ℤ, length, Option, Some, None}
+use Rattle.std.specs.Prelude.{◌≡◌, List, ◌++◌, Bool, false, ℕ, zero, suc, length, Option, Some, None}
 use Rattle.syntax.specs.Parts.{part}
 use Rattle.setup.specs.SetupStep.{setup_step}
 use Rattle.setups.specs.declared.LineRead.{LineRead}
@@ -19,7 +19,7 @@ use Rattle.patterns.specs.Buffers.{Buffers, with_window, with_store, with_report
 -- a read: those bytes that were left stand at the window's front
 pub record Reads (r : Step) (at : Place) (w w' : List ℕ) : Type 0 where
   -- what `read` answered, and what it left behind them
-  pub got : ℤ
+  pub got : Option ℕ
   pub behind : List ℕ
   pub leads : r ≡ read_step at got
   pub fits : ReadFits at got

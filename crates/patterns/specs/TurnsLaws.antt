@@ -1,5 +1,5 @@
 -- What a turn leaves: a place in the window from which the next may begin, and its report in front of the fourth buffer.
-use Rattle.std.specs.Prelude.{◌≡◌, refl, List, Bool, true, false, ℤ, pos, negsuc, length}
+use Rattle.std.specs.Prelude.{◌≡◌, refl, List, Bool, true, false, length, Option, Some, None}
 use Rattle.std.proofs.Common.{sym, arith}
 use Rattle.std.proofs.Math.Path.{ap, subst}
 use Prim.Native.Nat.{ℕ, suc, ◌≤◌}
@@ -58,11 +58,11 @@ last_leads p false then s = tt
 last_leads p true then s = tt
 
 -- behind a read
-read_leads : (at : Place) (got : ℤ) (s : Buffers) → PlaceHeld at (length s.window) → ReadFits at got → Ready at.phase s.store
+read_leads : (at : Place) (got : Option ℕ) (s : Buffers) → PlaceHeld at (length s.window) → ReadFits at got → Ready at.phase s.store
     → Leads at.phase (read_step at got) s
 unfolding read_step
-read_leads at (pos n) s h fits ready = (read_held at (length s.window) n h (omega (arith, fits, h.wide)), (ready, omega arith))
-read_leads at (negsuc n) s h fits ready = tt
+read_leads at (Some n) s h fits ready = (read_held at (length s.window) n h (omega (arith, fits, h.wide)), (ready, omega arith))
+read_leads at None s h fits ready = tt
 
 module _ (at : Place) (s : Buffers) (h : Held at s) where
   -- behind a setup line

@@ -28,7 +28,7 @@ use agenda::{
 use buffers::move_bytes;
 use failures::fail;
 use setups::{LineRead, begin_store, setup_line};
-use shell::Answer;
+use shell::{Answer, Refusal};
 use streams::{Stream, argument, argument_count, read, write_all};
 
 // Prints the first n bytes of a buffer, which are what is printed for a call, and answers whether all was printed; if not it says why.
@@ -110,7 +110,7 @@ fn refused(rt: &HostRuntime, at: Place, lines: usize, answer: &[u8], out: &mut [
     let n = refuse(lines + 1, answer, out);
     // A refusal is what is printed for a line that is answered so.
     let call = Call::Run { from: 0, end: 0 };
-    let wrong = Answer::WrongLine(lines + 1);
+    let wrong = Err(Refusal::WrongLine(lines + 1));
     let printed = print(rt, Stream::Output, out, n, call, wrong, answer);
     after_print(printed, false, at)
 }
@@ -173,8 +173,7 @@ fn turn(
     }
 }
 
-// The whole program over its buffers. A proved loop has to end and an input need not, so this one counts down, from more
-// turns than any run uses.
+// The whole program over its buffers. A proved loop has to end and an input need not, so this one has more turns than any run uses.
 fn serve(rt: &HostRuntime, store: &mut [u8], window: &mut [u8], answer: &mut [u8], out: &mut [u8])
     requires { Wide (lent window.old store.old answer.old out.old) }
     ensures { Serves most_turns first_place (lent window.old (headed no_setup store.old) answer.old out.old)
@@ -188,9 +187,7 @@ fn serve(rt: &HostRuntime, store: &mut [u8], window: &mut [u8], answer: &mut [u8
         passing: false,
         phase: Phase::Setup { kind: 0, lines: 0 },
     };
-    let mut turns = u64::MAX;
-    while turns > 0 {
-        turns -= 1;
+    for _turn in 0..u64::MAX {
         match turn(rt, store, window, at, answer, out) {
             Step::On(then) => at = then,
             Step::Ended => return,

@@ -22,15 +22,15 @@ pub fn write_all(rt: &HostRuntime, to: Stream, text: &[u8]) -> io::Result<()> {
     }
 }
 
-// Reads once from standard input: how many bytes, none only at its end, or -1 where that fails, and then it says why.
-pub fn read(rt: &HostRuntime, buffer: &mut [u8]) -> isize
+// Reads once from standard input: how many bytes, 0 only at its end; where that fails it says why.
+pub fn read(rt: &HostRuntime, buffer: &mut [u8]) -> Option<usize>
     ensures { Counted (length buffer.new) result }
 {
     match rt.stdin().read(buffer) {
-        Ok(n) => n as isize,
+        Ok(n) => Some(n),
         Err(why) => {
             fail(rt, "patterns: cannot read standard input", why);
-            -1
+            None
         }
     }
 }
@@ -39,10 +39,7 @@ pub fn read(rt: &HostRuntime, buffer: &mut [u8]) -> isize
 pub fn argument(rt: &HostRuntime, i: usize, buffer: &mut [u8]) -> usize
     ensures { result ≤ length buffer.new }
 {
-    match rt.arg(i, buffer) {
-        Ok(n) => n,
-        Err(_) => 0,
-    }
+    rt.arg(i, buffer).unwrap_or(0)
 }
 
 // How many arguments the program was started with, its own name among them; from 3 on it tells 3.

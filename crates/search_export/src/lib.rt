@@ -7,7 +7,7 @@ ghost use Rattle.search_export.specs.SearchCall.{is_used, number_told, place_tol
 
 use tree::{MOST_ROWS, TREE, count, search_child};
 
-// What the call answers: the child was found, it is missing, the bytes have no such row.
+// What the call answers, numbers since an enum does not pass to C: the child was found, it is missing, the bytes have no such row.
 const FOUND: u32 = 0;
 
 const MISSING: u32 = 1;

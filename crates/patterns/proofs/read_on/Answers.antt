@@ -1,34 +1,26 @@
 -- `patterns::read_on` meets its contract: what is left fits in front of the window, and what is read behind it.
-use mathlib.Core.Path.{◌≡◌, sym, ◌∙◌, ap, ap₂, subst}
+use mathlib.Core.Path.{◌≡◌, sym, ◌∙◌, ap, ap₂}
 use mathlib.Core.List.{List, ◌++◌}
 use Prim.Native.Nat.{ℕ, ◌-◌, ◌≤◌}
 use native.Mathlib.Nat.{zero-add}
+use Rattle.std.specs.Prelude.{Option, Some, None}
 use native.Mathlib.Omega.{arith}
-use lib.IntN.{ℤ, pos, negsuc}
 use lib.ListN.{length, take, drop, length-drop}
 use lib.Seq.{paste, take-paste, length-take-le}
-use mir.Syntax.{w64}
-use mir.Val.{SFits, to_z, of_z}
-use mir.Facts.{to_z-of_z, sfits_lit}
 use borrow.Rule.Slice.PartMut.{mid_of, post_of, put_mid, same_len_mid}
 use Rattle.syntax.specs.Parts.{part}
 use Rattle.agenda.specs.declared.Place.{Place}
-use Rattle.agenda.specs.Agenda.{PlaceHeld, ReadFits, read_step}
+use Rattle.agenda.specs.Agenda.{PlaceHeld, ReadFits}
 use Rattle.patterns.specs.Buffers.{Counted}
 use Rattle.patterns.proofs.read_on.Goals as goal
 
 -- what is read fits behind what is left
 read_fits : (at : Place) (m : List ℕ) (n : ℕ) → PlaceHeld at n → length m ≡ n → (k : ℕ) → k ≡ length (mid_of (at.to - at.from) (length m - (at.to - at.from)) m)
-    → (z : ℤ) → Counted k z → ReadFits at z
-read_fits at m n h e b q (pos j) counted =
+    → (got : Option ℕ) → Counted k got → ReadFits at got
+read_fits at m n h e b q (Some j) counted =
     let k = at.to - at.from in
     omega (arith, e, q, h.wide, h.within, counted, length-drop k m, length-take-le (length m - k) (drop k m) (omega (arith, length-drop k m)))
-read_fits at m n h e b q (negsuc j) counted = tt
-
--- so the machine reads back what was answered
-fits_back : (at : Place) (k : ℕ) (z : ℤ) → Counted k z → ReadFits at z → SFits w64 z
-fits_back at k (pos j) counted h = record { sfits = omega (arith, h) }
-fits_back at k (negsuc j) counted h = subst (λ (i : ℕ). SFits w64 (negsuc i)) (sym counted) (sfits_lit tt)
+read_fits at m n h e b q None counted = tt
 
 -- the bytes that were moved stay in front
 in_front : (w m r : List ℕ) (from to : ℕ) → from ≤ to → to ≤ length w → m ≡ paste w 0 (drop from w) (to - from)
@@ -47,11 +39,10 @@ returns c =
     let r = c.read-got in
     let k = a.to - a.from in
     let f = read_fits a m.new.b (length w) c.requires m.auto.b (length r.new.buffer) r.auto.buffer r.result r.ensures in
-    let back : to_z w64 (of_z w64 r.result) ≡ r.result = to_z-of_z (fits_back a (length r.new.buffer) r.result r.ensures f) in
     record {
       got = r.result;
       behind = r.new.buffer ++ post_of k (length m.new.b - k) m.new.b;
-      leads = c.read_step.ensures ∙ ap (read_step a) back;
+      leads = c.read_step.ensures;
       fits = f;
       holds = in_front w m.new.b r.new.buffer a.from a.to c.requires.ordered c.requires.within m.ensures;
       long = same_len_mid k (length m.new.b - k) m.new.b r.new.buffer r.auto.buffer ∙ m.auto.b;

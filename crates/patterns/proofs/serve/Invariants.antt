@@ -1,6 +1,6 @@
--- What the loop of `patterns::serve` keeps: the place stays in the window, all buffers keep their lengths, and the turns fall.
+-- What the loop of `patterns::serve` keeps: the place stays in the window, all buffers keep their lengths, and the turns so far chain on.
 use mathlib.Core.Path.{◌≡◌}
-use Prim.Native.Nat.{ℕ, ◌+◌, ◌≤◌}
+use Prim.Native.Nat.{ℕ, ◌-◌, ◌≤◌}
 use lib.ListN.{length}
 use Rattle.agenda.specs.declared.Place.{Place}
 use Rattle.agenda.specs.Agenda.{PlaceHeld}
@@ -16,17 +16,15 @@ pub record SameLengths (s₀ s : Buffers) : Type 0 where
   pub answers : length s.answer ≡ length s₀.answer
   pub outs : length s.out ≡ length s₀.out
 
-pub record Serving (s₀ s : Buffers) (at : Place) (turns : ℕ) : Type 0 where
+-- after so many turns
+pub record Serving (s₀ s : Buffers) (at : Place) (turn : ℕ) : Type 0 where
   pub long : SameLengths s₀ s
   pub placed : PlaceHeld at (length s.window)
   pub answering : Answering s.answer
   pub reporting : Reporting s.out
   pub ready : Ready at.phase s.store
-  pub counted : lines_at at.phase + turns ≤ 18446744073709551615
-  pub chain : {s' : Buffers} → Serves turns at s s' → Serves most_turns first_place s₀ s'
+  pub counted : lines_at at.phase ≤ turn
+  pub chain : {s' : Buffers} → Serves (most_turns - turn) at s s' → Serves most_turns first_place s₀ s'
 
-abbrev pub invariant-loop-turns : goal.invariant-loop-turns
-invariant-loop-turns l = let i = l.initial in Serving (lent i.window i.store i.answer i.out) (lent l.window l.store l.answer l.out) l.at l.turns
-
-abbrev pub decreases-loop-turns : goal.decreases-loop-turns
-decreases-loop-turns l = l.turns
+abbrev pub invariant-loop-turn : goal.invariant-loop-turn
+invariant-loop-turn l = let i = l.initial in Serving (lent i.window i.store i.answer i.out) (lent l.window l.store l.answer l.out) l.at l._turn

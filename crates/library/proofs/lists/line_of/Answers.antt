@@ -14,9 +14,6 @@ returns-then-count-n c = λ s b e.
     let n = c.args.n in
     refused_call b a (no_listed_line b a n s (no_line s.store.tree n (omega (arith, encoded_count e, c.count.ensures, c.if-count-n.true))))
 
-pub shape_of-answer : goal.shape_of-answer
-shape_of-answer c = c.write_line.auto.answer
-
 pub returns : goal.returns
 returns c = λ s b e.
     let w = c.write_line.ensures s.store.tree e in

@@ -11,9 +11,6 @@ returns-then-answer-lt-LEAST_ROOM c =
     let d = c.args in
     listing_short d.store.now d.answer.now d.n (omega (arith, c.if-answer-lt-LEAST_ROOM.true))
 
-pub holds_store-requires : goal.holds_store-requires
-holds_store-requires c = tt
-
 pub returns-then-not-holds_store : goal.returns-then-not-holds_store
 returns-then-not-holds_store c =
     let d = c.args in
@@ -25,9 +22,6 @@ slice_bounds-line_of-count c = store_reaches c.args.store.now (answers_true c.ho
 pub slice_bounds-line_of-start : goal.slice_bounds-line_of-start
 slice_bounds-line_of-start c = store_reaches c.args.store.now (answers_true c.holds_store.ensures c.if-not-holds_store.false-raw)
 
-pub slice_bounds-line_of-end : goal.slice_bounds-line_of-end
-slice_bounds-line_of-end c = omega arith
-
 pub line_of-requires : goal.line_of-requires
 line_of-requires c =
     let b = c.args.store.now in
@@ -36,9 +30,6 @@ line_of-requires c =
       whole = (s.0.store.tree, tree_part b s.0 s.1);
       in_bounds = omega arith;
     }
-
-pub shape_of-answer : goal.shape_of-answer
-shape_of-answer c = c.line_of.auto.answer
 
 pub returns : goal.returns
 returns c =
