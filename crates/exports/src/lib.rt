@@ -18,7 +18,7 @@ const NO_VALUE: u64 = 18446744073709551615;
 const WRONG_SETUP: u32 = 17;
 
 // The number that an answer tells.
-#[tactic(auto, unfolding(shell::specs::Replies::told, tree::specs::Causes::wrong_setup))]
+#[tactic(auto, using(crate::specs::ExportedLaws::wrong_number), unfolding(shell::specs::Replies::told))]
 fn number_of(r: Answer) -> u32
     ensures { result ≡ (told r).number }
 {

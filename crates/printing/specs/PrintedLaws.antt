@@ -1,4 +1,5 @@
 -- What is printed for an answer, as the code writes it: the line of each answer, its first bytes, and its byte 10.
+use Rattle.std.specs.Prelude as code
 use Rattle.std.specs.Prelude.{◌≡◌, List, [], ◌∷◌, ◌++◌, false, ℕ, ◌+◌, ◌≤◌, ◌<◌, eqb, length, take, drop, set, Ok, Err, Some, None}
 use Rattle.std.proofs.Math.Path.{refl}
 use Rattle.std.proofs.Common.{sym, ◌∙◌, ap, arith, zero-add, length-append, take_all, take_at, length-take-le, take-take}
@@ -48,6 +49,11 @@ done_not_missing = rw missing_number
 pub text_not_missing : (n : ℕ) → false ≡ eqb (number Missing) (told (Ok (Some n))).number
 unfolding told
 text_not_missing n = rw missing_number
+
+-- so none that is done does
+pub done_with_not_missing : (text : code.Option ℕ) → false ≡ eqb (number Missing) (told (Ok text)).number
+done_with_not_missing None = done_not_missing
+done_with_not_missing (Some n) = text_not_missing n
 
 pub wrong_line_not_missing : (n : ℕ) → false ≡ eqb (number Missing) (told (Err (WrongLine n))).number
 unfolding told

@@ -16,7 +16,6 @@ use syntax::write_decimal;
 use tree::Cause;
 
 // Document 01's number of a cause.
-#[tactic(auto, unfolding(tree::specs::Causes::number))]
 pub fn number(cause: Cause) -> u8
     ensures { result ≡ number_of cause }
 {
@@ -44,11 +43,14 @@ pub fn number(cause: Cause) -> u8
 }
 
 // Whether an answer tells that a listing has no such line.
-#[tactic(auto, unfolding(shell::specs::Replies::told, tree::specs::Causes::number, tree::specs::Causes::wrong_setup))]
 pub fn is_missing(r: Answer) -> bool
     ensures { result ≡ eqb (number_of Missing) (told r).number }
 {
-    r == Err(Refusal::For(Cause::Missing))
+    match r {
+        Ok(_) => false,
+        Err(Refusal::For(cause)) => cause == Cause::Missing,
+        Err(Refusal::WrongLine(_)) => false,
+    }
 }
 
 // Writes a text from a place on, and tells where it ends.

@@ -60,12 +60,7 @@ fn log_in(store: &mut [u8], caller: Caller, role: Role, line: &[u8], password: S
     ensures { LoginDone caller role (span_text line.now password) store.old result store.new }
 {
     let account = caller.account;
-    login(
-        &mut store[..HEADER],
-        account.uid,
-        role,
-        password.of(line),
-    )
+    login(&mut store[..HEADER], account.uid, role, password.of(line))
 }
 
 // `logout` on the store's header.

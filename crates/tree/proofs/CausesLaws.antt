@@ -2,6 +2,8 @@
 -- store alone 18.
 use Rattle.std.specs.Prelude.{◌≡◌, refl, true, false, eqb}
 use Rattle.buffers.specs.Cases.{contra}
+use denote.Enum.Bare.{sameb}
+use Rattle.tree.specs.contracts.Cause.{the_type}
 use Rattle.tree.specs.declared.Cause.{Cause}
 use Rattle.tree.specs.declared.Cause.TheVariants.{NoForm, UnknownCaller, Missing, NotDirectory, Access, Exists, WrongKind, NotEmpty, Reserved, Full, IntoItself, NoSession, NoGrant, Stale, Untagged, RevisionsSpent, Unsound, TooDeep, ShortAnswer}
 use Rattle.tree.specs.Causes.{number, wrong_setup}
@@ -133,3 +135,26 @@ only_unsound_is_18 RevisionsSpent e = contra e refl
 only_unsound_is_18 Unsound e = refl
 only_unsound_is_18 TooDeep e = contra e refl
 only_unsound_is_18 ShortAnswer e = contra e refl
+
+-- a cause is that of 3 just where it has this number, by the derived `==`
+pub missing_compared : (why : Cause) → sameb the_type why Missing ≡ eqb (number Missing) (number why)
+unfolding number
+missing_compared NoForm = refl
+missing_compared UnknownCaller = refl
+missing_compared Missing = refl
+missing_compared NotDirectory = refl
+missing_compared Access = refl
+missing_compared Exists = refl
+missing_compared WrongKind = refl
+missing_compared NotEmpty = refl
+missing_compared Reserved = refl
+missing_compared Full = refl
+missing_compared IntoItself = refl
+missing_compared NoSession = refl
+missing_compared NoGrant = refl
+missing_compared Stale = refl
+missing_compared Untagged = refl
+missing_compared RevisionsSpent = refl
+missing_compared Unsound = refl
+missing_compared TooDeep = refl
+missing_compared ShortAnswer = refl

@@ -15,8 +15,18 @@ use Rattle.syntax.specs.Field.{is_content}
 use Rattle.syntax.proofs.FormLaws.{no_answer, answered, both}
 use Rattle.tree.specs.declared.Kind.{Kind}
 use Rattle.tree.specs.declared.Kind.TheVariants.{File, Directory}
-use Rattle.tree.specs.Node.{is_directory, Tag, Node, new_group, new_node, set_owner, set_group, set_mode, set_revision, set_tag, set_content}
+use denote.Enum.Bare.{sameb}
+use Rattle.tree.specs.contracts.Kind.{the_type}
+use Rattle.tree.specs.Node.{is_directory, same_kind, Tag, Node, new_group, new_node, set_owner, set_group, set_mode, set_revision, set_tag, set_content}
 use Rattle.tree.specs.WellFormed.{last_revision, is_tag, fits_kind, is_node}
+
+-- the derived `==` of kinds compares them
+pub kinds_compared : (i j : Kind) → sameb the_type i j ≡ same_kind i j
+unfolding same_kind
+kinds_compared File File = refl
+kinds_compared File Directory = refl
+kinds_compared Directory File = refl
+kinds_compared Directory Directory = refl
 
 -- the last revision's number
 pub last_revision_is : last_revision ≡ 9999
