@@ -18,7 +18,7 @@ const NO_VALUE: u64 = 18446744073709551615;
 const WRONG_SETUP: u32 = 17;
 
 // The number that an answer tells.
-#[tactic(auto, using(crate::specs::ExportedLaws::wrong_number), unfolding(shell::specs::Replies::told))]
+#[tactic(auto, unfolding(shell::specs::Replies::told))]
 fn number_of(r: Answer) -> u32
     ensures { result ≡ (told r).number }
 {
