@@ -49,11 +49,11 @@ fn add_name(answer: &mut [u8], place: usize, name: &[u8]) -> usize
     ensures { WritesOne (name.now ∷ []) answer.old place answer.new result }
 {
     if place == 0 {
-        write(answer, 0, name, name.len());
+        write(answer, 0, name);
         return name.len() + 1;
     }
     answer[place - 1] = b',';
-    write(answer, place, name, name.len());
+    write(answer, place, name);
     place + name.len() + 1
 }
 
