@@ -1,17 +1,10 @@
 //! The search for a child in a tree's bytes, which a library of its own (`search_export`) exports for the tests alone.
 
-/// What a search found, and its steps.
+/// A child's row, or the row where it would stand, and the steps of the search.
 #[derive(Clone, Copy, PartialEq, Eq, Debug)]
 pub struct Search {
-    pub child: Child,
+    pub child: Result<usize, usize>,
     pub steps: u64,
-}
-
-/// A child's row, or the row where it would stand.
-#[derive(Clone, Copy, PartialEq, Eq, Debug)]
-pub enum Child {
-    Found(u64),
-    Missing(u64),
 }
 
 extern "C" {
@@ -36,8 +29,8 @@ pub fn search(tree: &[u8], at: usize, name: &[u8]) -> Option<Search> {
     // The slices are the caller's own and only read; the lengths are theirs.
     let number = unsafe { tree_search(tree.as_ptr(), tree.len(), at, name.as_ptr(), name.len(), &mut place, &mut steps) };
     match number {
-        0 => Some(Search { child: Child::Found(place), steps }),
-        1 => Some(Search { child: Child::Missing(place), steps }),
+        0 => Some(Search { child: Ok(place as usize), steps }),
+        1 => Some(Search { child: Err(place as usize), steps }),
         2 if (place, steps) == (UNTOUCHED, UNTOUCHED) => None,
         _ => panic!("tree_search gives {number}, {place}, {steps}"),
     }

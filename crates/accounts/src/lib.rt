@@ -3,7 +3,7 @@
 
 ghost use Rattle.std.specs.Prelude.{◌≡◌, true, false, ◌<◌};
 ghost use Rattle.accounts.specs.Groups.{member, no_groups, with_group};
-ghost use Rattle.accounts.specs.Access.{is_root, same_uid, grants, may};
+ghost use Rattle.accounts.specs.Access.{is_root, grants, may};
 ghost use Rattle.accounts.specs.Session.{nobody, as_role};
 ghost use Rattle.accounts.specs.Closure.{has_role, own_rows, grown_row, grown_rows, row_dominates, row_account, session_dominates};
 
@@ -95,13 +95,6 @@ impl Uid {
         ensures { result ≡ is_root self }
     {
         self.0 == 0
-    }
-
-    // Whether it is the same account's as another.
-    pub fn is(self, other: Uid) -> bool
-        ensures { result ≡ same_uid self other }
-    {
-        self == other
     }
 }
 

@@ -34,7 +34,7 @@ fn may_give(tree: &[u8], row: usize, account: Account, group: Gid) -> bool
     ensures { result ≡ may_give account group (row_at tree.now row).here }
 {
     let uid = account.uid;
-    uid.is_root() || (uid.is(owner_at(tree, row)) && account.groups.has(group))
+    uid.is_root() || (uid == owner_at(tree, row) && account.groups.has(group))
 }
 
 // A file, with w.

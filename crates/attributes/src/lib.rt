@@ -11,7 +11,7 @@ pub use checks::may_do;
 pub use reading::read;
 
 // What is to be done at a place, with what its tests ask about: the mode or the group to be given.
-#[derive(Clone, Copy)]
+#[derive(Clone, Copy, PartialEq, Eq, Debug)]
 pub enum Deed {
     Read,
     Write,

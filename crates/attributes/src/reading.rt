@@ -21,7 +21,7 @@ fn give_content(tree: &[u8], row: usize, answer: &mut [u8]) -> usize
     ensures { Answers (row_at tree.now row).here.content answer.old result answer.new }
 {
     let content = content_at(tree, row);
-    buffers::write(answer, 0, content, content.len());
+    buffers::write(answer, 0, content);
     content.len()
 }
 

@@ -1,6 +1,6 @@
 -- Stretches of bytes replaced: what the loop that clears does turn by turn, and several pastes as one.
 use Rattle.std.specs.Prelude.{◌≡◌, refl, List, [], ◌∷◌, ◌++◌, ℕ, suc, ◌+◌, ◌-◌, ◌/◌, ◌%◌, ◌≤◌, ◌<◌, length, take, drop, set, replicate}
-use Rattle.std.proofs.Common.{ap, sym, ◌∙◌, append_assoc, append-nil, arith, add-one, zero-add, length-append, drop_of_length-le, length-take-le, take-take, take_at, drop_at, drop-drop, take_all}
+use Rattle.std.proofs.Common.{ap, sym, ◌∙◌, append_assoc, append-nil, arith, add-one, zero-add, length-append, length-drop, drop_of_length-le, length-take-le, take-take, take_at, drop_at, drop-drop, take_all}
 use Rattle.std.proofs.lemmas.List.{length-replicate, get_or-replicate, take-append-le, set_split}
 use Rattle.std.proofs.Math.Seq.{paste, paste-suc}
 use Rattle.std.proofs.lemmas.List.Edits.{length-paste, take-paste, drop-paste}
@@ -43,6 +43,19 @@ paste_piece A B old new at n l e f =
     let rest : drop (at + n) (A ++ (old ++ B)) ≡ B =
     ap (drop (at + n)) (sym (append_assoc A old B)) ∙ drop_at (A ++ old) B (at + n) (length-append A old ∙ omega arith) in
     rw (first, all, rest) (append_assoc A new B)
+
+-- the first bytes of a text, all of them written
+pub paste_taken : (b s : List ℕ) (at n : ℕ) → n ≤ length s → paste b at (take n s) (length (take n s)) ≡ paste b at s n
+paste_taken b s at n h =
+    let l = length-take-le n s h in
+    rw (l, take-take n n s (omega arith)) refl
+
+-- and of a stretch of it
+pub paste_part : (b s : List ℕ) (at from n : ℕ) → from + n ≤ length s
+    → paste b at (take (from + n - from) (drop from s)) (length (take (from + n - from) (drop from s))) ≡ paste b at (drop from s) n
+paste_part b s at from n h =
+    let e : from + n - from ≡ n = omega arith in
+    rw e (paste_taken b (drop from s) at n (omega (arith, length-drop from s)))
 
 -- bytes written over all there were
 pub paste_whole : (s x : List ℕ) (n : ℕ) → length s ≡ n → length x ≡ n → paste s 0 x n ≡ x

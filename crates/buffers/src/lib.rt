@@ -7,4 +7,4 @@ mod writes;
 
 pub use fields::{is_zero, number, text};
 pub use texts::same;
-pub use writes::{clear, move_bytes, write, write_four, write_number, write_padded};
+pub use writes::{clear, move_bytes, write, write_number, write_padded};

@@ -1,15 +1,14 @@
 // Bytes written, moved and cleared. Each function replaces one stretch and says by `paste` what stands there afterwards.
-ghost use Rattle.std.specs.Prelude.{◌≡◌, [], ◌∷◌, ◌+◌, ◌≤◌, length, drop, replicate};
+ghost use Rattle.std.specs.Prelude.{◌≡◌, ◌+◌, ◌≤◌, length, drop, replicate};
 ghost use Rattle.std.proofs.Math.Seq.{paste};
 ghost use Rattle.buffers.specs.Fields.{two_bytes, padded};
 
-// Writes the first n bytes of another slice.
-pub fn write(b: &mut [u8], at: usize, s: &[u8], n: usize)
-    requires n_in_bounds { at + n ≤ length b.old }
-    requires n_in_bounds_2 { n ≤ length s.now }
-    ensures { b.new ≡ paste b.old at s.now n }
+// Writes the bytes of another slice.
+pub fn write(b: &mut [u8], at: usize, s: &[u8])
+    requires { at + length s.now ≤ length b.old }
+    ensures { b.new ≡ paste b.old at s.now (length s.now) }
 {
-    b[at..at + n].copy_from_slice(&s[..n]);
+    b[at..at + s.len()].copy_from_slice(s);
 }
 
 // Moves n bytes; the two stretches may overlap. By a local array, of the store's length, which the compiler leaves out:
@@ -40,7 +39,7 @@ pub fn write_padded(b: &mut [u8], at: usize, width: usize, s: &[u8])
     ensures { b.new ≡ paste b.old at (padded width s.now) width }
 {
     let n = s.len();
-    write(b, at, s, n);
+    write(b, at, s);
     clear(b, at + n, width - n);
 }
 
@@ -49,13 +48,5 @@ pub fn write_number(b: &mut [u8], at: usize, n: u16)
     requires { at + 2 ≤ length b.old }
     ensures { b.new ≡ paste b.old at (two_bytes n) 2 }
 {
-    write(b, at, &n.to_le_bytes(), 2);
-}
-
-// Writes four bytes.
-pub fn write_four(b: &mut [u8], at: usize, v: u8, w: u8, x: u8, y: u8)
-    requires { at + 4 ≤ length b.old }
-    ensures { b.new ≡ paste b.old at (v ∷ w ∷ x ∷ y ∷ []) 4 }
-{
-    write(b, at, &[v, w, x, y], 4);
+    write(b, at, &n.to_le_bytes());
 }

@@ -1,7 +1,7 @@
 -- The greatest depth among copies: row by row, and among the rows of a place as they are written.
 use Rattle.std.specs.Prelude.{◌≡◌, refl, List, [], ◌∷◌, ◌++◌, true, ℕ, suc, ◌+◌, ◌-◌, ◌*◌, ◌≤◌, ◌<◌, length, take, drop}
-use Rattle.std.proofs.Common.{sym, ◌∙◌, ap, append_assoc, arith, add-one, leb, max, leb-true, leb-false, length-append, length-take-le, take_at, drop_at}
-use Rattle.buffers.specs.Cases.{case, and_both}
+use Rattle.std.proofs.Common.{sym, ◌∙◌, ap, append_assoc, arith, add-one, length-append, length-take-le, take_at, drop_at}
+use Rattle.buffers.specs.Cases.{and_both}
 use Rattle.buffers.specs.Text.{every}
 use Rattle.buffers.specs.Fields.{all_bytes}
 use Rattle.syntax.specs.Path.{Name}
@@ -19,11 +19,6 @@ use Rattle.copying.proofs.CopyBytesLaws.{depth_of_bytes}
 use Rattle.copying.proofs.RowsWrittenLaws.{row_is_wide, written_pieces}
 
 -- ---- row by row
-
--- the larger of two numbers is their maximum
-pub max_larger : (a b : ℕ) → max a b ≡ larger a b
-unfolding larger
-max_larger a b = case (leb a b) (λ t. rw t (omega (arith, leb-true a b t))) (λ t. rw t (omega (arith, leb-false a b t)))
 
 -- one row more
 pub deepest_again : (b : List ℕ) (m i n : ℕ) → i < n

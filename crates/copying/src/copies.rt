@@ -35,7 +35,8 @@ fn copy_bytes(tree: &[u8], at: usize, out: &mut [u8], to: usize)
     requires has_row { HasRow out.old to }
     ensures { out.new ≡ row_put out.old to (row_at tree.now at) }
 {
-    write(out, FIRST + ROW * to, &tree[FIRST + ROW * at..], ROW);
+    let start = FIRST + ROW * at;
+    write(out, FIRST + ROW * to, &tree[start..start + ROW]);
 }
 
 // Writes the row at `at` as row `to`, at another depth and with its node handed over. The tag is still the original's: each copy gets one of its own.

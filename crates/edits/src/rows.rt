@@ -8,7 +8,7 @@ ghost use Rattle.tree.specs.TreeBytes.{Wide, Insertable, Stretch};
 ghost use Rattle.edits.specs.Changes.{rows_put, rows_taken, fresh_node, fresh_row, head_bytes};
 
 use crate::Fresh;
-use buffers::{clear, move_bytes, write, write_four, write_number, write_padded};
+use buffers::{clear, move_bytes, write, write_number, write_padded};
 use tree::{
     BEHIND_NAME, DIRECTORY, FILE, FIRST, Kind, MODE, NAME, NAME_WIDTH, REVISION, ROW, TAG, TREE,
     count,
@@ -23,7 +23,7 @@ pub fn put_rows(tree: &mut [u8], at: usize, n: usize, rows: &[u8])
     let c = count(tree);
     let start = FIRST + ROW * at;
     move_bytes(tree, start, start + ROW * n, ROW * (c - at));
-    write(tree, start, rows, ROW * n);
+    write(tree, start, &rows[..ROW * n]);
     write_number(tree, 0, (c + n) as u16);
 }
 
@@ -58,7 +58,7 @@ pub fn write_head(tree: &mut [u8], at: usize, depth: u8, node: Fresh)
     let owner = node.owner;
     let group = node.group;
     let letter = kind_byte(kind);
-    write_four(tree, at, depth, letter, owner.0, group.0);
+    write(tree, at, &[depth, letter, owner.0, group.0]);
     write_number(tree, at + MODE, node.mode);
     write_number(tree, at + REVISION, node.revision);
 }

@@ -21,7 +21,7 @@ pub fn write_behind(answer: &mut [u8], at: usize, mark: u8, text: &[u8]) -> usiz
     ensures { Wrote (mark ∷ text.now) answer.old at answer.new result }
 {
     answer[at] = mark;
-    write(answer, at + 1, text, text.len());
+    write(answer, at + 1, text);
     at + 1 + text.len()
 }
 

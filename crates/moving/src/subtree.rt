@@ -36,7 +36,8 @@ fn take_held(tree: &mut [u8], at: usize, n: usize, held: &mut [u8])
     ensures tree_after { tree.new ≡ rows_taken tree.old at n }
     ensures held_after { held.new ≡ paste held.old 0 (drop (row_start at) tree.old) (row_width * n) }
 {
-    write(held, 0, &tree[FIRST + ROW * at..], ROW * n);
+    let start = FIRST + ROW * at;
+    write(held, 0, &tree[start..start + ROW * n]);
     take_rows(tree, at, n);
 }
 

@@ -69,7 +69,7 @@ pub fn set_tag_below(tree: &mut [u8], i: usize, above: usize, name: &[u8], revis
     clear(tree, at + TAG, TAG_WIDTH);
     move_bytes(tree, FIRST + ROW * above + TAG, at + TAG, n);
     tree[at + TAG + n] = b'/';
-    write(tree, at + BEHIND_SLASH + n, name, name.len());
+    write(tree, at + BEHIND_SLASH + n, name);
     write_number(tree, at + TAG_REVISION, revision);
 }
 

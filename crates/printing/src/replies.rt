@@ -58,7 +58,7 @@ fn write_word(out: &mut [u8], at: usize, word: &[u8]) -> usize
     requires { at + length word.now ≤ length out.old }
     ensures { Wrote word.now out.old at out.new result }
 {
-    write(out, at, word, word.len());
+    write(out, at, word);
     at + word.len()
 }
 
@@ -68,7 +68,7 @@ fn write_first(out: &mut [u8], at: usize, answer: &[u8], n: usize) -> usize
     ensures { WroteMost (length answer.now) (take n answer.now) out.old at out.new result }
 {
     if n < answer.len() {
-        write(out, at, answer, n);
+        write(out, at, &answer[..n]);
         return at + n;
     }
     write_word(out, at, answer)

@@ -61,7 +61,7 @@ pub fn make_store(store: &mut [u8], text: &[u8]) -> Result<(), WrongLine>
 {
     let mut header = [0u8; HEADER];
     read_header(&mut header, text)?;
-    write(store, 0, &header, HEADER);
+    write(store, 0, &header);
     open_store(store);
     Ok(())
 }

@@ -4,7 +4,7 @@ ghost use Rattle.std.specs.Prelude.{◌+◌, ◌≤◌, length};
 ghost use Rattle.buffers.specs.Over.{Wrote};
 ghost use Rattle.syntax.specs.Number.{decimal_text, mode_text};
 
-use buffers::write_four;
+use buffers::write;
 
 // Writes a number as decimal digits without leading zeros: all digits but the last, then the last behind them.
 pub fn write_decimal(b: &mut [u8], at: usize, n: usize) -> usize
@@ -29,6 +29,6 @@ pub fn write_mode(b: &mut [u8], at: usize, mode: u16) -> usize
     let second = b'0' + (mode / 64 % 8) as u8;
     let third = b'0' + (mode / 8 % 8) as u8;
     let fourth = b'0' + (mode % 8) as u8;
-    write_four(b, at, first, second, third, fourth);
+    write(b, at, &[first, second, third, fourth]);
     at + 4
 }

@@ -17,19 +17,6 @@ row_width = 227
 abbrev pub most_rows : ℕ
 most_rows = 256
 
--- how many rows the arrays have room for that hold some on the way
-abbrev pub few_rows : ℕ
-few_rows = 4
-
-abbrev pub some_rows : ℕ
-some_rows = 16
-
-abbrev pub many_rows : ℕ
-many_rows = 64
-
-abbrev pub half_rows : ℕ
-half_rows = 128
-
 -- the number of rows, and all rows
 abbrev pub tree_width : ℕ
 tree_width = 58114

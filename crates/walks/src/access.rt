@@ -37,8 +37,5 @@ pub fn owns_at(tree: &[u8], i: usize, account: Account) -> bool
     ensures { result ≡ owns account (row_at tree.now i).here }
 {
     let uid = account.uid;
-    if uid.is_root() {
-        return true;
-    }
-    uid.is(owner_at(tree, i))
+    uid.is_root() || uid == owner_at(tree, i)
 }

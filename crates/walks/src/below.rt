@@ -1,7 +1,6 @@
 // What lies below a row: whether anything does, how far down it goes, and the names of the children.
 ghost use Rattle.std.specs.Prelude.{◌≡◌, [], ◌∷◌, ◌+◌, ◌-◌, ◌≤◌, ◌<◌, length};
 ghost use Rattle.tree.specs.Layout.{name_width};
-ghost use Rattle.tree.specs.Forest.{larger};
 ghost use Rattle.tree.specs.RowAt.{row_at, all_rows};
 ghost use Rattle.tree.specs.TreeBytes.{HasRow, Used};
 ghost use Rattle.walks.specs.RowBelow.{has_children_in, height_in, names_in, child_text_in};
@@ -18,12 +17,6 @@ pub fn has_children(tree: &[u8], at: usize) -> bool
     at + 1 < count(tree) && depth_at(tree, at) < depth_at(tree, at + 1)
 }
 
-pub fn larger_of(a: u8, b: u8) -> u8
-    ensures { result ≡ larger a b }
-{
-    a.max(b)
-}
-
 // How many levels of rows lie below a row.
 pub fn height_below(tree: &[u8], at: usize) -> usize
     requires { Used tree.now at }
@@ -37,7 +30,7 @@ pub fn height_below(tree: &[u8], at: usize) -> usize
         if d <= depth {
             return (most - depth) as usize;
         }
-        most = larger_of(most, d);
+        most = most.max(d);
     }
     (most - depth) as usize
 }
@@ -49,11 +42,11 @@ fn add_name(answer: &mut [u8], place: usize, name: &[u8]) -> usize
     ensures { WritesOne (name.now ∷ []) answer.old place answer.new result }
 {
     if place == 0 {
-        write(answer, 0, name, name.len());
+        write(answer, 0, name);
         return name.len() + 1;
     }
     answer[place - 1] = b',';
-    write(answer, place, name, name.len());
+    write(answer, place, name);
     place + name.len() + 1
 }
 

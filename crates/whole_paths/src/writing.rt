@@ -25,9 +25,9 @@ fn write_joined(directory: &[u8], s: &[u8], text: &mut [u8], at: usize) -> usize
     ensures { Wrote (joined_text directory.now s.now) text.old at text.new result }
 {
     let n = front_length(directory);
-    write(text, at, directory, n);
+    write(text, at, &directory[..n]);
     text[at + n] = b'/';
-    write(text, at + n + 1, s, s.len());
+    write(text, at + n + 1, s);
     at + n + 1 + s.len()
 }
 
@@ -46,7 +46,7 @@ fn write_argument(
         return write_joined(directory, s, text, at);
     }
     if has_text(kind) {
-        write(text, at, s, s.len());
+        write(text, at, s);
         return at + s.len();
     }
     at

@@ -6,7 +6,7 @@ use crate::fixed::{DIRECTORY_COMMITS, SELDOM};
 use crate::library;
 use crate::plain::{self, Answer, ANSWER, STORE, TREE};
 use crate::random::Random;
-use crate::search::{search, Child, Search};
+use crate::search::{search, Search};
 
 const SHOWN: usize = 20;
 
@@ -179,8 +179,8 @@ fn search_both(random: &mut Random, store: &[u8], nodes: usize, tally: &mut Tall
     let name = &field[..length];
     let (ours, theirs) = (search(tree, at, name), plain::search(tree, at, name));
     match theirs {
-        Some(Search { child: Child::Found(_), .. }) => tally.searches[0] += 1,
-        Some(Search { child: Child::Missing(_), .. }) => tally.searches[1] += 1,
+        Some(Search { child: Ok(_), .. }) => tally.searches[0] += 1,
+        Some(Search { child: Err(_), .. }) => tally.searches[1] += 1,
         None => tally.searches[2] += 1,
     }
     if ours == theirs {

@@ -3,7 +3,7 @@
 
 use crate::bench::{least, overhead};
 use crate::plain::{self, ANSWER, STORE, TREE};
-use crate::search::{search, Child, Search};
+use crate::search::{search, Search};
 use crate::{cases, library};
 
 const SETUP: &[u8] = b"p,1,1\nend\n";
@@ -43,10 +43,10 @@ impl Walk {
         let mut row = 0;
         let mut sum = 0;
         for name in self.path.split('/').skip(1) {
-            let Some(Search { child: Child::Found(at), steps }) = by(tree, row, name.as_bytes()) else {
+            let Some(Search { child: Ok(at), steps }) = by(tree, row, name.as_bytes()) else {
                 panic!("{} is missing", self.path);
             };
-            row = at as usize;
+            row = at;
             sum += steps;
         }
         sum

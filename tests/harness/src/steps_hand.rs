@@ -5,19 +5,19 @@ use crate::damage::fresh;
 use crate::layout::{encode, ROWS};
 use crate::model::line::path;
 use crate::model::state::{Kind, Node, Path, State};
-use crate::search::{search, Child, Search};
+use crate::search::{search, Search};
 use crate::steps_model;
 use crate::tally::{show, Tally};
 
 /// The paths of a tree but `/`, in order; the row of the place; the name sought; the answer.
 type Case = (&'static [&'static str], usize, &'static [u8], Search);
 
-const fn found(row: u64, steps: u64) -> Search {
-    Search { child: Child::Found(row), steps }
+const fn found(row: usize, steps: u64) -> Search {
+    Search { child: Ok(row), steps }
 }
 
-const fn missing(row: u64, steps: u64) -> Search {
-    Search { child: Child::Missing(row), steps }
+const fn missing(row: usize, steps: u64) -> Search {
+    Search { child: Err(row), steps }
 }
 
 /// Names that are beginnings of one another.

@@ -2,7 +2,7 @@
 //! `conform` has too: no line and no answer shows a search.
 
 use crate::model::state::{Path, State};
-use crate::search::{Child, Search};
+use crate::search::Search;
 
 /// How many bytes two names have alike from the front.
 pub fn alike(a: &[u8], b: &[u8]) -> usize {
@@ -25,7 +25,7 @@ pub fn search(state: &State, place: &Path, sought: &[u8]) -> Search {
     // For each the bytes alike from the front, and one more, where the names differ or both end.
     let steps = tried(&names(state, place), sought).iter().map(|name| alike(name, sought) as u64 + 1).sum();
     let path: Path = place.iter().cloned().chain([sought.to_vec()]).collect();
-    let row = state.nodes.keys().filter(|other| **other < path).count() as u64;
-    let child = if state.present(&path) { Child::Found(row) } else { Child::Missing(row) };
+    let row = state.nodes.keys().filter(|other| **other < path).count();
+    let child = if state.present(&path) { Ok(row) } else { Err(row) };
     Search { child, steps }
 }

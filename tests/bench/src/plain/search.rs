@@ -2,7 +2,7 @@
 //! of this plain Rust compare a name as one number, but with the feature `same_search`.
 
 use super::rows::{Fields, Row, MOST_NODES};
-use crate::search::{Child, Search};
+use crate::search::Search;
 
 const BYTES: usize = 2 + MOST_NODES * size_of::<Row>();
 
@@ -21,7 +21,7 @@ pub fn search_rows(nodes: &[Row], parent: usize, name: &[u8]) -> Search {
     let mut steps = 0;
     'children: for (at, row) in nodes.iter().enumerate().skip(parent + 1) {
         if row.depth() < depth {
-            return Search { child: Child::Missing(at as u64), steps };
+            return Search { child: Err(at), steps };
         }
         if row.depth() > depth {
             continue;
@@ -34,14 +34,14 @@ pub fn search_rows(nodes: &[Row], parent: usize, name: &[u8]) -> Search {
             }
             steps += k as u64 + 1;
             if b < a {
-                return Search { child: Child::Missing(at as u64), steps };
+                return Search { child: Err(at), steps };
             }
             continue 'children;
         }
         steps += name.len() as u64 + 1;
         let ends = field.get(name.len()).is_none_or(|&a| a == 0);
-        let child = if ends { Child::Found(at as u64) } else { Child::Missing(at as u64) };
+        let child = if ends { Ok(at) } else { Err(at) };
         return Search { child, steps };
     }
-    Search { child: Child::Missing(nodes.len() as u64), steps }
+    Search { child: Err(nodes.len()), steps }
 }

@@ -5,8 +5,6 @@ use super::number::{Number, ACCESS, MISSING, NOT_DIRECTORY};
 use super::rows::{Fields, Row, Store};
 #[cfg(feature = "same_search")]
 use super::search::search_rows;
-#[cfg(feature = "same_search")]
-use crate::search::Child;
 
 /// Where a walk leads: the parent's row and the node's.
 pub struct Found {
@@ -41,10 +39,7 @@ impl Store<'_> {
     #[cfg(feature = "same_search")]
     fn child(&self, parent: usize, name: u64) -> Result<usize, usize> {
         let length = 8 - name.trailing_zeros() as usize / 8;
-        match search_rows(self.nodes(), parent, &name.to_be_bytes()[..length]).child {
-            Child::Found(at) => Ok(at as usize),
-            Child::Missing(at) => Err(at as usize),
-        }
+        search_rows(self.nodes(), parent, &name.to_be_bytes()[..length]).child
     }
 
     /// Walks all names but the last, which is only looked up after its x test. Not for `/`.

@@ -11,10 +11,7 @@ write-requires c =
     let a = c.args in
     let short = row_content_fits a.tree.now a.row in
     let same = ap length c.content_at-content.ensures in
-    record {
-      n_in_bounds = omega arith;
-      n_in_bounds_2 = omega arith;
-    }
+    omega arith
 
 pub returns : goal.returns
 returns c =

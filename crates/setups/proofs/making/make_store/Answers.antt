@@ -1,5 +1,6 @@
 -- `setups::making::make_store` meets its contract: by what the text comes to in a header of its own.
-use Rattle.std.proofs.Common.{sym, arith}
+use Rattle.std.proofs.Common.{sym, ap, ◌∙◌, arith}
+use Rattle.std.proofs.Math.Seq.{paste}
 use Rattle.std.proofs.lemmas.Result.{err_from_is_err_and}
 use Rattle.store.specs.StoreBytes.{store_width}
 use Rattle.store.proofs.SetupHeaderLaws.{nothing_is_zeros}
@@ -21,22 +22,22 @@ unfolding store_width
 write-requires c =
     let a = c.args in
     let h = c.read_header in
-    record {
-      n_in_bounds = omega arith;
-      n_in_bounds_2 = omega (arith, held_wide a.text.now h.new.header a.store.now h.result h.ensures c.in_ok-read_header.was);
-    }
+    omega (arith, held_wide a.text.now h.new.header a.store.now h.result h.ensures c.in_ok-read_header.was)
 
 pub open_store-requires : goal.open_store-requires
 unfolding store_width
 open_store-requires c =
     let a = c.args in
     let h = c.read_header in
-    to_open a.text.now h.new.header a.store.now h.result h.ensures c.in_ok-read_header.was c.write.new.b c.write.ensures c.requires
+    let wide = held_wide a.text.now h.new.header a.store.now h.result h.ensures c.in_ok-read_header.was in
+    to_open a.text.now h.new.header a.store.now h.result h.ensures c.in_ok-read_header.was c.write.new.b
+    (c.write.ensures ∙ ap (paste a.store.now 0 h.new.header) wide) c.requires
 
 pub returns : goal.returns
 returns c =
     let a = c.args in
     let h = c.read_header in
-    let w = c.write in
     let o = c.open_store in
-    store_opened a.text.now h.new.header a.store.now h.result h.ensures c.in_ok-read_header.was w.new.b w.ensures o.new.store o.ensures
+    let wide = held_wide a.text.now h.new.header a.store.now h.result h.ensures c.in_ok-read_header.was in
+    store_opened a.text.now h.new.header a.store.now h.result h.ensures c.in_ok-read_header.was c.write.new.b
+    (c.write.ensures ∙ ap (paste a.store.now 0 h.new.header) wide) o.new.store o.ensures

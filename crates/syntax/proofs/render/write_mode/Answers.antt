@@ -4,6 +4,6 @@ use Rattle.syntax.proofs.render.write_mode.Goals as goal
 
 pub returns : goal.returns
 returns c =
-    let w = c.write_four in
+    let w = c.write in
     let a = c.args in
     wrote_mode a.mode a.b.now a.at w.new.b w.ensures

@@ -8,7 +8,7 @@ use Rattle.tree.specs.Forest.{larger}
 use Rattle.tree.proofs.ForestLaws.{larger_bounds}
 use Rattle.tree.specs.RowAt.{row_at, all_rows}
 use Rattle.walks.specs.RowBelow.{front_below, deepest_in, height_in}
-use Rattle.walks.specs.RowBelowLaws.{deepest_go, deepest_stop, deepest_end, height_from}
+use Rattle.walks.specs.RowBelowLaws.{larger_is_max, deepest_go, deepest_stop, deepest_end, height_from}
 use Rattle.walks.proofs.below.height_below.Invariants.{Going}
 use Rattle.walks.proofs.below.height_below.Goals as goal
 
@@ -46,7 +46,8 @@ returns-then-d-depth c = (stops c.loop-i.invariant (omega arith) (omega arith), 
 pub loop-i-preserved : goal.loop-i-preserved
 loop-i-preserved c =
     let d = c.depth_at-d in
-    goes_on c.loop-i.invariant c.larger_of-most.result (omega arith) (omega arith) (omega arith) (c.larger_of-most.ensures ∙ ap (larger c.loop-i.most) d.ensures)
+    goes_on c.loop-i.invariant c.max-most.result (omega arith) (omega arith) (omega arith)
+    (c.max-most.ensures ∙ larger_is_max c.loop-i.most d.result ∙ ap (larger c.loop-i.most) d.ensures)
 
 pub returns : goal.returns
 returns c = (ends c.loop-i.invariant (omega arith), omega arith)

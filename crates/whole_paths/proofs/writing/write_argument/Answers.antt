@@ -1,6 +1,5 @@
 -- `whole_paths::writing::write_argument` meets its contract: each way writes what the definition says of such an argument.
 use mathlib.Core.Path.{sym, ◌∙◌}
-use native.Mathlib.Omega.{arith}
 use Rattle.buffers.specs.OverLaws.{wrote_text}
 use Rattle.whole_paths.specs.WrittenLaws.{short_written, text_written, none_written, wrote_none}
 use Rattle.whole_paths.proofs.writing.write_argument.Goals as goal
@@ -15,10 +14,7 @@ returns-then-is_short c =
 
 pub write-requires : goal.write-requires
 write-requires c =
-    record {
-      n_in_bounds = rw (text_written c.args.directory.now c.args.kind c.args.s.now (sym c.is_short.ensures ∙ c.if-is_short.false) (sym c.has_text.ensures ∙ c.if-has_text.true)) at c.requires;
-      n_in_bounds_2 = omega arith;
-    }
+    rw (text_written c.args.directory.now c.args.kind c.args.s.now (sym c.is_short.ensures ∙ c.if-is_short.false) (sym c.has_text.ensures ∙ c.if-has_text.true)) at c.requires
 
 pub returns-then-has_text : goal.returns-then-has_text
 returns-then-has_text c =
