@@ -16,6 +16,7 @@ fn last_rows(tree: &[u8], n: usize) -> [usize; 7]
     ensures { result ≡ last_among tree.now (n + 1) }
 {
     let mut last: [usize; 7] = [0; 7];
+    // Not `0..=n`, which leaves the proof a goal without a lasting name.
     for i in 0..n + 1 {
         let depth = depth_at(tree, i) as usize;
         last[depth] = i;

@@ -1,4 +1,4 @@
-// The fields of a row written.
+// The fields of a row written, a function each, so that callers name a field and no offset.
 ghost use Rattle.std.specs.Prelude.{◌≡◌, [], ◌∷◌, ◌+◌, ◌≤◌, ◌<◌, length};
 ghost use Rattle.buffers.specs.Fields.{two_bytes, padded};
 ghost use Rattle.tree.specs.Layout.{row_width, owner_offset, group_offset, mode_offset, revision_offset, tag_offset, tag_width, tag_revision_offset, content_offset, content_width};

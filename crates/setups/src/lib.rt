@@ -11,7 +11,8 @@ mod opening;
 pub use making::make_store;
 pub use opening::{begin_store, setup_line};
 
-// What a line of a setup text that is not wrong comes to: it fits and is of this kind (p, g, r, l: 0 to 3), or it is `end`.
+// What a line of a setup text that is not wrong comes to: it fits and is of this kind (p, g, r, l: 0 to 3), or it is `end`. The
+// kind is a number, since `setup_from` and `next` of `agenda`, which hand it on, promise what they do of any number.
 #[derive(Clone, Copy, PartialEq, Eq)]
 pub enum LineRead {
     More(u8),

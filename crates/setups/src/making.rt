@@ -30,6 +30,7 @@ fn read_header(header: &mut [u8], text: &[u8]) -> Result<(), WrongLine>
     let mut kind = 0;
     let mut at = 0;
     let mut number: usize = 0;
+    // No `for`: each line tells where the next begins, and `end` ends them.
     loop {
         number += 1;
         let end = piece_end(text, at, b'\n');

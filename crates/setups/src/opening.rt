@@ -35,6 +35,7 @@ fn slots_in(header: &[u8]) -> [Person; 16]
         primary: Gid(0),
         further: Groups(0),
     }; 16];
+    // `array::from_fn` was tried: that the array is the slots' did not close.
     for k in 0..16 {
         persons[k] = slot_in(header, k);
     }

@@ -41,6 +41,7 @@ pub fn search_child(tree: &[u8], at: usize, name: &[u8]) -> Search
         if depth < d {
             continue 'children;
         }
+        // A `while`, since it is asked behind it how far the names were alike.
         let mut k: usize = 0;
         'bytes: while k < name.len() {
             let a = name_byte(tree, i, k);
