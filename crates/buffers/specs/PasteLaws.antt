@@ -1,4 +1,4 @@
--- Stretches of bytes replaced: what the loop that clears does turn by turn, and several pastes as one.
+-- Stretches of bytes replaced: zeros byte by byte, and several pastes as one.
 use Rattle.std.specs.Prelude.{◌≡◌, refl, List, [], ◌∷◌, ◌++◌, ℕ, suc, ◌+◌, ◌-◌, ◌/◌, ◌%◌, ◌≤◌, ◌<◌, length, take, drop, set, replicate}
 use Rattle.std.proofs.Common.{ap, sym, ◌∙◌, append_assoc, append-nil, arith, add-one, zero-add, length-append, length-drop, drop_of_length-le, length-take-le, take-take, take_at, drop_at, drop-drop, take_all}
 use Rattle.std.proofs.lemmas.List.{length-replicate, get_or-replicate, take-append-le, set_split}

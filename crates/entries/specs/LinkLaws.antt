@@ -27,7 +27,7 @@ use Rattle.tree.specs.declared.Cause.{Cause}
 use Rattle.tree.specs.declared.Cause.TheVariants.{Access, WrongKind, Stale, Untagged, RevisionsSpent}
 use Rattle.tree.specs.Layout.{revision_offset, tag_revision_offset, content_offset}
 use Rattle.tree.specs.Result.{Result, outcome, refused, done, ◌>>=◌, ◌>>◌, require, present}
-use Rattle.tree.proofs.ResultLaws.{outcome_ok, outcome_err, present_some, present_of, present_none, required, bind_done, then_done, refused_before, done_then, refused_then, done_bind, refused_bind, then_bind}
+use Rattle.tree.proofs.ResultLaws.{not_done, by_result, outcome_ok, outcome_err, present_some, present_of, present_none, required, bind_done, then_done, refused_before, done_then, refused_then, done_bind, refused_bind, then_bind}
 use Rattle.tree.specs.Forest.{Place, update, alter}
 use Rattle.tree.specs.Node.{is_directory, Tag, Node, allows, set_revision, set_tag, set_content}
 use Rattle.tree.proofs.NodeLaws.{node_ranges, node_of_revision, node_of_tag, node_of_content, kind_of_set_revision, kind_of_set_tag, kind_of_set_content}
@@ -68,6 +68,13 @@ module _ {A : Type 0} {tests : Result (Unit {0})} (x : A) where
 
   pub passing_done : outcome (Ok tt) ≡ tests → done x ≡ passing tests x
   passing_done e = rw (← e, outcome_ok, done_then)
+
+-- tests that are refused before an answer
+tests_refused : {A : Type 0} (r : Result (Unit {0})) (x : A) {k : Cause} → passing r x ≡ refused k → r ≡ refused k
+tests_refused r x {k} e =
+    by_result r
+    (λ c q. let s : refused c ≡ refused k = rw (q, refused_then) at e in let z : c ≡ k = cc in q ∙ ap refused z)
+    (λ u q. not_done (sym (rw (q, done_then) at e)))
 
 -- a place has a row, and its node is in range
 module _ {b : List ℕ} {t : Place Node} {p : Path} {i : ℕ} {d : Place Node} (a : At b t p i d) where

@@ -1,7 +1,7 @@
 -- Laws of a setup line: its form by its word, with two numbers and a password; the line that was told; and that a line told of a text
 -- is told of a longer one.
 use Rattle.std.specs.Prelude.{◌≡◌, refl, List, [], ◌∷◌, ◌++◌, true, false, ℕ, ◌+◌, ◌-◌, ◌%◌, ◌≤◌, ◌<◌, length, take, drop, get_or, Option as Found, Some, None}
-use Rattle.std.proofs.Common.{sym, ap, ◌∙◌, arith, ne_eqb, le-leb, length-append, length-drop, take-append-drop, length-take-le, take-add, drop_at}
+use Rattle.std.proofs.Common.{sym, ap, ◌∙◌, arith, ne_eqb, le-leb, length-append, length-drop, take-append-drop, length-take-le, take-add, drop_at, drop-cons}
 use Rattle.std.proofs.Math.Option.{Option, none, some, map}
 use Rattle.std.proofs.lemmas.Bool.{lt-leb}
 use Rattle.std.proofs.lemmas.List.{take-append-le, drop-append-le}
@@ -26,7 +26,7 @@ use Rattle.syntax.proofs.FieldLaws.{read_byte}
 use Rattle.syntax.specs.Path.{is_name}
 use Rattle.syntax.specs.Parts.{part, span_text, Inside, text_in}
 use Rattle.lines.specs.SetupLines.{LineOfSetup, p_line, g_line, r_line, l_line, longest_line, person_uid, person_or_root, person_gid, plain_role, setup_form, setup_forms, setup_line_of, setup_line}
-use Rattle.lines.specs.Line.{kind_form, both_between, line_told}
+use Rattle.lines.specs.Line.{kind_form, line_form, both_between, line_told}
 
 -- a word of one byte, and of another number of bytes
 pub one_byte : (w : Text) (b : ℕ) → length w ≡ 1 → get_or w 0 0 ≡ b → w ≡ b ∷ []
@@ -37,6 +37,17 @@ one_byte (a ∷ (c ∷ w)) b h e = absurd (omega arith)
 pub other_lengths : (w : Text) (s : List Text) → (length w ≡ 1 → ⊥) → setup_line_of (w ∷ s) ≡ none
 unfolding setup_line_of by_form setup_forms setup_form bytes
 other_lengths w s h = rw (same_length w (112 ∷ []) h, same_length w (103 ∷ []) h, same_length w (114 ∷ []) h, same_length w (108 ∷ []) h)
+
+-- the same of a word in its line
+pub one_byte_of : (t : Text) (w : Span) → Inside w t → w.end - w.start ≡ 1 → span_text t w ≡ get_or t w.start 0 ∷ []
+unfolding span_text part
+one_byte_of t w i e = rw (e, drop-cons t w.start 0 (omega (arith, i.ends)))
+
+pub other_length : (t : Text) (w : Span) (s : List Text) → Inside w t → (w.end - w.start ≡ 1 → ⊥) → setup_line_of (span_text t w ∷ s) ≡ none
+unfolding span_text part
+other_length t w s i h =
+    let all : w.end - w.start ≤ length (drop w.start t) = omega (arith, i.ends, length-drop w.start t) in
+    other_lengths (span_text t w) s (λ e. h (sym (length-take-le (w.end - w.start) (drop w.start t) all) ∙ e))
 
 pub other_byte : (b : ℕ) (s : List Text) → (b ≡ 112 → ⊥) → (b ≡ 103 → ⊥) → (b ≡ 114 → ⊥) → (b ≡ 108 → ⊥) → setup_line_of ((b ∷ []) ∷ s) ≡ none
 unfolding setup_line_of by_form setup_forms setup_form same_text bytes
@@ -121,6 +132,16 @@ l_form a b c h = rw h (by (between 0 15 a) (between 0 7 b))
 pub l_nameless : (a b c : Text) → is_name c ≡ false → kind_form k.Grant (a ∷ (b ∷ (c ∷ []))) ≡ none
 unfolding kind_form three_of two_of one_of password check ◌>>=◌ ◌>>◌
 l_nameless a b c h = then_none (person_or_root a) _ (λ u. then_none (plain_role b) _ (λ v. rw h))
+
+-- a line of a kind has the kind's form, and one of no kind none: what is said of kinds is so of lines
+pub of_kind : (kind : LineKind) (s : List Text) → line_form (Some kind) s ≡ kind_form kind s
+unfolding line_form
+of_kind kind s = refl
+
+pub never_three : (kind : Found LineKind) (a b c : Text) → (kind ≡ Some k.Grant → ⊥) → line_form kind (a ∷ (b ∷ (c ∷ []))) ≡ none
+unfolding line_form
+never_three (Some kind) a b c h = not_three kind a b c (λ e. h (ap {B = Found LineKind} Some e))
+never_three None a b c h = refl
 
 -- what a form answers is what is told
 pub told_wrong : (t : Text) {answer : Option LineOfSetup} → answer ≡ none → line_told t None ≡ map some answer

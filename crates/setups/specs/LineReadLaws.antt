@@ -227,6 +227,11 @@ read_whole : (t : Text) → part t 0 (length t) ≡ t
 unfolding part
 read_whole t = take_all (length t - 0) t (omega arith)
 
+-- a word is compared at its span as by itself
+pub word_whole : (t word : Text) → same_text (span_text t (record { start = 0; end = length t })) word ≡ same_text t word
+unfolding span_text
+word_whole t word = ap (λ (x : Text). same_text x word) (read_whole t)
+
 module _ (t : Text) (n : ℕ) (r : Found SetupLine) (all : n ≡ length t) (told : line_told t r ≡ map some (setup_line (part t 0 n))) where
   whole_told : line_told t r ≡ map some (setup_line t)
   whole_told = told ∙ ap (λ (x : Text). map some (setup_line x)) (ap (part t 0) all ∙ read_whole t)

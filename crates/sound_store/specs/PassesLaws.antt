@@ -40,6 +40,34 @@ pub all_passed : {F : Type 0} {g : Mut F (ℕ × Unit {0}) Bool} (n : ℕ) (test
     → r ≡ passes_from test 0 n
 all_passed n test u f r ran each = all_from_yields_List test u f r ran (YieldsList-from_range 0 n n refl (omega arith)) each ∙ all_in_range test 0 n
 
+-- before the turn of index i what is left to test decides the whole
+pub record Passing (test : ℕ → Bool) (n i : ℕ) : Type 0 where
+  pub le : i ≤ n
+  pub goes : passes_from test i (n - i) ≡ passes_from test 0 n
+
+module _ (test : ℕ → Bool) (n : ℕ) where
+  -- at first all is left
+  pub passing : Passing test n 0
+  passing = let e : n - 0 ≡ n = omega arith in record { le = omega arith; goes = rw e }
+
+  module _ (i : ℕ) (p : Passing test n i) where
+    -- an index that passes leaves it to the others
+    pub passes_on : i < n → test i ≡ true → Passing test n (i + 1)
+    unfolding passes_from
+    passes_on h t =
+        let e : n - i ≡ suc (n - suc i) = omega arith in
+        record { le = omega arith; goes = rw add-one (rw (e, t) at p.goes) }
+
+    -- one that does not decides
+    pub passes_not : i < n → test i ≡ false → false ≡ passes_from test 0 n
+    unfolding passes_from
+    passes_not h t = let e : n - i ≡ suc (n - suc i) = omega arith in rw (e, t) at p.goes
+
+    -- and so does the end
+    pub passes_all : n ≤ i → true ≡ passes_from test 0 n
+    unfolding passes_from
+    passes_all h = let e : n - i ≡ 0 = omega arith in rw e at p.goes
+
 -- two tests of the same indices are one
 both_passed : (a b c d : Bool) → ((a && b) && (c && d)) ≡ ((a && c) && (b && d))
 both_passed true true c d = refl

@@ -8,7 +8,7 @@ use native.Mathlib.Omega.{arith}
 use Rattle.std.proofs.Math.Dec.{eqb}
 use Rattle.std.proofs.Math.ListN.{length, get_or, length-drop, get_or-eq_default}
 use Rattle.std.proofs.Math.Seq.{length-take-le}
-use borrow.Author.Tests.{ltb-true, ltb-false, eqb-true, eq-eqb, ne_eqb}
+use borrow.Author.Tests.{lt-ltb, le-ltb, ltb-true, ltb-false, eqb-true, eq-eqb, ne_eqb}
 use Rattle.buffers.specs.Cases.{case, and_both}
 use Rattle.buffers.specs.Text.{Text}
 use Rattle.buffers.specs.Fields.{number_at, text_at, all_zero, zeros_at, is_filled}
@@ -59,6 +59,38 @@ module _ (b : List ℕ) (i : ℕ) where
   zeros_behind k l n h j =
       let q : row_start i + (k + n) ≡ row_start i + k + n = omega arith in
       zeros_between (k + n) l h j ∙ ap (λ (m : ℕ). zeros_at m (row_start i + l - m) b) q
+
+  -- the numbers: kind
+  pub numbers_kind : is_kind_byte (get_or b (row_start i + kind_offset) 0) ≡ false → has_numbers (row_bytes_at b i) ≡ false
+  unfolding has_numbers
+  numbers_kind e = rw (ap is_kind_byte (byte_in_row b i 1 (omega arith)) ∙ e)
+
+  -- owner
+  pub numbers_owner : 23 < get_or b (row_start i + owner_offset) 0 → has_numbers (row_bytes_at b i) ≡ false
+  unfolding has_numbers
+  numbers_owner h = simp (le-ltb (get_or (row_bytes_at b i) 2 0) 24 (omega (arith, byte_in_row b i 2 (omega arith))), and-false)
+
+  -- group
+  pub numbers_group : 24 < get_or b (row_start i + group_offset) 0 → has_numbers (row_bytes_at b i) ≡ false
+  unfolding has_numbers
+  numbers_group h = simp (le-ltb (get_or (row_bytes_at b i) 3 0) 25 (omega (arith, byte_in_row b i 3 (omega arith))), and-false)
+
+  -- mode
+  pub numbers_mode : is_mode (row_at b i).here.mode ≡ false → has_numbers (row_bytes_at b i) ≡ false
+  unfolding has_numbers row_at read_row
+  numbers_mode e = simp (e, and-false)
+
+  -- and revision
+  pub numbers_revision : is_kind_byte (get_or b (row_start i + kind_offset) 0) ≡ true → get_or b (row_start i + owner_offset) 0 ≤ 23 → get_or b (row_start i + group_offset) 0 ≤ 24
+      → is_mode (row_at b i).here.mode ≡ true → has_numbers (row_bytes_at b i) ≡ leb (row_at b i).here.revision last_revision
+  unfolding has_numbers row_at read_row
+  numbers_revision k o g m =
+      rw (
+        ap is_kind_byte (byte_in_row b i 1 (omega arith)) ∙ k,
+        lt-ltb (get_or (row_bytes_at b i) 2 0) 24 (omega (arith, byte_in_row b i 2 (omega arith))),
+        lt-ltb (get_or (row_bytes_at b i) 3 0) 25 (omega (arith, byte_in_row b i 3 (omega arith))),
+        m,
+      )
 
   -- the numbers one after another
   pub numbers_in_row : ((((is_kind_byte (get_or b (row_start i + kind_offset) 0) && leb (get_or b (row_start i + owner_offset) 0) 23) && leb (get_or b (row_start i + group_offset) 0) 24)
@@ -174,3 +206,26 @@ module _ (b : List ℕ) (i : ℕ) where
         let x = row_bytes_at b i in
         let front = has_numbers x && is_filled name_offset name_width x in
         (and_both (has_numbers x) (is_filled name_offset name_width x) (and_both front (has_tag x && has_content x) (fields_are_row small ∙ e)).0).1
+
+-- ---- the fields together
+
+module _ (x : List ℕ) where
+  -- the numbers fail
+  pub test_numbers : has_numbers x ≡ false → row_test x ≡ false
+  unfolding row_test
+  test_numbers e = rw e
+
+  -- the name
+  pub test_name : is_filled name_offset name_width x ≡ false → row_test x ≡ false
+  unfolding row_test
+  test_name e = simp (e, and-false)
+
+  -- the tag
+  pub test_tag : has_tag x ≡ false → row_test x ≡ false
+  unfolding row_test
+  test_tag e = simp (e, and-false)
+
+  -- all but the content pass
+  pub test_content : has_numbers x ≡ true → is_filled name_offset name_width x ≡ true → has_tag x ≡ true → row_test x ≡ has_content x
+  unfolding row_test
+  test_content n f t = rw (n, f, t)

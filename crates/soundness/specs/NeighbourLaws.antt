@@ -44,17 +44,17 @@ module _ (f : ℕ → ℕ → Bool) where
 
   -- n of them in two stretches, that may share some: the first k, and the last j
   module _ (n i : ℕ) (x : List ℕ) where
-    first_fails : (k : ℕ) → k ≤ n → neighbours_pass f i k x ≡ false → neighbours_pass f i n x ≡ false
+    pub first_fails : (k : ℕ) → k ≤ n → neighbours_pass f i k x ≡ false → neighbours_pass f i n x ≡ false
     first_fails k h e =
         let q : n ≡ k + (n - k) = omega arith in
         ap (λ (m : ℕ). neighbours_pass f i m x) q ∙ pass_apart k (n - k) i x ∙ rw e
 
-    last_fails : (j : ℕ) → j ≤ n → neighbours_pass f (i + (n - j)) j x ≡ false → neighbours_pass f i n x ≡ false
+    pub last_fails : (j : ℕ) → j ≤ n → neighbours_pass f (i + (n - j)) j x ≡ false → neighbours_pass f i n x ≡ false
     last_fails j h e =
         let q : n ≡ n - j + j = omega arith in
         ap (λ (m : ℕ). neighbours_pass f i m x) q ∙ pass_apart (n - j) j i x ∙ simp (e, and-false)
 
-    both_pass : (k j : ℕ) → k ≤ n → j ≤ n → n ≤ k + j → neighbours_pass f i k x ≡ true → neighbours_pass f (i + (n - j)) j x ≡ true → neighbours_pass f i n x ≡ true
+    pub both_pass : (k j : ℕ) → k ≤ n → j ≤ n → n ≤ k + j → neighbours_pass f i k x ≡ true → neighbours_pass f (i + (n - j)) j x ≡ true → neighbours_pass f i n x ≡ true
     both_pass k j h l w e g =
         let q : n ≡ n - j + j = omega arith in
         let p : k ≡ n - j + (k - (n - j)) = omega arith in

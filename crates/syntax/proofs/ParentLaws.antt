@@ -1,6 +1,6 @@
 -- Laws of the names of a path text: read one after another to the end, and cut at the last `/` into those of the parent and the last.
 use Rattle.std.specs.Prelude.{◌≡◌, refl, List, [], ◌∷◌, ◌++◌, true, false, ◌&&◌, not, ℕ, zero, suc, ◌+◌, ◌-◌, ◌≤◌, ◌<◌, eqb, leb, ltb, length, take, drop, get_or, Some, None}
-use Rattle.std.proofs.Common.{sym, ap, ◌∙◌, append_assoc, arith, eq-eqb, ne_eqb, ltb-true, ltb-false, leb-true, leb-false, le-leb, length-append, get_or-append-add}
+use Rattle.std.proofs.Common.{sym, ap, ◌∙◌, append_assoc, arith, eq-eqb, ne_eqb, ltb-true, ltb-false, leb-true, leb-false, le-leb, length-append, length-drop, length-take-le, get_or-append-add}
 use Rattle.std.proofs.Math.Option.{some}
 use Rattle.std.proofs.lemmas.Bool.{not-true}
 use Rattle.std.proofs.Math.Seq.{take-append_seam, drop-append-add, get_or-append_seam}
@@ -13,7 +13,7 @@ use Rattle.syntax.proofs.FormLaws.{no_answer, both_read, checked, answered}
 use Rattle.syntax.specs.Path.{Name, Path, root, ◌▹◌, EntryPath, parent, last, depth, is_name, most_names, has_names, is_path, extended, names_from_top, path, entry_at, entry_path, names_text, path_text, entry_text}
 use Rattle.syntax.proofs.PathLaws.{name_lacks, path_of_text, path_is_path, entry_at_sound}
 use Rattle.syntax.specs.Parts.{part, next_name, behind_name, slash_before, last_slash, names_read, names_from, path_names}
-use Rattle.syntax.proofs.PartsLaws.{joined_pieces}
+use Rattle.syntax.proofs.PartsLaws.{joined_pieces, piece_end_le}
 use Rattle.syntax.proofs.PathPartsLaws.{names_read_past, names_read_next, names_read_path}
 
 -- ---- the names of a path text
@@ -59,19 +59,38 @@ names_from_end t at e = case (leb (length t) at)
     (λ l. names_read_past t at (length t - at) (leb-true (length t) at l))
     (λ l. contra {b = true} refl (cc (rw l at e)))
 
--- before it there is one, and then those behind it
-pub names_from_next : (t : Text) (at : ℕ) (name : Text) → next_name t at ≡ Some name → names_from t at ≡ name ∷ names_from t (behind_name t at)
-unfolding names_from next_name behind_name
+-- the next name: it lies inside the text, the place behind it is past its end, and the names from there follow it
+pub record Named (t : Text) (at : ℕ) (name : Text) : Type 0 where
+  pub before : at < length t
+  pub ends : at + length name ≤ length t
+  pub onward : at + length name < behind_name t at
+  pub stands : part t at (at + length name) ≡ name
+  pub follow : names_from t at ≡ name ∷ names_from t (behind_name t at)
+
+-- before the end there is one
+pub names_from_next : (t : Text) (at : ℕ) (name : Text) → next_name t at ≡ Some name → Named t at name
+unfolding names_from next_name behind_name part
 names_from_next t at name e = case (leb (length t) at)
     (λ l. contra {b = true} refl (cc (rw l at e)))
     (λ l.
     let n : ℕ = at + piece_length 47 (drop at t) in
-    let read : part t at n ≡ name = cc (rw l at e) in
+    let read : take (n - at) (drop at t) ≡ name = cc (rw l at e) in
     let less : at < length t = leb-false (length t) at l in
+    let ends : n ≤ length t = piece_end_le 47 t at (omega arith) in
+    let all : n - at ≤ length (drop at t) = omega (arith, length-drop at t) in
+    let long : length name ≡ n - at = ap length (sym read) ∙ length-take-le (n - at) (drop at t) all in
+    let end : at + length name ≡ n = omega arith in
     let q : length t - at ≡ suc (length t - at - 1) = omega arith in
-    rw (l, q) (names_read_next t at n (length t - at - 1) less refl
-    ∙ ap (λ (r : List Name). part t at n ∷ r) (names_enough t (n + 1) (length t - at - 1) (length t - (n + 1)) (omega arith) (omega arith))
-    ∙ ap (λ (m : Name). m ∷ names_from t (n + 1)) read))
+    let past : behind_name t at ≡ n + 1 = rw l refl in
+    record {
+      before = less;
+      ends = omega arith;
+      onward = rw past (omega arith);
+      stands = rw end read;
+      follow = rw (q, past) (names_read_next t at n (length t - at - 1) less refl
+          ∙ ap (λ (r : List Name). take (n - at) (drop at t) ∷ r) (names_enough t (n + 1) (length t - at - 1) (length t - (n + 1)) (omega arith) (omega arith))
+          ∙ ap (λ (m : Name). m ∷ names_from t (n + 1)) read);
+    })
 
 -- ---- the last `/`
 

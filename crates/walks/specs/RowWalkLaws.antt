@@ -17,8 +17,8 @@ use Rattle.tree.proofs.RowScanLaws.{child_in_bound}
 use Rattle.tree.specs.RowAt.{row_count, row_at, all_rows}
 use Rattle.walks.specs.declared.Spot.{Spot}
 use Rattle.tree.specs.declared.Cause.TheVariants.{Missing, NotDirectory, Access}
-use Rattle.tree.specs.Result.{outcome, refused, done, ◌>>=◌, ◌>>◌, require, present}
-use Rattle.tree.proofs.ResultLaws.{outcome_ok, present_some, bind_done, then_done}
+use Rattle.tree.specs.Result.{Result, outcome, refused, done, ◌>>=◌, ◌>>◌, require, present}
+use Rattle.tree.proofs.ResultLaws.{outcome_ok, outcome_err, not_done, present_some, bind_done, then_done}
 use Rattle.tree.specs.Node.{is_directory, Node, allows}
 use Rattle.tree.specs.Walk.{by_modes, enter}
 use Rattle.tree.specs.Rows.{Row}
@@ -139,3 +139,52 @@ pub walk_came : (a : Account) (b : List ℕ) (t : Text) → 0 < row_count b → 
 walk_came a b t h s w =
     let q = length_all_rows b in
     rw q at (walk_within a (all_rows b) t s (omega arith) (sym w ∙ outcome_ok s))
+
+-- ---- the same of `enter_in`
+
+module _ (a : Account) (b : List ℕ) (at : ℕ) (h : at < row_count b) (above : ℕ) where
+  -- a file is not entered
+  pub in_file : (row_at b at).here.kind ≡ File → enter_in a (all_rows b) (spot at above) ≡ refused NotDirectory
+  unfolding enter_in ◌>>◌
+  in_file k = rw (enter_file a b at h k)
+
+  -- nor a directory without x
+  pub in_shut : (row_at b at).here.kind ≡ Directory → allows a X (row_at b at).here ≡ false → enter_in a (all_rows b) (spot at above) ≡ refused Access
+  unfolding enter_in ◌>>◌
+  in_shut k f = rw (enter_shut a b at h k f)
+
+  -- one with x is
+  pub in_open : (row_at b at).here.kind ≡ Directory → allows a X (row_at b at).here ≡ true → enter_in a (all_rows b) (spot at above) ≡ done (spot at above)
+  unfolding enter_in ◌>>◌
+  in_open k f = rw (enter_open a b at h k f)
+
+module _ (a : Account) (rs : List (Row Node)) (s : Spot) where
+  -- what was entered is the place itself
+  entered_in : (d : Spot) → enter_in a rs s ≡ done d → enter_first a (drop s.row rs) ≡ done tt
+  unfolding enter_in
+  entered_in d e = (then_done (enter_first a (drop s.row rs)) (done s) e).0
+
+  module _ (n : Name) where
+    -- where a directory is not entered, no name is looked up
+    pub step_shut_in : (c : Cause) → outcome (Err c) ≡ enter_in a rs s → outcome (Err c) ≡ step_in a rs s n
+    unfolding enter_in step_in ◌>>◌
+    step_shut_in c e = outcome_err c ∙ go (enter_first a (drop s.row rs)) (sym (outcome_err c) ∙ e)
+      where
+        go : (r : Result (Unit {0})) → refused c ≡ (r >> done s)
+            → refused c ≡ (r >> (present (found_row (child_in rs s.row n)) Missing >>= λ i. done (spot i s.row)))
+        go (refused k) q = cc
+        go (done u) q = not_done q
+
+    module _ (row above : ℕ) (e : outcome (Ok (spot row above)) ≡ enter_in a rs s) where
+      -- in one that is, the child is found
+      pub step_found_in : (i : ℕ) → Ok i ≡ child_in rs s.row n → outcome (Ok (spot i s.row)) ≡ step_in a rs s n
+      step_found_in i f = outcome_ok (spot i s.row) ∙ sym (step_found a rs s n (entered_in (spot row above) (sym e ∙ outcome_ok (spot row above))) i (sym f))
+
+      -- or missing
+      pub step_missing_in : (i : ℕ) → Err i ≡ child_in rs s.row n → refused Missing ≡ step_in a rs s n
+      step_missing_in i f = sym (step_missing a rs s n (entered_in (spot row above) (sym e ∙ outcome_ok (spot row above))) i (sym f))
+
+-- a parent walk goes on into what the walk before the last `/` leads to
+pub parent_on_in : (a : Account) (rs : List (Row Node)) (t : Text) (slash : ℕ) (d : Spot) → slash ≡ last_slash t → walk_in a rs (take slash t) ≡ done d → parent_walk_in a rs t ≡ enter_in a rs d
+unfolding enter_in
+parent_on_in a rs t slash d e w = parent_on a rs t slash d e w

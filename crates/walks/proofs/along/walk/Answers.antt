@@ -26,7 +26,7 @@ module _ {tree : List ℕ} {account : Account} {path : List ℕ} {at : ℕ} {her
   module _ {name : Name} (read : next_name text at ≡ Some name) where
     -- along the name that was read and those behind it
     goes_along : walk_names_in account (all_rows tree) here (name ∷ names_from text (behind_name text at)) ≡ walk_in account (all_rows tree) path
-    goes_along = rw (← names_from_next text at name read) g.goes
+    goes_along = rw (← (names_from_next text at name read).follow) g.goes
 
     -- a step that is done
     goes_on : (s : Spot) → step_in account (all_rows tree) here name ≡ done s → Going tree account path s text (behind_name text at)
@@ -53,7 +53,7 @@ module _ {tree : List ℕ} {account : Account} {path : List ℕ} {at : ℕ} {her
 
   -- a name more leaves fewer
   fewer : {name : Name} → next_name text at ≡ Some name → length (names_from text (behind_name text at)) < length (names_from text at)
-  fewer read = omega (arith, ap length (names_from_next text at _ read))
+  fewer read = omega (arith, ap length (names_from_next text at _ read).follow)
 
 -- the text that a reader holds
 held : {b d : Bor (List ℕ)} → b ≡ d → b.now ≡ d.now
