@@ -5,7 +5,7 @@ use Rattle.std.proofs.Common.{sym, ◌∙◌, arith, length-take-le}
 use Rattle.buffers.specs.Text.{Text}
 use Rattle.syntax.specs.Pieces.{newline}
 use Rattle.tree.proofs.CausesLaws.{wrong_setup_is}
-use Rattle.shell.specs.declared.Refusal.TheVariants.{WrongLine}
+use Rattle.tree.specs.declared.Refusal.TheVariants.{WrongLine}
 use Rattle.shell.specs.Replies.{told}
 use Rattle.calls.specs.Program.{call_line}
 use Rattle.agenda.specs.declared.NextLine.{NextLine}

@@ -5,7 +5,7 @@ use Rattle.buffers.specs.Text.{Text, same_text}
 use Rattle.syntax.specs.Pieces.{bytes, newline}
 use Rattle.tree.specs.declared.Cause.TheVariants.{Missing}
 use Rattle.tree.specs.Causes.{number}
-use Rattle.shell.specs.declared.Refusal.TheVariants.{WrongLine}
+use Rattle.tree.specs.declared.Refusal.TheVariants.{WrongLine}
 use Rattle.shell.specs.Replies.{Told, told}
 use Rattle.calls.specs.Program.{text_told, refused_line, call_line}
 use Rattle.agenda.specs.declared.NextLine.{NextLine}

@@ -42,7 +42,7 @@ use Rattle.walks.specs.RowWalk.{walk_in}
 use Rattle.walks.specs.NamesWritten.{Answers}
 use Rattle.walks.specs.WalkBytes.{spot_of, Came}
 use Rattle.walks.specs.WalkBytesLaws.{came_to, came_not, walk_to, walk_not, came_spot}
-use Rattle.shell.specs.declared.Refusal.TheVariants.{For}
+use Rattle.tree.specs.declared.Refusal.TheVariants.{For}
 use Rattle.shell.specs.Replies.{Answer}
 use Rattle.shell.specs.Steps.{text_of, run_read, run_write, run_chmod, run_chgrp, run_chown}
 use Rattle.shell.specs.CommandBytes.{Follows, FollowsSilently}

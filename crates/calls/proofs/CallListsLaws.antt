@@ -11,7 +11,7 @@ use Rattle.tree.specs.Causes.{number, wrong_setup}
 use Rattle.tree.proofs.CausesLaws.{wrong_setup_is, unsound_number, number_not_0, only_unsound_is_18}
 use Rattle.tree.specs.Result.{Result, refused, done, ◌>>=◌, require, Outcome}
 use Rattle.tree.proofs.ResultLaws.{done_bind, refused_bind, then_bind}
-use Rattle.shell.specs.declared.Refusal.TheVariants.{For, WrongLine}
+use Rattle.tree.specs.declared.Refusal.TheVariants.{For, WrongLine}
 use Rattle.shell.specs.Replies.{ok, reply, after, Told, told, answer_of, written}
 use Rattle.store.specs.State.{Store, state_of, well_formed}
 use Rattle.store.specs.Initial.{initial_store}

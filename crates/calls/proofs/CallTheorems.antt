@@ -19,7 +19,7 @@ use Rattle.tree.specs.Forest.{Place}
 use Rattle.tree.specs.Node.{is_directory, Node}
 use Rattle.tree.specs.Walk.{by_modes, walk}
 use Rattle.tree.specs.Files.{files_below}
-use Rattle.shell.specs.declared.Refusal.TheVariants.{For}
+use Rattle.tree.specs.declared.Refusal.TheVariants.{For}
 use Rattle.shell.specs.Replies.{told}
 use Rattle.store.specs.State.{State, state_of, well_formed}
 use Rattle.store.specs.Initial.{initial_store}

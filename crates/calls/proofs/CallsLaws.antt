@@ -11,7 +11,7 @@ use Rattle.tree.specs.Result.{Result, refused, ◌>>◌, require, present, Outco
 use Rattle.tree.proofs.ResultLaws.{present_some, present_of, present_none, done_bind, refused_bind, done_then, refused_then, require_true, require_false, holds_bind, holds_then}
 use Rattle.tree.specs.Outcomes.{Ensures}
 use Rattle.tree.proofs.GivesLaws.{then_check, then_do}
-use Rattle.shell.specs.declared.Refusal.TheVariants.{For}
+use Rattle.tree.specs.declared.Refusal.TheVariants.{For}
 use Rattle.shell.specs.Replies.{reply, after, told, answer_of, written}
 use Rattle.store.specs.State.{State, well_formed}
 use Rattle.store.specs.StoreBytes.{encode, decode}

@@ -6,7 +6,7 @@ use Rattle.buffers.specs.Text.{Text}
 use Rattle.setup.specs.Setup.{Setup, SetupAnswer, accepted, wrong_line, setup}
 use Rattle.tree.specs.declared.Cause.TheVariants.{Missing, Unsound, ShortAnswer}
 use Rattle.tree.specs.Result.{Result, done, ◌>>=◌, ◌>>◌, require, present, Outcome}
-use Rattle.shell.specs.declared.Refusal.TheVariants.{For, WrongLine}
+use Rattle.tree.specs.declared.Refusal.TheVariants.{For, WrongLine}
 use Rattle.shell.specs.Replies.{Told, told, answer_of, written, reply, after}
 use Rattle.store.specs.State.{Store, State, state_of}
 use Rattle.store.specs.Initial.{initial_store}

@@ -4,7 +4,7 @@
 use Rattle.std.specs.Prelude.{List, [], ◌∷◌, ℕ, suc, Err}
 use Rattle.buffers.specs.Text.{Text}
 use Rattle.setup.specs.Setup.{Reading, SetupAnswer, accepted, wrong_line, read_lines}
-use Rattle.shell.specs.declared.Refusal.TheVariants.{WrongLine}
+use Rattle.tree.specs.declared.Refusal.TheVariants.{WrongLine}
 use Rattle.shell.specs.Replies.{told}
 use Rattle.store.specs.State.{state_of}
 use Rattle.store.specs.Initial.{initial_store}

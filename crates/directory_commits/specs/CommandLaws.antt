@@ -34,7 +34,7 @@ use Rattle.tree.proofs.SizeLaws.{tree_place}
 use Rattle.tree.proofs.UpdateLaws.{walked_at}
 use Rattle.tree.specs.Files.{files_below}
 use Rattle.tree.proofs.FilesLaws.{files_count}
-use Rattle.shell.specs.declared.Refusal.TheVariants.{For}
+use Rattle.tree.specs.declared.Refusal.TheVariants.{For}
 use Rattle.shell.specs.Replies.{Answer, reply, answer_of, written}
 use Rattle.shell.specs.CommandBytes.{bytes_after, Carries, CarriesSilently}
 use Rattle.shell.proofs.CommandBytesLaws.{passed_follows}

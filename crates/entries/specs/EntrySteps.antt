@@ -17,7 +17,7 @@ use Rattle.tree.specs.WellFormed.{last_revision}
 use Rattle.tree.specs.RowPlaces.{index_of}
 use Rattle.tree.specs.Encoding.{encode_tree}
 use Rattle.tree.specs.TreeBytes.{At}
-use Rattle.shell.specs.declared.Refusal.TheVariants.{For}
+use Rattle.tree.specs.declared.Refusal.TheVariants.{For}
 use Rattle.shell.specs.Replies.{Answer}
 use Rattle.shell.specs.CommandBytes.{bytes_after}
 use Rattle.machine.specs.Working.{tagged}

@@ -4,7 +4,7 @@ use Rattle.std.proofs.Common.{◌∙◌, ap}
 use Rattle.tree.specs.declared.Cause.{Cause}
 use Rattle.tree.specs.Causes.{number}
 use Rattle.tree.proofs.CausesLaws.{wrong_setup_is}
-use Rattle.shell.specs.declared.Refusal.TheVariants.{For, WrongLine}
+use Rattle.tree.specs.declared.Refusal.TheVariants.{For, WrongLine}
 use Rattle.shell.specs.Replies.{Told, told, Answer}
 use Rattle.exports.specs.Exported.{no_value, value_told, HandedOver}
 

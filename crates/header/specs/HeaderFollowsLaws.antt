@@ -9,7 +9,7 @@ use Rattle.setup.specs.Setup.{Setup}
 use Rattle.tree.specs.declared.Cause.TheVariants.{NoGrant}
 use Rattle.tree.specs.Result.{refused, done}
 use Rattle.tree.proofs.ResultLaws.{refused_bind, done_bind, require_true, require_false, refused_then, done_then}
-use Rattle.shell.specs.declared.Refusal.TheVariants.{For}
+use Rattle.tree.specs.declared.Refusal.TheVariants.{For}
 use Rattle.shell.proofs.CommandBytesLaws.{refusal_follows, silence_follows}
 use Rattle.store.specs.State.{Registry, set_session}
 use Rattle.store.specs.StoreBytes.{header_bytes}

@@ -17,7 +17,7 @@ use Rattle.tree.specs.declared.Cause.TheVariants.{Missing, Unsound, ShortAnswer}
 use Rattle.tree.specs.Result.{Result, refused, done, ◌>>=◌, Outcome}
 use Rattle.tree.proofs.ResultLaws.{present_of, present_none, done_bind, refused_bind, done_then, refused_then, require_true, require_false}
 use Rattle.tree.specs.TreeBytes.{Encodes}
-use Rattle.shell.specs.declared.Refusal.TheVariants.{For, WrongLine}
+use Rattle.tree.specs.declared.Refusal.TheVariants.{For, WrongLine}
 use Rattle.shell.specs.Replies.{reply, after, answer_of, written, Answer}
 use Rattle.shell.specs.CommandBytes.{bytes_after, Carries}
 use Rattle.store.specs.HeaderLayout.{header_width}

@@ -12,7 +12,7 @@ use Rattle.commands.specs.Command.{TypedCommand, line}
 use Rattle.tree.specs.declared.Cause.TheVariants.{NoForm, UnknownCaller, Unsound, ShortAnswer}
 use Rattle.tree.specs.Result.{refused, done, ◌>>=◌}
 use Rattle.tree.proofs.ResultLaws.{present_of, present_none, done_bind, refused_bind}
-use Rattle.shell.specs.declared.Refusal.TheVariants.{For}
+use Rattle.tree.specs.declared.Refusal.TheVariants.{For}
 use Rattle.shell.specs.Replies.{Answer}
 use Rattle.shell.specs.CommandBytes.{Carries}
 use Rattle.shell.proofs.CommandBytesLaws.{refusal_follows}

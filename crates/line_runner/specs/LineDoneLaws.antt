@@ -16,7 +16,7 @@ use Rattle.tree.specs.declared.Cause.{Cause}
 use Rattle.tree.specs.Result.{refused, done}
 use Rattle.tree.proofs.ResultLaws.{done_bind, refused_bind}
 use Rattle.shell.specs.Replies.{Answer}
-use Rattle.shell.specs.declared.Refusal.TheVariants.{For}
+use Rattle.tree.specs.declared.Refusal.TheVariants.{For}
 use Rattle.shell.specs.CommandBytes.{Carries}
 use Rattle.shell.proofs.CommandBytesLaws.{refusal_follows}
 use Rattle.shell.specs.WholePaths.{whole_command}

@@ -15,7 +15,7 @@ use Rattle.tree.specs.declared.Cause.{Cause}
 use Rattle.tree.specs.declared.Cause.TheVariants.{Missing}
 use Rattle.tree.specs.Causes.{number}
 use Rattle.tree.proofs.CausesLaws.{wrong_setup_is, missing_number, number_not_0}
-use Rattle.shell.specs.declared.Refusal.TheVariants.{For, WrongLine}
+use Rattle.tree.specs.declared.Refusal.TheVariants.{For, WrongLine}
 use Rattle.shell.specs.Replies.{told}
 use Rattle.listing.specs.RowListing.{WroteMost}
 use Rattle.calls.specs.Program.{text_told, done_line, refused_line, call_line}

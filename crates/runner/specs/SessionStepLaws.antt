@@ -15,7 +15,7 @@ use Rattle.tree.specs.declared.Cause.TheVariants.{NoSession}
 use Rattle.tree.specs.Result.{refused, done}
 use Rattle.tree.proofs.ResultLaws.{present_of, present_none, refused_bind}
 use Rattle.std.specs.Prelude.{Err}
-use Rattle.shell.specs.declared.Refusal.TheVariants.{For}
+use Rattle.tree.specs.declared.Refusal.TheVariants.{For}
 use Rattle.store.specs.State.{State}
 use Rattle.header.specs.HeaderBytes.{session_held}
 use Rattle.header.specs.SessionBytesLaws.{role_is}

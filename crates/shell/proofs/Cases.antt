@@ -27,7 +27,7 @@ use Rattle.tree.specs.Compute.{compute as compute_tree}
 use Rattle.shell.specs.WholePaths.{whole_command}
 use Rattle.shell.specs.Steps.{run_shell}
 use Rattle.std.specs.Prelude.{Err}
-use Rattle.shell.specs.declared.Refusal.TheVariants.{For, WrongLine}
+use Rattle.tree.specs.declared.Refusal.TheVariants.{For, WrongLine}
 use Rattle.shell.specs.Replies.{Reply, ok, refusal, reply, after, Told, told, answer_of}
 use Rattle.shell.specs.Compute.{compute as compute_shell}
 

@@ -6,8 +6,8 @@ use Rattle.buffers.specs.Text.{Text}
 use Rattle.tree.specs.declared.Cause.{Cause}
 use Rattle.tree.specs.Causes.{number, wrong_setup}
 use Rattle.tree.specs.Result.{Result, refused, done, Outcome}
-use Rattle.shell.specs.declared.Refusal.{Refusal}
-use Rattle.shell.specs.declared.Refusal.TheVariants.{For, WrongLine}
+use Rattle.tree.specs.declared.Refusal.{Refusal}
+use Rattle.tree.specs.declared.Refusal.TheVariants.{For, WrongLine}
 
 -- what a call replies: done, with the text if the command gives one, or refused for a cause
 pub data Reply : Type 0 where

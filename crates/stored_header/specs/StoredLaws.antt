@@ -27,7 +27,7 @@ use Rattle.walks.specs.declared.Spot.{Spot}
 use Rattle.attributes.specs.declared.Deed.TheVariants.{Enter}
 use Rattle.attributes.specs.Checks.{may_do, may_do_at}
 use Rattle.attributes.specs.ChecksLaws.{enter_checked, decided_refused, decided_there}
-use Rattle.shell.specs.declared.Refusal.TheVariants.{For}
+use Rattle.tree.specs.declared.Refusal.TheVariants.{For}
 use Rattle.shell.proofs.CommandBytesLaws.{passed_follows, silence_follows}
 use Rattle.shell.specs.Replies.{Answer, reply, answer_of, written}
 use Rattle.shell.specs.CommandBytes.{bytes_after, CarriesSilently}

@@ -52,6 +52,25 @@ pub enum Cause {
     ShortAnswer,
 }
 
+// Why a call was refused; nothing has changed then.
+#[derive(Clone, Copy, PartialEq, Eq, Debug)]
+pub enum Refusal {
+    For(Cause),
+    // The setup's first wrong line, from 1.
+    WrongLine(usize),
+}
+
+impl From<Cause> for Refusal {
+    ghost use Rattle.std.specs.Prelude.{◌≡◌};
+    ghost use Rattle.tree.specs.declared.Refusal.TheVariants.{For};
+
+    ghost from_gives = { λ why refusal. refusal ≡ For why };
+
+    fn from(why: Cause) -> Refusal {
+        Refusal::For(why)
+    }
+}
+
 // What a search for a child found, its row or the one before which a child of that name would stand, and its steps: of each child
 // tried the bytes alike from the front, and one more.
 #[derive(Clone, Copy)]

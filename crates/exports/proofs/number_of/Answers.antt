@@ -1,7 +1,7 @@
 -- `exports::number_of` meets its contract: a wrong line's number is document 01's; the others the check finds.
 use Rattle.std.specs.Prelude.{◌≡◌, Err}
 use Rattle.std.proofs.Common.{rules, sym}
-use Rattle.shell.specs.declared.Refusal.TheVariants.{WrongLine}
+use Rattle.tree.specs.declared.Refusal.TheVariants.{WrongLine}
 use Rattle.exports.specs.ExportedLaws.{wrong_number}
 use Rattle.exports.proofs.number_of.Goals as goal
 

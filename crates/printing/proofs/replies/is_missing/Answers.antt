@@ -2,7 +2,7 @@
 use Rattle.std.specs.Prelude.{◌≡◌, Ok, Err}
 use Rattle.std.proofs.Common.{◌∙◌, rules}
 use Rattle.tree.proofs.CausesLaws.{missing_compared}
-use Rattle.shell.specs.declared.Refusal.TheVariants.{For, WrongLine}
+use Rattle.tree.specs.declared.Refusal.TheVariants.{For, WrongLine}
 use Rattle.shell.specs.Replies.{told}
 use Rattle.printing.specs.PrintedLaws.{done_with_not_missing, wrong_line_not_missing}
 use Rattle.printing.proofs.replies.is_missing.Goals as goal

@@ -7,7 +7,7 @@ use Rattle.std.proofs.Common.{rules}
 use Rattle.std.specs.Prelude.{Ok, Err, Some, None}
 use Rattle.syntax.specs.Number.{decimal_text}
 use Rattle.syntax.specs.Pieces.{bytes}
-use Rattle.shell.specs.declared.Refusal.TheVariants.{For, WrongLine}
+use Rattle.tree.specs.declared.Refusal.TheVariants.{For, WrongLine}
 use Rattle.printing.specs.PrintedLaws.{wrote_most, wrote_within, done_is, text_is, refusal_is, wrong_line_is}
 use Rattle.printing.proofs.replies.write_answer.Goals as goal
 
