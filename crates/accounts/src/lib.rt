@@ -71,6 +71,7 @@ impl Groups {
     }
 
     // The set with one group more.
+    #[tactic(auto, using(crate::proofs::Bits::one_shifted), unfolding(crate::specs::Groups::with_group))]
     pub fn with(self, g: Gid) -> Self
         requires { g.0 < 32 }
         ensures { result ≡ with_group g self }
