@@ -5,6 +5,7 @@ use Rattle.std.proofs.Common.{sym, ap, ◌∙◌, arith, add-one, eqb-true, eq-e
 use Rattle.std.proofs.Math.Option.{Option, none, some}
 use Rattle.std.proofs.Math.Bool.{and-false}
 use Rattle.std.proofs.lemmas.Bool.{eqb-false, lt-leb}
+use Rattle.std.proofs.lemmas.List.{get_or-take}
 use Rattle.buffers.specs.Cases.{case, and_both, contra}
 use Rattle.buffers.specs.Text.{Text, same_text, every}
 use Rattle.buffers.specs.TextLaws.{same_text_refl, same_text_sound}
@@ -221,6 +222,29 @@ entry_is_path t h e =
     let first : take 5 t ≡ bytes "/rep/" = same_text_sound (take 5 t) (bytes "/rep/") e in
     let begins : t ≡ bytes "/rep/" ++ drop 5 t = sym (take-append-drop 5 t) ∙ ap (λ (p : Text). p ++ drop 5 t) first in
     rw begins (path_after_rep (drop 5 t) (omega (arith, length-drop 5 t)))
+
+-- the first five bytes of a text, one by one
+first_five : (t : Text) → 5 ≤ length t
+    → take 5 t ≡ get_or t 0 0 ∷ (get_or t 1 0 ∷ (get_or t 2 0 ∷ (get_or t 3 0 ∷ (get_or t 4 0 ∷ []))))
+first_five [] h = let z : ⊥ = omega arith in absurd z
+first_five (a ∷ []) h = let z : ⊥ = omega arith in absurd z
+first_five (a ∷ (b ∷ [])) h = let z : ⊥ = omega arith in absurd z
+first_five (a ∷ (b ∷ (c ∷ []))) h = let z : ⊥ = omega arith in absurd z
+first_five (a ∷ (b ∷ (c ∷ (d ∷ [])))) h = let z : ⊥ = omega arith in absurd z
+first_five (a ∷ (b ∷ (c ∷ (d ∷ (e ∷ t))))) h = refl
+
+-- where these are the bytes of `/rep/` and more stands behind them, a text is an entry path where it is a path
+pub entry_by_bytes : (t : Text) → 6 ≤ length t → get_or t 0 0 ≡ 47 → get_or t 1 0 ≡ 114 → get_or t 2 0 ≡ 101 → get_or t 3 0 ≡ 112
+    → get_or t 4 0 ≡ 47 → is_some (entry_path t) ≡ is_some (path t)
+unfolding bytes
+entry_by_bytes t l h i j k m =
+    entry_is_path t l (rw (first_five t (omega arith), h, i, j, k, m) (same_text_refl (bytes "/rep/")))
+
+-- and where one of them is another, it is none
+pub entry_other_byte : (t : Text) (k : ℕ) → k < 5 → (get_or t k 0 ≡ get_or (bytes "/rep/") k 0 → ⊥) → is_some (entry_path t) ≡ false
+entry_other_byte t k h f = case (is_some (entry_path t))
+    (λ e. let z : ⊥ = f (sym (get_or-take 5 t k 0 h) ∙ ap (λ (p : Text). get_or p k 0) (entry_has_text t e).begins) in absurd z)
+    (λ e. e)
 
 -- behind the end there are none
 pub names_read_past : (t : Text) (at n : ℕ) → length t ≤ at → names_read t at n ≡ []

@@ -7,7 +7,6 @@ ghost use Rattle.syntax.specs.Parts.{next_name, behind_name, last_slash};
 
 use crate::text::{is_name, piece_end};
 use crate::{MOST_NAMES, Names};
-use buffers::same;
 
 // Whether a text is 1 to 6 names parted by `/`.
 fn are_names(s: &[u8]) -> bool
@@ -53,7 +52,11 @@ pub fn is_typed_path(s: &[u8]) -> bool
 pub fn is_entry_path(s: &[u8]) -> bool
     ensures { result ≡ is_some (entry_path s.now) }
 {
-    6 <= s.len() && same(&s[..5], b"/rep/") && is_path(s)
+    // Byte by byte, since every call asks this of every tag: to compare slices is a call, which takes longer.
+    match s {
+        [b'/', b'r', b'e', b'p', b'/', _, ..] => are_names(&s[1..]),
+        _ => false,
+    }
 }
 
 // Where the last `/` of a text is, or 0 where there is none.

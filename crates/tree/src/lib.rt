@@ -52,7 +52,7 @@ pub enum Cause {
     ShortAnswer,
 }
 
-// Why a call was refused; nothing has changed then.
+// What a refused call answers: a cause, or where the setup went wrong. Nothing has changed then.
 #[derive(Clone, Copy, PartialEq, Eq, Debug)]
 pub enum Refusal {
     For(Cause),
